@@ -1,0 +1,6 @@
+-- What callers' proofs cite of words: masks and shifts, ones at the low end, words among bytes, tests below a bound.
+pub mod Tests
+pub mod Masks
+pub mod Ones
+pub mod Words
+pub mod Below

@@ -1,0 +1,157 @@
+-- The laws of words in a list of bytes: what was written is read back, and a write leaves every other byte and word as it was.
+use mathlib.Core.Path.{_≡_, refl, sym, ap, ap₂, _∙_}
+use mathlib.Core.Logic.{⊎-elim, _⊎_, inl, inr}
+use mathlib.Core.List.{List, [], _∷_, _++_, append-assoc, append-nil}
+use Prim.Native.Nat.{ℕ, zero, suc, _+_, _*_, _/_, _%_, _^_, _≤_, _<_}
+use native.Mathlib.Nat.{add-zero, add-suc, suc-add, not-suc-le-zero, le-of-suc-le-suc}
+use native.Mathlib.Omega.{arith}
+use lib.ListN.{length, getD, set, take, drop, length-set, length-append}
+use lib.Pow.{shr-shr, split}
+use lib.Seq.{sets, length-sets, sets-eq, getD-set-same, getD-set-other, set-out, take-at, take-length, length-take-le}
+use Rattle.words.proofs.Tests.{three}
+use Rattle.words.specs.Bits.{bits}
+use Rattle.words.specs.Words.{wordBytes, wordAt, withWord, bytesOf, wordsAt}
+
+-- every element is a byte
+abbrev pub Bytes : List ℕ → Type 0
+Bytes s = (i : ℕ) → getD s i 0 < 2 ^ 8
+
+-- a word of bytes fits 32 bits
+pub word-lt : (s : List ℕ) (at : ℕ) → Bytes s → wordAt s at < 2 ^ 32
+unfolding wordAt
+word-lt s at h = omega (arith, h at, h (at + 1), h (at + 2), h (at + 3))
+
+-- a run of stores leaves what is before it and behind it, and puts in what it stores
+pub sets-before : (vs l : List ℕ) (i k : ℕ) → k < i → getD (sets l i vs) k 0 ≡ getD l k 0
+sets-before [] l i k h = refl
+sets-before (a ∷ vs) l i k h = sets-before vs (set l i a) (suc i) k (omega arith) ∙ getD-set-other l i k a 0 (omega arith)
+
+pub sets-behind : (vs l : List ℕ) (i k : ℕ) → i + length vs ≤ k → getD (sets l i vs) k 0 ≡ getD l k 0
+sets-behind [] l i k h = refl
+sets-behind (a ∷ vs) l i k h = sets-behind vs (set l i a) (suc i) k (omega arith) ∙ getD-set-other l i k a 0 (omega arith)
+
+pub sets-in : (vs l : List ℕ) (i k : ℕ) → k < length vs → i + length vs ≤ length l → getD (sets l i vs) (i + k) 0 ≡ getD vs k 0
+sets-in [] l i k h b = absurd (not-suc-le-zero h)
+sets-in (a ∷ vs) l i zero h b =
+    rw add-zero (sets-before vs (set l i a) (suc i) i (omega arith) ∙ getD-set-same l i a 0 (omega arith))
+sets-in (a ∷ vs) l i (suc k) h b =
+    rw (add-suc, ← suc-add) (sets-in vs (set l i a) (suc i) k (le-of-suc-le-suc h) (rw length-set (omega arith)))
+
+pub length-wordBytes : (w : ℕ) → length (wordBytes w) ≡ 4
+unfolding wordBytes
+length-wordBytes w = refl
+
+-- the four bytes of a word make it again
+combine : (u a b c r₀ r₁ r₂ : ℕ) → a * 2 ^ 8 + r₀ ≡ u → b * 2 ^ 8 + r₁ ≡ a → c * 2 ^ 8 + r₂ ≡ b
+    → c * 2 ^ 24 + r₂ * 2 ^ 16 + r₁ * 2 ^ 8 + r₀ ≡ u
+combine u a b c r₀ r₁ r₂ e₀ e₁ e₂ = omega arith
+
+bytes-word : (w : ℕ) → w < 2 ^ 32 → w / 2 ^ 24 % 2 ^ 8 * 2 ^ 24 + w / 2 ^ 16 % 2 ^ 8 * 2 ^ 16 + w / 2 ^ 8 % 2 ^ 8 * 2 ^ 8 + w % 2 ^ 8 ≡ w
+bytes-word w h =
+    let top : w / 2 ^ 24 % 2 ^ 8 ≡ w / 2 ^ 24 = omega arith in
+    rw top
+    (combine w (w / 2 ^ 8) (w / 2 ^ 16) (w / 2 ^ 24) (w % 2 ^ 8) (w / 2 ^ 8 % 2 ^ 8) (w / 2 ^ 16 % 2 ^ 8) (split w 8)
+    (rw (← shr-shr w 8 8) (split (w / 2 ^ 8) 8)) (rw (← shr-shr w 16 8) (split (w / 2 ^ 16) 8)))
+
+module _ (s : List ℕ) (at w : ℕ) where
+  pub length-withWord : length (withWord s at w) ≡ length s
+  unfolding withWord
+  length-withWord = length-sets s at (wordBytes w)
+
+  pub byte-before : (j : ℕ) → j < at → getD (withWord s at w) j 0 ≡ getD s j 0
+  unfolding withWord
+  byte-before j h = sets-before (wordBytes w) s at j h
+
+  pub byte-behind : (j : ℕ) → at + 4 ≤ j → getD (withWord s at w) j 0 ≡ getD s j 0
+  unfolding withWord
+  byte-behind j h = sets-behind (wordBytes w) s at j (omega (arith, length-wordBytes w))
+
+  pub word-before : (b : ℕ) → b + 4 ≤ at → wordAt (withWord s at w) b ≡ wordAt s b
+  unfolding wordAt
+  word-before b h = rw (byte-before b (omega arith), byte-before (b + 1) (omega arith), byte-before (b + 2) (omega arith), byte-before (b + 3) (omega arith))
+
+  pub word-behind : (b : ℕ) → at + 4 ≤ b → wordAt (withWord s at w) b ≡ wordAt s b
+  unfolding wordAt
+  word-behind b h = rw (byte-behind b (omega arith), byte-behind (b + 1) (omega arith), byte-behind (b + 2) (omega arith), byte-behind (b + 3) (omega arith))
+
+  -- what was written is read back
+  pub word-same : at + 4 ≤ length s → w < 2 ^ 32 → wordAt (withWord s at w) at ≡ w
+  unfolding wordAt withWord wordBytes
+  word-same fits h =
+      let b₀ = rw add-zero at (sets-in (wordBytes w) s at 0 (omega arith) fits) in
+      let b₁ = sets-in (wordBytes w) s at 1 (omega arith) fits in
+      let b₂ = sets-in (wordBytes w) s at 2 (omega arith) fits in
+      let b₃ = sets-in (wordBytes w) s at 3 (omega arith) fits in
+      let lowest : w / 2 ^ 0 ≡ w = omega arith in
+      rw (b₀, b₁, b₂, b₃, lowest) (bytes-word w h)
+
+-- stores of bytes into bytes leave bytes
+sets-bytes : (vs l : List ℕ) (i : ℕ) → Bytes vs → Bytes l → Bytes (sets l i vs)
+sets-bytes [] l i hv hl = hl
+sets-bytes (a ∷ vs) l i hv hl = sets-bytes vs (set l i a) (suc i) (λ k. hv (suc k)) (λ k. at k (three k i))
+  where
+    at : (k : ℕ) → (k < i) ⊎ ((k ≡ i) ⊎ (i < k)) → getD (set l i a) k 0 < 2 ^ 8
+    at k (inl h) = rw (getD-set-other l i k a 0 (omega arith)) (hl k)
+    at k (inr (inl e)) = inside (three i (length l))
+      where
+        inside : (i < length l) ⊎ ((i ≡ length l) ⊎ (length l < i)) → getD (set l i a) k 0 < 2 ^ 8
+        inside (inl h) = rw (e, getD-set-same l i a 0 h) (hv 0)
+        inside (inr h) = rw (set-out l i a (⊎-elim (λ q. omega arith) (λ q. omega arith) h)) (hl k)
+    at k (inr (inr h)) = rw (getD-set-other l i k a 0 (omega arith)) (hl k)
+
+pub withWord-bytes : (s : List ℕ) (at w : ℕ) → Bytes s → Bytes (withWord s at w)
+unfolding withWord wordBytes
+withWord-bytes s at w h = sets-bytes (wordBytes w) s at byte h
+  where
+    byte : Bytes (bits 0 7 w ∷ bits 8 15 w ∷ bits 16 23 w ∷ bits 24 31 w ∷ [])
+    byte zero = omega arith
+    byte (suc zero) = omega arith
+    byte (suc (suc zero)) = omega arith
+    byte (suc (suc (suc zero))) = omega arith
+    byte (suc (suc (suc (suc k)))) = omega arith
+
+-- ---- a list of words
+
+-- words written one after the other, from byte `at` on
+unfoldable pub written : List ℕ → ℕ → List ℕ → List ℕ
+written s at [] = s
+written s at (w ∷ ws) = written (withWord s at w) (at + 4) ws
+
+pub length-bytesOf : (ws : List ℕ) → length (bytesOf ws) ≡ 4 * length ws
+unfolding bytesOf
+length-bytesOf [] = refl
+length-bytesOf (w ∷ ws) = length-append (wordBytes w) (bytesOf ws) ∙ omega (arith, length-bytesOf ws, length-wordBytes w)
+
+stored : (w : ℕ) (s : List ℕ) (at : ℕ) → at + length (wordBytes w) ≤ length s
+    → withWord s at w ≡ take at s ++ wordBytes w ++ drop (at + length (wordBytes w)) s
+unfolding withWord
+stored w s at fits = sets-eq (wordBytes w) s at fits
+
+-- where they end with the list, what is left of it is what was before them
+written-at : (ws s : List ℕ) (at : ℕ) → length s ≡ at + 4 * length ws → written s at ws ≡ take at s ++ bytesOf ws
+unfolding written bytesOf
+written-at [] s at h = let all : at ≡ length s = omega arith in sym (append-nil (take at s) ∙ rw all (take-length s))
+written-at (w ∷ ws) s at h =
+    let fits : at + length (wordBytes w) ≤ length s = omega (arith, length-wordBytes w) in
+    let head : length (take at s ++ wordBytes w) ≡ at + 4 =
+    length-append (take at s) (wordBytes w) ∙ ap₂ _+_ (length-take-le at s (omega arith)) (length-wordBytes w) in
+    written-at ws (withWord s at w) (at + 4) (length-withWord s at w ∙ omega arith)
+    ∙ ap (λ (l : List ℕ). take (at + 4) l ++ bytesOf ws) (stored w s at fits)
+    ∙ ap (λ (l : List ℕ). l ++ bytesOf ws) (take-at (take at s ++ wordBytes w) (drop (at + length (wordBytes w)) s) (at + 4) head)
+    ∙ append-assoc (take at s) (wordBytes w) (bytesOf ws)
+
+-- words that fill a list of bytes leave their own bytes, whatever stood there
+pub written-all : (ws s : List ℕ) → length s ≡ 4 * length ws → written s 0 ws ≡ bytesOf ws
+written-all ws s h = written-at ws s 0 (omega arith)
+
+pub length-wordsAt : (s : List ℕ) (at n : ℕ) → length (wordsAt s at n) ≡ n
+unfolding wordsAt
+length-wordsAt s at zero = refl
+length-wordsAt s at (suc n) = ap suc (length-wordsAt s (at + 4) n)
+
+pub getD-wordsAt : (s : List ℕ) (at n k : ℕ) → k < n → getD (wordsAt s at n) k 0 ≡ wordAt s (at + 4 * k)
+unfolding wordsAt
+getD-wordsAt s at zero k h = absurd (not-suc-le-zero h)
+getD-wordsAt s at (suc n) zero h = ap (wordAt s) (sym (add-zero at))
+getD-wordsAt s at (suc n) (suc k) h =
+    getD-wordsAt s (at + 4) n k (le-of-suc-le-suc h) ∙ ap (wordAt s) (omega arith)

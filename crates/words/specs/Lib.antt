@@ -1,0 +1,5 @@
+-- Words of 32 bits: their bits, fields that are ones only at their low end, words among bytes; and tests of the numbers below a bound.
+pub mod Bits
+pub mod Ones
+pub mod Words
+pub mod Below

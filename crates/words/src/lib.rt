@@ -1,0 +1,45 @@
+// Words of 32 bits: reading and writing them in bytes, and the test for ones at the low end of a field.
+ghost use mathlib.Core.Path.{_≡_};
+ghost use Prim.Native.Nat.{_+_, _≤_};
+ghost use lib.ListN.{length};
+ghost use Rattle.words.specs.Ones.{lowOnes};
+ghost use Rattle.words.specs.Words.{wordOf, wordAt, withWord};
+
+// Whether a field is ones only at its low end, 0 included: the field without its lowest bit is asked again.
+pub fn low_ones(field: u32) -> bool
+    ensures { λ r. ⌜ r ≡ lowOnes field ⌝ }
+{
+    if field == 0 {
+        return true;
+    }
+    if field & 1 == 0 {
+        return false;
+    }
+    low_ones(field >> 1)
+}
+
+// The word of four bytes, the most significant first.
+pub fn word_of(a: u8, b: u8, c: u8, d: u8) -> u32
+    ensures { λ r. ⌜ r ≡ wordOf a b c d ⌝ }
+{
+    ((a as u32) << 24) | ((b as u32) << 16) | ((c as u32) << 8) | (d as u32)
+}
+
+// The big-endian word of the four bytes from `at` on.
+pub fn read_word(s: &[u8], at: usize) -> u32
+    requires { ⌜ at + 4 ≤ length (now s) ⌝ }
+    ensures { λ r. ⌜ r ≡ wordAt (now (s .entry)) at ⌝ }
+{
+    word_of(s[at], s[at + 1], s[at + 2], s[at + 3])
+}
+
+// Writes a word, big-endian, to the four bytes from `at` on.
+pub fn write_word(s: &mut [u8], at: usize, w: u32)
+    requires { ⌜ at + 4 ≤ length (now s) ⌝ }
+    ensures { λ _. ⌜ now (s .exit) ≡ withWord (now (s .entry)) at w ⌝ }
+{
+    s[at] = ((w >> 24) % 256) as u8;
+    s[at + 1] = ((w >> 16) % 256) as u8;
+    s[at + 2] = ((w >> 8) % 256) as u8;
+    s[at + 3] = (w % 256) as u8;
+}

@@ -15,17 +15,21 @@ or-sum k x y e h =
     let whole : x ≡ x / 2 ^ k * 2 ^ k = sym (split x k) ∙ ap (λ (r : ℕ). x / 2 ^ k * 2 ^ k + r) e ∙ add-zero (x / 2 ^ k * 2 ^ k) in
     ap (λ (z : ℕ). bitOr z y) whole ∙ or-shifted (x / 2 ^ k) k y h ∙ ap (λ (z : ℕ). z + y) (sym whole)
 
--- `a & (2 ^ 32 - 2 ^ k)` clears the k low bits
-pub and-top : (a k : ℕ) → k ≤ 32 → a < 2 ^ 32 → bitAnd a (2 ^ 32 - 2 ^ k) ≡ a / 2 ^ k * 2 ^ k
-and-top a k h fits =
-    let width : (32 - k) + k ≡ 32 = omega arith in
-    (rw width at (and-high a (32 - k) k)) ∙ ap (λ (q : ℕ). q * 2 ^ k) (shr-mod (32 - k) k (rw width fits))
+-- in w bits, `a & (2 ^ w - 2 ^ k)` clears the k low bits
+and-top-in : (w a k : ℕ) → k ≤ w → a < 2 ^ w → bitAnd a (2 ^ w - 2 ^ k) ≡ a / 2 ^ k * 2 ^ k
+and-top-in w a k h fits =
+    let width : (w - k) + k ≡ w = omega arith in
+    (rw width at (and-high a (w - k) k)) ∙ ap (λ (q : ℕ). q * 2 ^ k) (shr-mod (w - k) k (rw width fits))
 
--- `a & !(2 ^ k - 1)` does so too
-pub and-not : (a k : ℕ) → k ≤ 32 → a < 2 ^ 32 → bitAnd a (2 ^ 32 - 1 - (2 ^ k - 1)) ≡ a / 2 ^ k * 2 ^ k
-and-not a k h fits =
-    let same : 2 ^ 32 - 1 - (2 ^ k - 1) ≡ 2 ^ 32 - 2 ^ k = omega (arith, pow-pos k) in
-    rw same (and-top a k h fits)
+-- and so does `a & !(2 ^ k - 1)`
+pub and-not-in : (w a k : ℕ) → k ≤ w → a < 2 ^ w → bitAnd a (2 ^ w - 1 - (2 ^ k - 1)) ≡ a / 2 ^ k * 2 ^ k
+and-not-in w a k h fits =
+    let same : 2 ^ w - 1 - (2 ^ k - 1) ≡ 2 ^ w - 2 ^ k = omega (arith, pow-pos k) in
+    rw same (and-top-in w a k h fits)
+
+-- the same in 32 bits
+pub and-top : (a k : ℕ) → k ≤ 32 → a < 2 ^ 32 → bitAnd a (2 ^ 32 - 2 ^ k) ≡ a / 2 ^ k * 2 ^ k
+and-top = and-top-in 32
 
 -- `a | 1` sets the lowest bit
 or-one : (a : ℕ) → bitOr a 1 ≡ a / 2 * 2 + 1

@@ -3,3 +3,4 @@ pub mod Bits
 pub mod Ones
 pub mod Words
 pub mod Below
+pub mod Rows

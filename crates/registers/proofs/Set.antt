@@ -1,0 +1,51 @@
+-- Laws of the register set: where a side's pairs stand, and what a set that passed the check has.
+use mathlib.Core.Path.{_≡_, refl, sym, ap, _∙_}
+use mathlib.Core.Bool.{Bool, true, false, cond, not, _&&_}
+use mathlib.Core.List.{List}
+use Prim.Native.Nat.{ℕ, _≤_}
+use native.Mathlib.Omega.{arith}
+use lib.Dec.{lit≤}
+use borrow.Author.Tests.{not-false}
+use Rattle.words.proofs.Tests.{both}
+use Rattle.registers.specs.Sdr1.{sdr1Shape}
+use Rattle.registers.specs.Set.{sdr1Of, segmentsShape, sideStart, sideShape, sideApart, checkWords}
+
+-- a side's pairs end with the set
+pub start-at-most : (side : Bool) → sideStart 4 side ≤ 25
+start-at-most true = lit≤ tt
+start-at-most false = lit≤ tt
+
+-- where the first broken rule is none, a rule is kept, and so are those behind it
+pub rule-kept : (broken : Bool) (number rest : ℕ) → (number ≡ 0 → ⊥) → cond broken number rest ≡ 0 → (broken ≡ false) × (rest ≡ 0)
+rule-kept true number rest n e = absurd (n e)
+rule-kept false number rest n e = (refl, e)
+
+-- what a set that passed the check has
+pub record Checked (pairs width : ℕ) (words : List ℕ) : Type 0 where
+  pub sdr1 : sdr1Shape (sdr1Of words) ≡ true
+  pub shape : (side : Bool) → sideShape pairs width words side ≡ true
+  pub apart : (side : Bool) → sideApart pairs width words side ≡ true
+  pub segments : segmentsShape words ≡ true
+
+-- a test that holds for both sides
+by-side : (test : Bool → Bool) → (test false && test true) ≡ true → (side : Bool) → test side ≡ true
+by-side test e true = both (test false) (test true) e .1
+by-side test e false = both (test false) (test true) e .0
+
+pub checked : (pairs width : ℕ) (words : List ℕ) → checkWords pairs width words ≡ 0 → Checked pairs width words
+unfolding checkWords
+checked pairs width words passed =
+    let sdr1 = sdr1Shape (sdr1Of words) in
+    let shape = sideShape pairs width words false && sideShape pairs width words true in
+    let apart = sideApart pairs width words false && sideApart pairs width words true in
+    let segments = segmentsShape words in
+    let (kept₂, rest₂) = rule-kept (not sdr1) 2 (cond (not shape) 3 (cond (not apart) 4 (cond (not segments) 5 0))) (λ e. omega arith) passed in
+    let (kept₃, rest₃) = rule-kept (not shape) 3 (cond (not apart) 4 (cond (not segments) 5 0)) (λ e. omega arith) rest₂ in
+    let (kept₄, rest₄) = rule-kept (not apart) 4 (cond (not segments) 5 0) (λ e. omega arith) rest₃ in
+    let (kept₅, rest₅) = rule-kept (not segments) 5 0 (λ e. omega arith) rest₄ in
+    record {
+      sdr1 = not-false sdr1 kept₂;
+      shape = by-side (sideShape pairs width words) (not-false shape kept₃);
+      apart = by-side (sideApart pairs width words) (not-false apart kept₄);
+      segments = not-false segments kept₅;
+    }

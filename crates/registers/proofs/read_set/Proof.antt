@@ -1,0 +1,84 @@
+-- `registers::read_set` meets its contract. The invariant: each word below `i` is the page's.
+use borrow.Author.Needs.{needs}
+use borrow.Author.Count.{below-none, below-more}
+use mathlib.Core.Path.{_≡_, refl, sym, ap, _∙_}
+use Prim.Native.Nat.{ℕ, _≤_, _<_, _-_, _*_}
+use native.Mathlib.Omega.{arith}
+use lib.ListN.{length, getD, set, length-set}
+use lib.Seq.{getD-set-same, getD-set-other, ext-getD}
+use Rattle.words.specs.Words.{wordAt, wordsAt}
+use Rattle.words.proofs.Words.{length-wordsAt, getD-wordsAt}
+use Rattle.registers.specs.Set.{pageSet}
+use Rattle.registers.proofs.read_set.Statement.{statement}
+use Rattle.registers.proofs.read_set.Tie as tie
+
+abbrev Inv-loop : tie.InvT-loop
+Inv-loop page words₀ i₀ words i =
+    (i ≤ 33) × (length words ≡ 33) × ((k : ℕ) → k < i → getD words k 0 ≡ wordAt page (4 * k))
+
+abbrev μ-loop : tie.MeasureT-loop
+μ-loop page words₀ i₀ words i = 33 - i
+
+loop-holds : tie.Need-loop-holds Inv-loop μ-loop
+loop-holds c = (search needs, refl, below-none _)
+
+mul-read-word : tie.Need-mul-read-word Inv-loop μ-loop
+mul-read-word c = search needs
+
+read-word-requires : tie.Need-read-word-requires Inv-loop μ-loop
+read-word-requires c κs = search needs
+
+mul-words : tie.Need-mul-words Inv-loop μ-loop
+mul-words c = search needs
+
+array-write-words : tie.Need-array-write-words Inv-loop μ-loop
+array-write-words c = search needs
+
+add-i : tie.Need-add-i Inv-loop μ-loop
+add-i c = search needs
+
+loop-less : tie.Need-loop-less Inv-loop μ-loop
+loop-less c = search needs
+
+loop-again : tie.Need-loop-again Inv-loop μ-loop
+loop-again c =
+    let page = c .before .before .before .before .args .page .now in
+    let l = c .before .before .loop .words in
+    let i = c .before .before .loop .i in
+    let r = c .read-word .result in
+    let inv = c .before .before .loop .inv in
+    let below : i < length l = omega arith in (
+      search needs,
+      length-set l i r ∙ inv .1,
+      below-more (λ (k : ℕ). getD (set l i r) k 0 ≡ wordAt page (4 * k)) i
+          (λ k h. getD-set-other l i k r 0 (omega arith) ∙ inv .2 k h)
+          (getD-set-same l i r 0 below ∙ c .read-word .ensures),
+    )
+
+returns : tie.Need-returns Inv-loop μ-loop
+unfolding pageSet
+returns c =
+    let inv = c .before .loop .inv in
+    let i-is : c .before .loop .i ≡ 33 = omega arith in
+    let page = c .before .before .before .args .page .now in
+    let words = c .before .loop .words in
+    let same : words ≡ wordsAt page 0 33 =
+    ext-getD 0 words (wordsAt page 0 33) (inv .1 ∙ sym (length-wordsAt page 0 33))
+    (λ k h. inv .2 k (omega arith) ∙ ap (wordAt page) (omega arith) ∙ sym (getD-wordsAt page 0 33 k (omega arith))) in
+    λ j. record { words = same j }
+
+pub read-set-spec : {M : Type 1} → statement M
+read-set-spec =
+    tie.close
+    (tie.spec
+    Inv-loop
+    μ-loop
+    loop-holds
+    mul-read-word
+    read-word-requires
+    mul-words
+    array-write-words
+    add-i
+    loop-less
+    loop-again
+    returns)

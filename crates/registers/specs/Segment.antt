@@ -1,0 +1,25 @@
+-- A segment register (document 01, "Register words").
+use Prim.Native.Nat.{ℕ}
+use mathlib.Core.Bool.{Bool, _&&_}
+use lib.Dec.{eqb}
+use Rattle.words.specs.Bits.{bits}
+
+-- T, bit 0, is zero, and so are bits 4 to 7
+unfoldable pub segmentShape : ℕ → Bool
+segmentShape word = eqb (bits 0 0 word) 0 && eqb (bits 4 7 word) 0
+
+-- Ks, the key of the supervisor, is one
+unfoldable pub supervisorKey : ℕ → Bool
+supervisorKey word = eqb (bits 1 1 word) 1
+
+-- Kp, the key of the user, is one
+unfoldable pub userKey : ℕ → Bool
+userKey word = eqb (bits 2 2 word) 1
+
+-- N, no execute, is one
+unfoldable pub noExecute : ℕ → Bool
+noExecute word = eqb (bits 3 3 word) 1
+
+-- the VSID, bits 8 to 31
+unfoldable pub segmentVsid : ℕ → ℕ
+segmentVsid word = bits 8 31 word

@@ -1,0 +1,98 @@
+-- The register set as its words: SDR1, sixteen segment registers, the instruction pairs, the data pairs (upper word, then lower).
+-- Over the number of pairs a side, 4 in the base, and the width of BL, 11 in the base.
+use Prim.Native.Nat.{ℕ, _+_, _*_}
+use mathlib.Core.Bool.{Bool, true, false, cond, not, _&&_}
+use mathlib.Core.List.{List, [], _∷_}
+use lib.Dec.{eqb, ltb}
+use lib.ListN.{getD, set}
+use Rattle.words.specs.Below.{everyBelow, firstBelow}
+use Rattle.words.specs.Words.{wordsAt}
+use Rattle.registers.specs.Rules.{firstBroken}
+use Rattle.registers.specs.Sdr1.{sdr1Shape}
+use Rattle.registers.specs.Segment.{segmentShape}
+use Rattle.registers.specs.Block.{blockShape, clash, covers}
+use Rattle.registers.specs.declared.Registers.{Registers}
+use Rattle.registers.specs.declared.Replaced.{Replaced}
+
+abbrev pub sdr1Of : List ℕ → ℕ
+sdr1Of words = getD words 0 0
+
+abbrev pub segmentOf : List ℕ → ℕ → ℕ
+segmentOf words i = getD words (1 + i) 0
+
+abbrev pub segmentShapeAt : List ℕ → ℕ → Bool
+segmentShapeAt words i = segmentShape (segmentOf words i)
+
+-- all sixteen segment registers have their shape
+unfoldable pub segmentsShape : List ℕ → Bool
+segmentsShape words = everyBelow 16 (segmentShapeAt words)
+
+module _ (pairs : ℕ) where
+  -- the number of the first word of a side's pairs
+  abbrev pub sideStart : Bool → ℕ
+  sideStart side = cond side (17 + 2 * pairs) 17
+
+  abbrev pub upperOf : List ℕ → Bool → ℕ → ℕ
+  upperOf words side i = getD words (sideStart side + 2 * i) 0
+
+  abbrev pub lowerOf : List ℕ → Bool → ℕ → ℕ
+  lowerOf words side i = getD words (sideStart side + 2 * i + 1) 0
+
+  module _ (width : ℕ) where
+    -- pair i of a side has the shape of that side's blocks
+    unfoldable pub pairShape : List ℕ → Bool → ℕ → Bool
+    pairShape words side i = blockShape width side (upperOf words side i) (lowerOf words side i)
+
+    unfoldable pub sideShape : List ℕ → Bool → Bool
+    sideShape words side = everyBelow pairs (pairShape words side)
+
+    -- pairs j and i of a side do not share both an address and a V bit
+    abbrev pub apartFrom : List ℕ → Bool → ℕ → ℕ → Bool
+    apartFrom words side j i = not (clash width (upperOf words side i) (upperOf words side j))
+
+    -- pair j of a side is apart from each pair before it
+    unfoldable pub pairApart : List ℕ → Bool → ℕ → Bool
+    pairApart words side j = everyBelow j (apartFrom words side j)
+
+    unfoldable pub sideApart : List ℕ → Bool → Bool
+    sideApart words side = everyBelow pairs (pairApart words side)
+
+    -- the rules of a register set in their order, 2, 3, 4, 5
+    abbrev pub registerRules : List ℕ → List (Bool × ℕ)
+    registerRules words =
+        (not (sdr1Shape (sdr1Of words)), 2)
+        ∷ (not (sideShape words false && sideShape words true), 3)
+        ∷ (not (sideApart words false && sideApart words true), 4)
+        ∷ (not (segmentsShape words), 5)
+        ∷ []
+
+    -- 0, or the number of the first rule that the set breaks
+    unfoldable pub checkWords : List ℕ → ℕ
+    checkWords words = firstBroken (registerRules words)
+
+    -- pair i of a side covers the address for the user or the supervisor
+    unfoldable pub pairCovers : List ℕ → Bool → Bool → ℕ → ℕ → Bool
+    pairCovers words side user address i = covers width user (upperOf words side i) address
+
+    -- the first pair of a side that covers the address, or the number of pairs where none does
+    unfoldable pub coveringPair : List ℕ → Bool → Bool → ℕ → ℕ
+    coveringPair words side user address = firstBelow pairs (pairCovers words side user address)
+
+-- the check of the base: four pairs a side, BL of 11 bits
+unfoldable pub checkSet : Registers → ℕ
+checkSet registers = checkWords 4 11 (registers .words)
+
+-- the set with the word of that number changed
+abbrev pub withRegister : Registers → ℕ → ℕ → Registers
+withRegister registers number word = record { words = set (registers .words) number word }
+
+-- replacing one register word: the new set, or the refusal and the old set
+unfoldable pub replaced : Registers → ℕ → ℕ → Replaced
+replaced registers number word =
+    let new = withRegister registers number word in
+    let refusal = cond (ltb number 33) (checkSet new) 6 in
+    cond (eqb refusal 0) (record { result = 0; set = new }) (record { result = refusal; set = registers })
+
+-- the register set of a page of 132 bytes
+unfoldable pub pageSet : List ℕ → Registers
+pageSet page = record { words = wordsAt page 0 33 }

@@ -1,0 +1,260 @@
+// The register set: SDR1, sixteen segment registers and four block pairs a side, its check and the block that covers an address.
+ghost use mathlib.Core.Path.{_≡_};
+ghost use mathlib.Core.Bool.{true};
+ghost use Prim.Native.Nat.{_-_, _<_, _^_};
+ghost use lib.ListN.{length};
+ghost use Rattle.registers.specs.Sdr1.{sdr1Shape, tableLength, hashBits};
+ghost use Rattle.registers.specs.Segment.{segmentShape};
+ghost use Rattle.registers.specs.Set.{segmentOf, segmentsShape, sideStart, upperOf, lowerOf, sideShape, pairApart, sideApart, checkSet, replaced, pageSet, coveringPair};
+ghost use Rattle.registers.specs.Block.{blockShape, clash, covers, inBlock, blockPhysical};
+
+// The words of the register page in order: SDR1, segments 0 to 15, four instruction pairs, four data pairs.
+pub struct Registers {
+    pub words: [u32; 33],
+}
+
+// What replacing a word answers: 0 and the new set, or the refusal and the old set.
+pub struct Replaced {
+    pub result: u32,
+    pub set: Registers,
+}
+
+// Whether SDR1 has its shape.
+pub fn sdr1_shape(sdr1: u32) -> bool
+    ensures { λ r. ⌜ r ≡ sdr1Shape sdr1 ⌝ }
+{
+    let mask = sdr1 & 0x1FF;
+    words::low_ones(mask) & ((sdr1 >> 9) & 0x7F == 0) & ((sdr1 >> 16) & mask == 0)
+}
+
+// The length in bytes of the table of an SDR1.
+pub fn table_length(sdr1: u32) -> usize
+    ensures { λ r. ⌜ r ≡ tableLength sdr1 ⌝ }
+{
+    65536 * ((sdr1 % 512) as usize + 1)
+}
+
+// The ones that a hash is masked with: the mask of SDR1 and ten ones below it.
+pub fn hash_mask(sdr1: u32) -> u32
+    requires { ⌜ sdr1Shape sdr1 ≡ true ⌝ }
+    ensures { λ r. ⌜ r ≡ 2 ^ hashBits sdr1 - 1 ⌝ }
+{
+    ((sdr1 & 0x1FF) << 10) | 0x3FF
+}
+
+// Whether a segment register has its shape.
+pub fn segment_shape(word: u32) -> bool
+    ensures { λ r. ⌜ r ≡ segmentShape word ⌝ }
+{
+    (word >> 31 == 0) & ((word >> 24) & 0xF == 0)
+}
+
+// Whether a block pair has the shape of its side; a pair that is off may hold anything.
+pub fn block_shape(side: bool, upper: u32, lower: u32) -> bool
+    ensures { λ r. ⌜ r ≡ blockShape 11 side upper lower ⌝ }
+{
+    if upper & 3 == 0 {
+        return true;
+    }
+    let bl = (upper >> 2) & 0x7FF;
+    let upper_good = words::low_ones(bl) & ((upper >> 13) & 0xF == 0) & ((upper >> 17) & bl == 0);
+    let lower_good = ((lower >> 17) & bl == 0)
+        & ((lower >> 7) & 0x3FF == 0)
+        & ((lower >> 2) & 1 == 0)
+        & ((lower >> 5) & 3 != 3)
+        & (side | (((lower >> 6) & 1 == 0) & ((lower >> 3) & 1 == 0)));
+    upper_good & lower_good
+}
+
+// Whether two blocks have a V bit in common and share an effective address.
+pub fn blocks_clash(first: u32, second: u32) -> bool
+    ensures { λ r. ⌜ r ≡ clash 11 first second ⌝ }
+{
+    let either = ((first >> 2) & 0x7FF) | ((second >> 2) & 0x7FF);
+    ((first & 3) & (second & 3) != 0) & (either | (first >> 17) == either | (second >> 17))
+}
+
+// Whether the address with the block's BL bits and the low 17 removed is the block's start.
+pub fn in_block(upper: u32, address: u32) -> bool
+    ensures { λ r. ⌜ r ≡ inBlock 11 upper address ⌝ }
+{
+    (address >> 17) & (0x7FFF - ((upper >> 2) & 0x7FF)) == upper >> 17
+}
+
+// Whether a block is valid for the user or the supervisor and holds the address.
+pub fn block_covers(user: bool, upper: u32, address: u32) -> bool
+    ensures { λ r. ⌜ r ≡ covers 11 user upper address ⌝ }
+{
+    let valid = if user { upper & 1 } else { (upper >> 1) & 1 };
+    (valid == 1) & in_block(upper, address)
+}
+
+// The physical address of an address in a block.
+pub fn block_physical(upper: u32, lower: u32, address: u32) -> u32
+    ensures { λ r. ⌜ r ≡ blockPhysical 11 upper lower address ⌝ }
+{
+    let start = (lower >> 17) | ((address >> 17) & ((upper >> 2) & 0x7FF));
+    (start << 17) | (address & 0x1FFFF)
+}
+
+// The number of the first word of a side's pairs; the side is true for data and false for instructions.
+pub fn side_start(side: bool) -> usize
+    ensures { λ r. ⌜ r ≡ sideStart 4 side ⌝ }
+{
+    if side { 25 } else { 17 }
+}
+
+impl Registers {
+    // The upper word of a pair.
+    pub fn upper(self, side: bool, i: usize) -> u32
+        requires { ⌜ i < 4 ⌝ }
+        ensures { λ r. ⌜ r ≡ upperOf 4 (self .words) side i ⌝ }
+    {
+        let start = side_start(side);
+        self.words[start + 2 * i]
+    }
+
+    // The lower word of a pair.
+    pub fn lower(self, side: bool, i: usize) -> u32
+        requires { ⌜ i < 4 ⌝ }
+        ensures { λ r. ⌜ r ≡ lowerOf 4 (self .words) side i ⌝ }
+    {
+        let start = side_start(side);
+        self.words[start + 2 * i + 1]
+    }
+
+    // Whether each pair of a side has the shape of that side's blocks.
+    pub fn side_shape(self, side: bool) -> bool
+        ensures { λ r. ⌜ r ≡ sideShape 4 11 (self .words) side ⌝ }
+    {
+        let mut i: usize = 0;
+        while i < 4 {
+            if !block_shape(side, self.upper(side, i), self.lower(side, i)) {
+                return false;
+            }
+            i += 1;
+        }
+        true
+    }
+
+    // Whether pair `j` of a side shares no address and V bit with a pair before it.
+    pub fn pair_apart(self, side: bool, j: usize) -> bool
+        requires { ⌜ j < 4 ⌝ }
+        ensures { λ r. ⌜ r ≡ pairApart 4 11 (self .words) side j ⌝ }
+    {
+        let upper = self.upper(side, j);
+        let mut i: usize = 0;
+        while i < j {
+            if blocks_clash(self.upper(side, i), upper) {
+                return false;
+            }
+            i += 1;
+        }
+        true
+    }
+
+    // Whether no two pairs of a side share an address and a V bit.
+    pub fn side_apart(self, side: bool) -> bool
+        ensures { λ r. ⌜ r ≡ sideApart 4 11 (self .words) side ⌝ }
+    {
+        let mut j: usize = 0;
+        while j < 4 {
+            if !self.pair_apart(side, j) {
+                return false;
+            }
+            j += 1;
+        }
+        true
+    }
+
+    // Whether each of the sixteen segment registers has its shape.
+    pub fn segments_shape(self) -> bool
+        ensures { λ r. ⌜ r ≡ segmentsShape (self .words) ⌝ }
+    {
+        let mut i: usize = 0;
+        while i < 16 {
+            if !segment_shape(self.words[1 + i]) {
+                return false;
+            }
+            i += 1;
+        }
+        true
+    }
+
+    // 0, or the number of the first rule that the set breaks.
+    pub fn check(self) -> u32
+        ensures { λ r. ⌜ r ≡ checkSet self ⌝ }
+    {
+        if !sdr1_shape(self.words[0]) {
+            return 2;
+        }
+        if !(self.side_shape(false) & self.side_shape(true)) {
+            return 3;
+        }
+        if !(self.side_apart(false) & self.side_apart(true)) {
+            return 4;
+        }
+        if !self.segments_shape() {
+            return 5;
+        }
+        0
+    }
+
+    // The set with one word changed, or the refusal and the old set.
+    pub fn with_word(self, number: u32, word: u32) -> Replaced
+        ensures { λ r. ⌜ r ≡ replaced self number word ⌝ }
+    {
+        if number >= 33 {
+            return Replaced {
+                result: 6,
+                set: self,
+            };
+        }
+        let mut next = self;
+        next.words[number as usize] = word;
+        let result = next.check();
+        if result != 0 {
+            return Replaced { result, set: self };
+        }
+        Replaced {
+            result: 0,
+            set: next,
+        }
+    }
+
+    // The first pair of a side that covers the address for the user or the supervisor, or 4 where none does.
+    pub fn covering_pair(self, side: bool, user: bool, address: u32) -> usize
+        ensures { λ r. ⌜ r ≡ coveringPair 4 11 (self .words) side user address ⌝ }
+    {
+        let mut i: usize = 0;
+        while i < 4 {
+            if block_covers(user, self.upper(side, i), address) {
+                return i;
+            }
+            i += 1;
+        }
+        4
+    }
+
+    // A segment register.
+    pub fn segment(self, i: usize) -> u32
+        requires { ⌜ i < 16 ⌝ }
+        ensures { λ r. ⌜ r ≡ segmentOf (self .words) i ⌝ }
+    {
+        self.words[1 + i]
+    }
+}
+
+// The register set of a page.
+pub fn read_set(page: &[u8]) -> Registers
+    requires { ⌜ length (now page) ≡ 132 ⌝ }
+    ensures { λ r. ⌜ r ≡ pageSet (now (page .entry)) ⌝ }
+{
+    let mut words = [0u32; 33];
+    let mut i: usize = 0;
+    while i < 33 {
+        words[i] = words::read_word(page, 4 * i);
+        i += 1;
+    }
+    Registers { words }
+}

@@ -1,0 +1,168 @@
+// A page table entry: its two words packed and unpacked, the match test, the marks R and C, PP, and the physical address that it gives.
+ghost use mathlib.Core.Path.{_≡_};
+ghost use Prim.Native.Nat.{_<_, _^_};
+ghost use Rattle.entry.specs.Entry.{firstWord, secondWord, withinWidths, packed, unpacked, matches, free};
+ghost use Rattle.entry.specs.Entry.{referenced, changed, withMarks, withPP, physicalAddress, pageIndex, apiOf};
+
+// The fields of an entry.
+pub struct Fields {
+    pub v: u32,
+    pub vsid: u32,
+    pub h: u32,
+    pub api: u32,
+    pub rpn: u32,
+    pub r: u32,
+    pub c: u32,
+    pub wimg: u32,
+    pub pp: u32,
+}
+
+// The two words of an entry.
+pub struct Words {
+    pub first: u32,
+    pub second: u32,
+}
+
+// What packing answers: 0 and the words, or 6 and zero words where a field is past its width.
+pub struct Packed {
+    pub result: u32,
+    pub words: Words,
+}
+
+// The first word of an entry.
+pub fn first_word(v: u32, vsid: u32, h: u32, api: u32) -> u32
+    requires { ⌜ (v < 2 ^ 1) × (vsid < 2 ^ 24) × (h < 2 ^ 1) × (api < 2 ^ 6) ⌝ }
+    ensures { λ w. ⌜ w ≡ firstWord v vsid h api ⌝ }
+{
+    (v << 31) | (vsid << 7) | (h << 6) | api
+}
+
+// The second word of an entry, its ignored bits zero.
+pub fn second_word(rpn: u32, r: u32, c: u32, wimg: u32, pp: u32) -> u32
+    requires { ⌜ (rpn < 2 ^ 20) × (r < 2 ^ 1) × (c < 2 ^ 1) × (wimg < 2 ^ 4) × (pp < 2 ^ 2) ⌝ }
+    ensures { λ w. ⌜ w ≡ secondWord rpn r c wimg pp ⌝ }
+{
+    (rpn << 12) | (r << 8) | (c << 7) | (wimg << 3) | pp
+}
+
+// Whether each field is within its width.
+pub fn within_widths(f: Fields) -> bool
+    ensures { λ r. ⌜ r ≡ withinWidths f ⌝ }
+{
+    (f.v < 2)
+        & (f.vsid < 0x1000000)
+        & (f.h < 2)
+        & (f.api < 64)
+        & (f.rpn < 0x100000)
+        & (f.r < 2)
+        & (f.c < 2)
+        & (f.wimg < 16)
+        & (f.pp < 4)
+}
+
+// Packs fields into the two words of an entry.
+pub fn pack(f: Fields) -> Packed
+    ensures { λ r. ⌜ r ≡ packed f ⌝ }
+{
+    if within_widths(f) {
+        Packed {
+            result: 0,
+            words: Words {
+                first: first_word(f.v, f.vsid, f.h, f.api),
+                second: second_word(f.rpn, f.r, f.c, f.wimg, f.pp),
+            },
+        }
+    } else {
+        Packed {
+            result: 6,
+            words: Words {
+                first: 0,
+                second: 0,
+            },
+        }
+    }
+}
+
+// Unpacks any two words into fields.
+pub fn unpack(first: u32, second: u32) -> Fields
+    ensures { λ r. ⌜ r ≡ unpacked first second ⌝ }
+{
+    Fields {
+        v: first >> 31,
+        vsid: (first >> 7) & 0xFFFFFF,
+        h: (first >> 6) & 1,
+        api: first & 0x3F,
+        rpn: second >> 12,
+        r: (second >> 8) & 1,
+        c: (second >> 7) & 1,
+        wimg: (second >> 3) & 0xF,
+        pp: second & 3,
+    }
+}
+
+// Whether the entry of a first word matches: V is 1, and VSID, H and API agree.
+pub fn is_match(first: u32, vsid: u32, h: u32, api: u32) -> bool
+    ensures { λ r. ⌜ r ≡ matches vsid h api first ⌝ }
+{
+    (first >> 31 == 1)
+        & ((first >> 7) & 0xFFFFFF == vsid)
+        & ((first >> 6) & 1 == h)
+        & (first & 0x3F == api)
+}
+
+// Whether the entry of a first word is free: V is 0.
+pub fn is_free(first: u32) -> bool
+    ensures { λ r. ⌜ r ≡ free first ⌝ }
+{
+    first >> 31 == 0
+}
+
+// Whether R is set in a second word.
+pub fn is_referenced(second: u32) -> bool
+    ensures { λ r. ⌜ r ≡ referenced second ⌝ }
+{
+    (second >> 8) & 1 == 1
+}
+
+// Whether C is set in a second word.
+pub fn is_changed(second: u32) -> bool
+    ensures { λ r. ⌜ r ≡ changed second ⌝ }
+{
+    (second >> 7) & 1 == 1
+}
+
+// A second word with R set if the page was referenced and C if it was changed.
+pub fn with_marks(second: u32, referenced: bool, changed: bool) -> u32
+    ensures { λ r. ⌜ r ≡ withMarks referenced changed second ⌝ }
+{
+    second | ((referenced as u32) << 8) | ((changed as u32) << 7)
+}
+
+// A second word with another PP.
+pub fn with_pp(second: u32, pp: u32) -> u32
+    requires { ⌜ pp < 2 ^ 2 ⌝ }
+    ensures { λ r. ⌜ r ≡ withPP pp second ⌝ }
+{
+    (second & 0xFFFFFFFC) | pp
+}
+
+// The physical address of an effective one, by the entry's second word.
+pub fn physical_address(second: u32, address: u32) -> u32
+    ensures { λ r. ⌜ r ≡ physicalAddress second address ⌝ }
+{
+    (second & 0xFFFFF000) | (address & 0xFFF)
+}
+
+// The page index of an effective address.
+pub fn page_index(address: u32) -> u32
+    ensures { λ r. ⌜ r ≡ pageIndex address ⌝ }
+{
+    (address >> 12) & 0xFFFF
+}
+
+// The API of a page index.
+pub fn api_of(index: u32) -> u32
+    ensures { λ r. ⌜ r ≡ apiOf index ⌝ }
+{
+    index >> 10
+}

@@ -2,13 +2,14 @@
 use mathlib.Core.Path.{_≡_, refl, sym, ap, _∙_}
 use mathlib.Core.Bool.{Bool, true, false, cond, not, _&&_}
 use mathlib.Core.List.{List}
-use Prim.Native.Nat.{ℕ, _≤_}
+use Prim.Native.Nat.{ℕ, _≤_, _<_}
 use native.Mathlib.Omega.{arith}
-use lib.Dec.{lit≤}
-use borrow.Author.Tests.{not-false}
+use lib.Dec.{ltb, lit≤}
+use borrow.Author.Tests.{not-false, ltb-true}
 use Rattle.words.proofs.Tests.{both}
 use Rattle.registers.specs.Sdr1.{sdr1Shape}
-use Rattle.registers.specs.Set.{sdr1Of, segmentsShape, sideStart, sideShape, sideApart, checkWords}
+use Rattle.registers.specs.Set.{sdr1Of, segmentsShape, sideStart, sideShape, sideApart, checkWords, replaced}
+use Rattle.registers.specs.declared.Registers.{Registers}
 
 -- a side's pairs end with the set
 pub start-at-most : (side : Bool) → sideStart 4 side ≤ 25
@@ -49,3 +50,12 @@ checked pairs width words passed =
       apart = by-side (sideApart pairs width words) (not-false apart kept₄);
       segments = not-false segments kept₅;
     }
+
+-- a word is replaced only under a number below 33
+pub replaced-number : (registers : Registers) (number word : ℕ) → replaced registers number word .result ≡ 0 → number < 33
+unfolding replaced
+replaced-number registers number word done = go (ltb number 33) refl
+  where
+    go : (t : Bool) → ltb number 33 ≡ t → number < 33
+    go true e = ltb-true number 33 e
+    go false e = absurd (let z : _≡_ {A = ℕ} 6 0 = (rw e at done) in omega arith)

@@ -144,6 +144,13 @@ written-at (w ∷ ws) s at h =
 pub written-all : (ws s : List ℕ) → length s ≡ 4 * length ws → written s 0 ws ≡ bytesOf ws
 written-all ws s h = written-at ws s 0 (omega arith)
 
+-- one word more
+pub written-more : (ws s : List ℕ) (at w : ℕ) → written s at (ws ++ (w ∷ [])) ≡ withWord (written s at ws) (at + 4 * length ws) w
+unfolding written
+written-more [] s at w = ap (λ (n : ℕ). withWord s n w) (omega arith)
+written-more (v ∷ ws) s at w =
+    written-more ws (withWord s at v) (at + 4) w ∙ ap (λ (n : ℕ). withWord (written (withWord s at v) (at + 4) ws) n w) (omega arith)
+
 pub length-wordsAt : (s : List ℕ) (at n : ℕ) → length (wordsAt s at n) ≡ n
 unfolding wordsAt
 length-wordsAt s at zero = refl

@@ -1,9 +1,9 @@
 // Words of 32 bits: reading and writing them in bytes, and the test for ones at the low end of a field.
 ghost use mathlib.Core.Path.{_≡_};
-ghost use Prim.Native.Nat.{_+_, _≤_};
+ghost use Prim.Native.Nat.{_+_, _*_, _≤_};
 ghost use lib.ListN.{length};
 ghost use Rattle.words.specs.Ones.{lowOnes};
-ghost use Rattle.words.specs.Words.{wordOf, wordAt, withWord};
+ghost use Rattle.words.specs.Words.{wordOf, wordAt, withWord, bytesOf};
 
 // Whether a field is ones only at its low end, 0 included: the field without its lowest bit is asked again.
 pub fn low_ones(field: u32) -> bool
@@ -42,4 +42,16 @@ pub fn write_word(s: &mut [u8], at: usize, w: u32)
     s[at + 1] = ((w >> 16) % 256) as u8;
     s[at + 2] = ((w >> 8) % 256) as u8;
     s[at + 3] = (w % 256) as u8;
+}
+
+// Fills a slice with words, big-endian.
+pub fn write_words(s: &mut [u8], words: &[u32])
+    requires { ⌜ length (now s) ≡ 4 * length (now words) ⌝ }
+    ensures { λ _. ⌜ now (s .exit) ≡ bytesOf (now (words .entry)) ⌝ }
+{
+    let mut i: usize = 0;
+    while i < words.len() {
+        write_word(s, 4 * i, words[i]);
+        i += 1;
+    }
 }

@@ -1,0 +1,2 @@
+-- What the exported functions' proofs cite of the calls.
+pub mod Lent

@@ -1,0 +1,83 @@
+// The exported calls. Each contract gives the result number and every lent byte by a definition of the crate `calls`, for all inputs.
+ghost use mathlib.Core.Path.{_≡_};
+ghost use Rattle.calls.specs.Lent.{left};
+ghost use Rattle.calls.specs.WithoutTable.{checkCall, setRegisterCall, packCall, unpackCall};
+
+// Checks a register page.
+#[no_mangle]
+pub extern "C" fn mmu_check(page: &[u8]) -> u32
+    ensures { λ r. ⌜ r ≡ checkCall (now (page .entry)) ⌝ }
+{
+    if page.len() != 132 {
+        return 11;
+    }
+    let set = registers::read_set(page);
+    set.check()
+}
+
+// Replaces one register word of a page.
+#[no_mangle]
+pub extern "C" fn mmu_set_register(page: &mut [u8], number: u32, word: u32) -> u32
+    ensures { λ r. ⌜ left r (now (page .exit)) ≡ setRegisterCall (now (page .entry)) number word ⌝ }
+{
+    if page.len() != 132 {
+        return 11;
+    }
+    let set = registers::read_set(page);
+    let replaced = set.with_word(number, word);
+    let result = replaced.result;
+    if result == 0 {
+        words::write_word(page, 4 * (number as usize), word);
+    }
+    result
+}
+
+// Packs nine fields into the two words of an entry.
+#[no_mangle]
+pub extern "C" fn mmu_pack(
+    v: u32,
+    vsid: u32,
+    h: u32,
+    api: u32,
+    rpn: u32,
+    r: u32,
+    c: u32,
+    wimg: u32,
+    pp: u32,
+    entry: &mut [u8],
+) -> u32
+    ensures { λ n. ⌜ left n (now (entry .exit))
+        ≡ packCall (record { v = v; vsid = vsid; h = h; api = api; rpn = rpn; r = r; c = c; wimg = wimg; pp = pp }) (now (entry .entry)) ⌝ }
+{
+    if entry.len() != 8 {
+        return 11;
+    }
+    let packed = entry::pack(entry::Fields {
+        v,
+        vsid,
+        h,
+        api,
+        rpn,
+        r,
+        c,
+        wimg,
+        pp,
+    });
+    let both = [packed.words.first, packed.words.second];
+    words::write_words(entry, &both);
+    packed.result
+}
+
+// Unpacks the two words of an entry into nine fields.
+#[no_mangle]
+pub extern "C" fn mmu_unpack(first: u32, second: u32, fields: &mut [u8]) -> u32
+    ensures { λ n. ⌜ left n (now (fields .exit)) ≡ unpackCall first second (now (fields .entry)) ⌝ }
+{
+    if fields.len() != 36 {
+        return 11;
+    }
+    let f = entry::unpack(first, second);
+    let nine = [f.v, f.vsid, f.h, f.api, f.rpn, f.r, f.c, f.wimg, f.pp];
+    words::write_words(fields, &nine);
+    0
+}

@@ -60,8 +60,8 @@ pack-rows = record { equal = refl }
 
 -- unpack: the fields in their order, and nothing after 11
 unpack-rows : Hold ((
-  unpackCall 0x86380E43 0x12345012 (replicate 36 255),
-  left 0 (bytesOf (1 ∷ 0x0C701C ∷ 1 ∷ 3 ∷ 0x12345 ∷ 0 ∷ 0 ∷ 2 ∷ 2 ∷ [])),
+  unpackCall 0x86380E43 0x12345112 (replicate 36 255),
+  left 0 (bytesOf (1 ∷ 0x0C701C ∷ 1 ∷ 3 ∷ 0x12345 ∷ 1 ∷ 0 ∷ 2 ∷ 2 ∷ [])),
 )
     ∷ (unpackCall 0xFFFFFFFF 0xFFFFFFFF (zeros 36), left 0 (bytesOf (1 ∷ 0xFFFFFF ∷ 1 ∷ 63 ∷ 0xFFFFF ∷ 1 ∷ 1 ∷ 15 ∷ 3 ∷ [])))
     ∷ (unpackCall 1 1 (zeros 35), left 11 (zeros 35))

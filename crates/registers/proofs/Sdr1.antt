@@ -6,7 +6,7 @@ use native.Mathlib.Nat.{div-one}
 use native.Mathlib.Omega.{arith}
 use lib.Bits.{bitAnd, and-mask}
 use lib.Dec.{eqb}
-use lib.Pow.{pow-pos, pow-mono}
+use lib.Pow.{pow-pos, pow-mono, mod-mod-pow}
 use borrow.Author.Tests.{eqb-true, eq-eqb}
 use Rattle.words.specs.Ones.{bitLength, lowOnes}
 use Rattle.words.proofs.Ones.{ones-true, true-ones, length-ones, ones-width}
@@ -33,16 +33,28 @@ module _ (sdr1 : ℕ) (shape : sdr1Shape sdr1 ≡ true) where
   length-is = ap (λ (n : ℕ). 65536 * n) (omega (arith, mask-is, pow-pos (maskOnes sdr1)))
 
 -- an SDR1 of origin o and k ones, where 2 ^ k divides o
-module _ (o k : ℕ) (few : k ≤ 9) (whole : o % 2 ^ k ≡ 0) (fits : o < 2 ^ 16) where
+module _ (o k : ℕ) (few : k ≤ 9) (whole : o % 2 ^ k ≡ 0) where
   made-mask : maskOf (o * 65536 + (2 ^ k - 1)) ≡ 2 ^ k - 1
   made-mask = omega (arith, pow-mono few, pow-pos k)
 
-  made-origin : originOf (o * 65536 + (2 ^ k - 1)) ≡ o
-  made-origin = omega (arith, pow-mono few, pow-pos k)
+  made-origin : originOf (o * 65536 + (2 ^ k - 1)) ≡ o % 2 ^ 16
+  made-origin =
+      let high : (o * 65536 + (2 ^ k - 1)) / 2 ^ 16 ≡ o = omega (arith, pow-mono few, pow-pos k) in
+      rw high
+
+  -- no bit of the origin lies under the mask
+  clear-origin : bitAnd (o % 2 ^ 16) (2 ^ k - 1) ≡ 0
+  clear-origin =
+      let width : (16 - k) + k ≡ 16 = omega arith in
+      and-mask (o % 2 ^ 16) k ∙ (rw width at (mod-mod-pow o (16 - k) k)) ∙ whole
 
   pub made-ones : maskOnes (o * 65536 + (2 ^ k - 1)) ≡ k
   unfolding maskOnes
   made-ones = ap bitLength made-mask ∙ length-ones k
+
+  pub made-length : tableLength (o * 65536 + (2 ^ k - 1)) ≡ 65536 * 2 ^ k
+  unfolding tableLength
+  made-length = ap (λ (n : ℕ). 65536 * n) (omega (arith, made-mask, pow-pos k))
 
   pub made-shape : sdr1Shape (o * 65536 + (2 ^ k - 1)) ≡ true
   unfolding sdr1Shape
@@ -54,5 +66,5 @@ module _ (o k : ℕ) (few : k ≤ 9) (whole : o % 2 ^ k ≡ 0) (fits : o < 2 ^ 1
         true-ones (2 ^ k - 1) k refl,
         eq-eqb (w / 2 ^ 9 % 2 ^ 7) 0 zero-bits,
         made-origin,
-        eq-eqb (bitAnd o (2 ^ k - 1)) 0 (and-mask o k ∙ whole),
+        eq-eqb (bitAnd (o % 2 ^ 16) (2 ^ k - 1)) 0 clear-origin,
       )

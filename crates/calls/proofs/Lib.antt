@@ -1,2 +1,11 @@
--- What the exported functions' proofs cite of the calls.
+-- What the exported functions' proofs cite of the calls, and the proof of the theorem.
 pub mod Lent
+pub mod OnBytes
+pub mod TableLaws
+pub mod Rules
+pub mod Fields
+pub mod Step
+pub mod Histories
+pub mod Theorem
+pub mod Changes
+pub mod Corollaries

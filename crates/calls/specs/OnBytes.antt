@@ -1,0 +1,118 @@
+-- What each call does to a lent table, for any bytes, one clause a call.
+use Prim.Native.Nat.{ℕ, _+_, _^_}
+use mathlib.Core.Bool.{Bool, true, false, cond, _&&_, _||_}
+use mathlib.Core.List.{List, [], _∷_}
+use mathlib.Core.Option.{Option, none, some}
+use lib.Dec.{eqb}
+use lib.ListN.{length, replicate}
+use Rattle.entry.specs.Entry.{firstWord, secondWord, matches, free, apiOf, referenced, changed, withMarks, withPP}
+use Rattle.registers.specs.Sdr1.{maskOnes}
+use Rattle.groups.specs.Page.{Page}
+use Rattle.groups.specs.Hash.{groupNumber}
+use Rattle.groups.specs.Group.{firstOf, secondOf, putAt}
+use Rattle.groups.specs.Search.{hOf, agree, anyMatch}
+use Rattle.tables.specs.Matches.{Match}
+use Rattle.tables.specs.Layout.{Layout, matchesOf, freePlace, overwrite, overwriteEach}
+use Rattle.translation.specs.Access.{storing}
+use Rattle.translation.specs.Steps.{beforeSearch, outcomeOf, answerOf}
+use Rattle.translation.specs.declared.Answer.{Answer}
+use Rattle.translation.specs.declared.Early.{Early}
+use Rattle.translation.specs.declared.Early.the-variants.{Decided, Search}
+use Rattle.translation.specs.declared.Outcome.{Outcome}
+use Rattle.translation.specs.declared.Searched.{Searched}
+use Rattle.translation.specs.declared.Searched.the-variants.{Nothing, At, Contradicting}
+use Rattle.translation.specs.declared.Wanted.{Wanted}
+use Rattle.calls.specs.Request.{Request, clear, mapPage, unmap, protect, look, access, registerWords, sdr1In, fed}
+use Rattle.calls.specs.Rules.{refusal}
+use Rattle.calls.specs.Answers.{wordAnswer, accessAnswer, answerRefused, doneByPage}
+
+-- the table of document 01 for a mask of k ones: 2 ^ (10 + k) groups of eight entries; an entry matches by V, VSID, H and API
+abbrev pub layout : ℕ → Layout Page (List ℕ)
+layout k = record {
+  group = groupNumber (10 + k);
+  half = 2 ^ (9 + k);
+  capacity = 8;
+  matching = λ secondary page first. matches (page .vsid) (hOf secondary) (apiOf (page .index)) first;
+  free = free;
+  first = firstOf;
+  second = secondOf;
+  put = putAt;
+}
+
+-- what a call leaves: its result number, the table and the answer
+pub record Ended : Type 0 where
+  pub number : ℕ
+  pub table : List ℕ
+  pub answer : List ℕ
+
+abbrev pub ended : ℕ → List ℕ → List ℕ → Ended
+ended number table answer = record { number = number; table = table; answer = answer }
+
+-- by the matches of a page: none, or the first and the others
+abbrev pub byMatches : {X : Type 0} → List Match → X → (Match → List Match → X) → X
+byMatches [] missing found = missing
+byMatches (x ∷ xs) missing found = found x xs
+
+-- by an option: none, or the one
+abbrev pub byOption : {A X : Type 0} → Option A → X → (A → X) → X
+byOption none missing found = missing
+byOption (some a) missing found = found a
+
+-- the matches contradict: some other one does not agree with the first
+unfoldable pub contradict : Match → List Match → Bool
+contradict x xs = anyMatch (λ y. cond (agree (x .second) (y .second)) false true) xs
+
+-- the first match's second word, with R and C each set if any match had it
+unfoldable pub merged : Match → List Match → ℕ
+merged x xs = withMarks (anyMatch (λ y. referenced (y .second)) (x ∷ xs)) (anyMatch (λ y. changed (y .second)) (x ∷ xs)) (x .second)
+
+-- the first word of a page's entry in its primary or its secondary group
+unfoldable pub entryWord : Bool → Page → ℕ
+entryWord secondary page = firstWord 1 (page .vsid) (hOf secondary) (apiOf (page .index))
+
+-- the page that a search wants
+abbrev pub wantedPage : Wanted → Page
+wantedPage wanted = record { vsid = wanted .vsid; index = wanted .index }
+
+-- what the search of a page's matches found
+unfoldable pub searched : List Match → Searched
+searched xs = byMatches xs Nothing (λ x rest. cond (contradict x rest) Contradicting (At (x .second)))
+
+module _ (k : ℕ) where
+  -- step 7: the first match of the page is marked, by an access that a page did
+  unfoldable pub markedBy : ℕ → Early → Outcome → List ℕ → List ℕ
+  markedBy kind (Decided decided) outcome t = t
+  markedBy kind (Search wanted) outcome t =
+      let page = wantedPage wanted in
+      cond (doneByPage outcome)
+      (byMatches (matchesOf (layout k) t page) t (λ x xs. overwrite (layout k) page x (x .first) (withMarks true (storing kind) (x .second)) t))
+      t
+
+  -- a call that its arguments do not refuse
+  unfoldable pub bytesDo : Request (List ℕ) → List ℕ → Ended
+  bytesDo (clear sdr1) t = ended 0 (replicate (length t) 0) []
+  bytesDo (mapPage sdr1 page rpn wimg pp) t =
+      byMatches (matchesOf (layout k) t page)
+      (byOption (freePlace (layout k) t page) (ended 9 t [])
+      (λ place. ended 0 (putAt t (groupNumber (10 + k) (place .0) page) (place .1) (entryWord (place .0) page) (secondWord rpn 0 0 wimg pp)) []))
+      (λ x xs. ended 7 t [])
+  bytesDo (unmap sdr1 page answer) t =
+      byMatches (matchesOf (layout k) t page) (ended 8 t (wordAnswer 8 0))
+      (λ x xs. ended 0 (overwriteEach (layout k) page (λ y. (0, 0)) (x ∷ xs) t) (wordAnswer 0 (merged x xs)))
+  bytesDo (protect sdr1 page pp) t =
+      byMatches (matchesOf (layout k) t page) (ended 8 t [])
+      (λ x xs. ended 0 (overwriteEach (layout k) page (λ y. (y .first, withPP pp (y .second))) (x ∷ xs) t) [])
+  bytesDo (look sdr1 page answer) t =
+      byMatches (matchesOf (layout k) t page) (ended 8 t (wordAnswer 8 0))
+      (λ x xs. cond (contradict x xs) (ended 10 t (wordAnswer 10 0)) (ended 0 t (wordAnswer 0 (x .second))))
+  bytesDo (access registers mode kind address answer) t =
+      let early = beforeSearch 4 11 (registerWords registers) mode kind address in
+      let outcome = outcomeOf kind (λ wanted. searched (matchesOf (layout k) t (wantedPage wanted))) early in
+      let words = answerOf kind address outcome in
+      ended (words .result) (markedBy kind early outcome t) (accessAnswer words)
+
+-- a call on a lent table
+unfoldable pub onBytes : Request (List ℕ) → List ℕ → Ended
+onBytes request t =
+    let number = refusal (fed request) (length t) in
+    cond (eqb number 0) (bytesDo (maskOnes (sdr1In request)) request t) (ended number t (answerRefused (λ lent. lent) request number))

@@ -1,0 +1,107 @@
+-- The plain finite map of document 01, one clause a call. It is fed arguments and lent lengths, and no table byte.
+use Prim.Native.Nat.{ℕ, suc, _+_, _^_}
+use mathlib.Core.Bool.{Bool, true, false, cond, _||_}
+use mathlib.Core.List.{List, [], _∷_}
+use mathlib.Core.Logic.{ite}
+use mathlib.Core.Option.{Option}
+use mathlib.Core.Path.{_≡_}
+use lib.Dec.{eqb}
+use Rattle.entry.specs.Entry.{secondWord}
+use Rattle.placement.specs.Lists.{oneIf}
+use Rattle.placement.specs.Placement.{Arrangement}
+use Rattle.placement.specs.Decision.{arrangement?}
+use Rattle.placement.specs.FiniteMap.{fieldsAt, putIn, takeOut, revise, mappedPages}
+use Rattle.registers.specs.Sdr1.{maskOnes}
+use Rattle.groups.specs.Page.{Page, samePage}
+use Rattle.groups.specs.Hash.{groupNumber}
+use Rattle.groups.proofs.Hash.{group-mirror}
+use Rattle.translation.specs.Access.{storing}
+use Rattle.translation.specs.Steps.{beforeSearch, outcomeOf, answerOf}
+use Rattle.translation.specs.declared.Answer.{Answer}
+use Rattle.translation.specs.declared.Early.{Early}
+use Rattle.translation.specs.declared.Early.the-variants.{Decided, Search}
+use Rattle.translation.specs.declared.Outcome.{Outcome}
+use Rattle.translation.specs.declared.Searched.{Searched}
+use Rattle.translation.specs.declared.Searched.the-variants.{Nothing, At}
+use Rattle.calls.specs.Request.{Request, clear, mapPage, unmap, protect, look, access, registerWords, sdr1In}
+use Rattle.calls.specs.Rules.{refusal}
+use Rattle.calls.specs.Answers.{wordAnswer, accessAnswer, answerRefused, doneByPage}
+use Rattle.calls.specs.OnBytes.{byOption, wantedPage}
+
+-- what the map has of a mapped page: frame (RPN), attributes (WIMG), protection (PP) and marks (R, C)
+pub record PageFields : Type 0 where
+  pub frame : ℕ
+  pub attributes : ℕ
+  pub protection : ℕ
+  pub referenced : Bool
+  pub changed : Bool
+
+abbrev pub Map : Type 0
+Map = List (Page × PageFields)
+
+-- the second entry word of a page's fields, ignored bits zero
+unfoldable pub fieldsWord : PageFields → ℕ
+fieldsWord f = secondWord (f .frame) (oneIf (f .referenced)) (oneIf (f .changed)) (f .attributes) (f .protection)
+
+-- R is set, and C too on a store
+abbrev pub markFields : Bool → PageFields → PageFields
+markFields store f =
+    record { frame = f .frame; attributes = f .attributes; protection = f .protection; referenced = true; changed = store || f .changed }
+
+abbrev pub protectFields : ℕ → PageFields → PageFields
+protectFields pp f =
+    record { frame = f .frame; attributes = f .attributes; protection = pp; referenced = f .referenced; changed = f .changed }
+
+-- what a call tells: its result number and answer, and the map that it leaves
+pub record Told : Type 0 where
+  pub number : ℕ
+  pub answer : List ℕ
+  pub map : Map
+
+abbrev pub told : ℕ → List ℕ → Map → Told
+told number answer m = record { number = number; answer = answer; map = m }
+
+-- an arrangement of pages for a mask of k ones: groups of eight entries
+abbrev pub Arranged : ℕ → List Page → Type 0
+Arranged k pages = Arrangement (groupNumber (10 + k)) 8 pages
+
+unfoldable pub arranged? : (k : ℕ) (pages : List Page) → Dec (Arranged k pages)
+unfolding arrangement?
+arranged? k pages = arrangement? (groupNumber (10 + k)) 8 (2 ^ (9 + k)) (group-mirror k) pages
+
+-- the search of an access is the map
+unfoldable pub foundIn : Map → Page → Searched
+foundIn m page = byOption (fieldsAt samePage page m) Nothing (λ f. At (fieldsWord f))
+
+-- step 7 on the map
+unfoldable pub mapMarked : ℕ → Early → Outcome → Map → Map
+mapMarked kind (Decided decided) outcome m = m
+mapMarked kind (Search wanted) outcome m = cond (doneByPage outcome) (revise samePage (wantedPage wanted) (markFields (storing kind)) m) m
+
+module _ (k : ℕ) where
+  -- a call that its arguments do not refuse
+  unfoldable pub mapDoes : Request ℕ → Map → Told
+  mapDoes (clear sdr1) m = told 0 [] []
+  mapDoes (mapPage sdr1 page rpn wimg pp) m =
+      byOption (fieldsAt samePage page m)
+      (ite (arranged? k (page ∷ mappedPages m))
+      (told 0 [] (putIn page (record { frame = rpn; attributes = wimg; protection = pp; referenced = false; changed = false }) m))
+      (told 9 [] m))
+      (λ f. told 7 [] m)
+  mapDoes (unmap sdr1 page answer) m =
+      byOption (fieldsAt samePage page m) (told 8 (wordAnswer 8 0) m) (λ f. told 0 (wordAnswer 0 (fieldsWord f)) (takeOut samePage page m))
+  mapDoes (protect sdr1 page pp) m =
+      byOption (fieldsAt samePage page m) (told 8 [] m) (λ f. told 0 [] (revise samePage page (protectFields pp) m))
+  mapDoes (look sdr1 page answer) m =
+      byOption (fieldsAt samePage page m) (told 8 (wordAnswer 8 0) m) (λ f. told 0 (wordAnswer 0 (fieldsWord f)) m)
+  mapDoes (access registers mode kind address answer) m =
+      let early = beforeSearch 4 11 (registerWords registers) mode kind address in
+      let outcome = outcomeOf kind (λ wanted. foundIn m (wantedPage wanted)) early in
+      let words = answerOf kind address outcome in
+      told (words .result) (accessAnswer words) (mapMarked kind early outcome m)
+
+-- a call, fed its arguments and the length of what is lent as the table
+unfoldable pub onMap : Request ℕ → ℕ → Map → Told
+onMap request lent m =
+    let number = refusal request lent in
+    cond (eqb number 0) (mapDoes (maskOnes (sdr1In request)) request m) (told number (answerRefused (λ length. []) request number) m)

@@ -1,0 +1,11 @@
+-- Laws of hash, groups and entries in groups, for the crates above.
+pub mod Hash
+pub mod Group
+pub mod Entries
+pub mod Stored
+pub mod Lent
+pub mod Free
+pub mod Matches
+pub mod Summary
+pub mod Edits
+pub mod Tables

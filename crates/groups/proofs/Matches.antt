@@ -1,0 +1,87 @@
+-- Laws of the matches in a group: one entry more, what each match is, and that a group and a first word name one page.
+use mathlib.Core.Path.{_≡_, refl, sym, _∙_}
+use mathlib.Core.Logic.{⊎-elim}
+use mathlib.Core.Bool.{Bool, true, false, cond}
+use mathlib.Core.List.{List, [], _∷_, _++_, append-nil, List·Memᴰ, List·Memᴰ·append-cases, List·Memᴰ·eq-of-singleton, List·Memᴰ·not-nil}
+use Prim.Native.Nat.{ℕ, zero, suc, _+_, _≤_, _<_}
+use native.Mathlib.Numerals.{add-one}
+use native.Mathlib.Omega.{arith}
+use mir.Val.{boolByte}
+use Rattle.entry.specs.Entry.{matches, apiOf}
+use Rattle.entry.proofs.Matches.{matched}
+use Rattle.tables.specs.Matches.{Match, matchesBelow}
+use Rattle.groups.specs.Page.{Page}
+use Rattle.groups.specs.Hash.{groupNumber}
+use Rattle.groups.specs.Group.{firstAt, secondAt}
+use Rattle.groups.specs.Search.{hOf, matchesIn, matchesOf}
+use Rattle.groups.proofs.Hash.{one-page}
+
+-- entry i of a group, as a match
+abbrev pub entryAt : Bool → List ℕ → ℕ → Match
+entryAt secondary group i = record { secondary = secondary; entry = i; first = firstAt group i; second = secondAt group i }
+
+-- H as the code makes it
+pub h-is : (secondary : Bool) → boolByte secondary ≡ hOf secondary
+h-is true = refl
+h-is false = refl
+
+-- a match is an entry of the group that matches
+pub record IsMatch (secondary : Bool) (vsid api : ℕ) (group : List ℕ) (n : ℕ) (m : Match) : Type 0 where
+  pub entry-lt : m .entry < n
+  pub is-entry : m ≡ entryAt secondary group (m .entry)
+  pub matching : matches vsid (hOf secondary) api (m .first) ≡ true
+
+module _ (secondary : Bool) (vsid api : ℕ) (group : List ℕ) where
+  -- the matches among the first n entries
+  abbrev pub matchesTo : ℕ → List Match
+  matchesTo n = matchesBelow (matches vsid (hOf secondary) api) (firstAt group) (secondAt group) secondary n
+
+  -- one entry more, which matches or does not
+  pub matches-more : (i : ℕ) → matches vsid (hOf secondary) api (firstAt group i) ≡ true → matchesTo (i + 1) ≡ matchesTo i ++ (entryAt secondary group i ∷ [])
+  unfolding matchesBelow
+  matches-more i e = rw (add-one, e)
+
+  pub matches-same : (i : ℕ) → matches vsid (hOf secondary) api (firstAt group i) ≡ false → matchesTo (i + 1) ≡ matchesTo i
+  unfolding matchesBelow
+  matches-same i e = rw (add-one, e) (append-nil (matchesTo i))
+
+  pub match-is : (n : ℕ) (m : Match) → List·Memᴰ m (matchesTo n) → IsMatch secondary vsid api group n m
+  unfolding matchesBelow
+  match-is zero m h = absurd (List·Memᴰ·not-nil h)
+  match-is (suc n) m h =
+      ⊎-elim (λ k. let r = match-is n m k in record { entry-lt = omega (arith, r .entry-lt); is-entry = r .is-entry; matching = r .matching })
+      (λ k. last (matches vsid (hOf secondary) api (firstAt group n)) refl k)
+      (List·Memᴰ·append-cases (matchesTo n) h)
+    where
+      last : (t : Bool) → matches vsid (hOf secondary) api (firstAt group n) ≡ t → List·Memᴰ m (cond t (entryAt secondary group n ∷ []) [])
+          → IsMatch secondary vsid api group (suc n) m
+      last true e k =
+          let q : m ≡ entryAt secondary group n = List·Memᴰ·eq-of-singleton k in
+          rw q (record { entry-lt = omega arith; is-entry = refl; matching = e })
+      last false e k = absurd (List·Memᴰ·not-nil k)
+
+-- each match in a group
+pub match-in : (secondary : Bool) (vsid api : ℕ) (group : List ℕ) (m : Match) → List·Memᴰ m (matchesIn secondary vsid api group) → IsMatch secondary vsid api group 8 m
+unfolding matchesIn
+match-in secondary vsid api group m h = match-is secondary vsid api group 8 m h
+
+-- each match of both groups has one of the eight entries
+pub match-of : (vsid api : ℕ) (primary secondary : List ℕ) (m : Match) → List·Memᴰ m (matchesOf vsid api primary secondary) → m .entry < 8
+unfolding matchesOf
+match-of vsid api primary secondary m h =
+    ⊎-elim (λ k. match-in false vsid api primary m k .entry-lt) (λ k. match-in true vsid api secondary m k .entry-lt)
+    (List·Memᴰ·append-cases (matchesIn false vsid api primary) h)
+
+h-same : (b c : Bool) → hOf b ≡ hOf c → b ≡ c
+h-same true true e = refl
+h-same true false e = absurd (omega arith)
+h-same false true e = absurd (omega arith)
+h-same false false e = refl
+
+-- an entry, by its group and first word, matches at most one page
+pub tells : (n : ℕ) (b c : Bool) (p q : Page) (first : ℕ) → 10 ≤ n → groupNumber n b p ≡ groupNumber n c q
+    → matches (p .vsid) (hOf b) (apiOf (p .index)) first ≡ true → matches (q .vsid) (hOf c) (apiOf (q .index)) first ≡ true → p ≡ q
+tells n b c p q first enough g e f =
+    let x = matched (p .vsid) (hOf b) (apiOf (p .index)) first e in
+    let y = matched (q .vsid) (hOf c) (apiOf (q .index)) first f in
+    one-page n p q enough b c (h-same b c (sym (x .has-h) ∙ y .has-h)) g (sym (x .has-vsid) ∙ y .has-vsid) (sym (x .has-api) ∙ y .has-api)

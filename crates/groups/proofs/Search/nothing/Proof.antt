@@ -1,0 +1,12 @@
+-- `groups::Search::nothing` meets its contract.
+use mathlib.Core.Path.{refl}
+use Rattle.groups.specs.Search.{nothingFound}
+use Rattle.groups.proofs.Search.nothing.Statement.{statement}
+use Rattle.groups.proofs.Search.nothing.Tie as tie
+
+returns : tie.Need-returns
+unfolding nothingFound
+returns c = refl
+
+pub nothing-spec : {M : Type 1} → statement M
+nothing-spec = tie.close (tie.spec returns)

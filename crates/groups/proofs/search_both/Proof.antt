@@ -1,0 +1,80 @@
+-- `groups::search_both` meets its contract: the parts that are lent are the two groups, searched one after the other.
+use mathlib.Core.Path.{sym}
+use Rattle.groups.specs.Search.{matchesOf, summary}
+use Rattle.groups.proofs.Lent.{lent-group}
+use Rattle.groups.proofs.Summary.{noted-append}
+use borrow.Author.Needs.{needs}
+use Rattle.groups.proofs.search_both.Statement.{statement}
+use Rattle.groups.proofs.search_both.Tie as tie
+
+mul-from : tie.Need-mul-from
+mul-from c = search needs
+
+add-to : tie.Need-add-to
+add-to c = search needs
+
+sub-search-group : tie.Need-sub-search-group
+sub-search-group c = search needs
+
+part-search-group-start : tie.Need-part-search-group-start
+part-search-group-start c = search needs
+
+part-search-group-end : tie.Need-part-search-group-end
+part-search-group-end c = search needs
+
+nothing-requires : tie.Need-nothing-requires
+nothing-requires c κs = search needs
+
+search-group-requires : tie.Need-search-group-requires
+search-group-requires c κs = search needs
+
+mul-next : tie.Need-mul-next
+mul-next c = search needs
+
+add-end : tie.Need-add-end
+add-end c = search needs
+
+sub-search-group-2 : tie.Need-sub-search-group-2
+sub-search-group-2 c = search needs
+
+part-search-group-start-2 : tie.Need-part-search-group-start-2
+part-search-group-start-2 c = search needs
+
+part-search-group-end-2 : tie.Need-part-search-group-end-2
+part-search-group-end-2 c = search needs
+
+search-group-requires-2 : tie.Need-search-group-requires-2
+search-group-requires-2 c κs = search needs
+
+returns : tie.Need-returns
+unfolding summary matchesOf
+returns c =
+    let a = c .before .before .before .before .before .before .args in
+    let t = a .table .now in
+    rw (
+      c .search-group2 .ensures,
+      c .before .before .search-group .ensures,
+      c .before .before .before .nothing .ensures,
+      lent-group t (a .primary),
+      lent-group t (a .secondary),
+    )
+    (sym (noted-append _ _ _))
+
+pub search-both-spec : {M : Type 1} → statement M
+search-both-spec =
+    tie.close
+    (tie.spec
+    mul-from
+    add-to
+    sub-search-group
+    part-search-group-start
+    part-search-group-end
+    nothing-requires
+    search-group-requires
+    mul-next
+    add-end
+    sub-search-group-2
+    part-search-group-start-2
+    part-search-group-end-2
+    search-group-requires-2
+    returns)

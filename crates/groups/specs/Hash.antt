@@ -1,0 +1,34 @@
+-- The hash of a page and its two groups (document 01, "Entries and groups"), for any number n of hash bits that name a group.
+use Prim.Native.Nat.{ℕ, _+_, _-_, _*_, _%_, _^_}
+use mathlib.Core.Bool.{Bool, cond}
+use lib.Bits.{bitXor}
+use Rattle.words.specs.Bits.{placed}
+use Rattle.registers.specs.Sdr1.{originOf}
+use Rattle.groups.specs.Page.{Page}
+use Rattle.groups.specs.declared.Groups.{Groups}
+
+-- the hash: the low 19 bits of the VSID, exclusive-or the page index
+unfoldable pub hashOf : ℕ → ℕ → ℕ
+hashOf vsid index = bitXor (vsid % 2 ^ 19) index
+
+-- the primary group number: the low n bits of the hash
+unfoldable pub primaryGroup : ℕ → ℕ → ℕ
+primaryGroup n hash = hash % 2 ^ n
+
+-- the secondary group number: the complement in n bits
+unfoldable pub secondaryGroup : ℕ → ℕ → ℕ
+secondaryGroup n hash = 2 ^ n - 1 - hash % 2 ^ n
+
+-- both group numbers of a hash
+unfoldable pub groupsOf : ℕ → ℕ → Groups
+groupsOf n hash = record { primary = primaryGroup n hash; secondary = secondaryGroup n hash }
+
+-- the number of a page's primary group (false) or of its secondary group (true)
+unfoldable pub groupNumber : ℕ → Bool → Page → ℕ
+groupNumber n secondary page =
+    let hash = hashOf (page .vsid) (page .index) in
+    cond secondary (secondaryGroup n hash) (primaryGroup n hash)
+
+-- the address of group g: the origin bits followed by 16 zeros, and 64 × g bytes from there
+unfoldable pub groupAddress : ℕ → ℕ → ℕ
+groupAddress sdr1 g = placed 15 (originOf sdr1) + 64 * g

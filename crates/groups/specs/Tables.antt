@@ -1,0 +1,166 @@
+-- Worked examples of hash, groups, search and edits, each row closed by computation: document 01's cases 1, 6 and 11, the manual's group addresses,
+-- and a group of 64 bytes with twins, a match that contradicts, matches of the other H and free entries.
+use Prim.Native.Nat.{ℕ, _^_}
+use mathlib.Core.Bool.{Bool, true, false}
+use mathlib.Core.List.{List, [], _∷_, _++_, map}
+use mathlib.Core.Path.{_≡_}
+use lib.ListN.{replicate}
+use Rattle.words.specs.Rows.{Hold}
+use Rattle.words.specs.Words.{bytesOf}
+use Rattle.registers.specs.Sdr1.{hashBits}
+use Rattle.tables.specs.Matches.{Match}
+use Rattle.groups.specs.Page.{Page, samePage}
+use Rattle.groups.specs.Hash.{hashOf, groupNumber, groupAddress}
+use Rattle.groups.specs.Group.{groupOf, firstOf, secondOf, putAt, freePlace}
+use Rattle.groups.specs.Search.{matchesIn, matchesOf, summary, nothingFound}
+use Rattle.groups.specs.Edit.{editMatches}
+use Rattle.groups.specs.declared.Place.the-variants.{Entry, Full}
+use Rattle.groups.specs.declared.Edit.the-variants.{Clear, Protect}
+use Rattle.groups.specs.declared.Search.{Search}
+
+abbrev pub page : ℕ → ℕ → Page
+page vsid index = record { vsid = vsid; index = index }
+
+abbrev pub matched : Bool → ℕ → ℕ → ℕ → Match
+matched secondary entry first second = record { secondary = secondary; entry = entry; first = first; second = second }
+
+-- a search that found a match: its place and words, then whether a further one contradicts, and R and C of any
+abbrev pub told : Bool → ℕ → ℕ → ℕ → Bool → Bool → Bool → Search
+told secondary entry first second differs referenced changed = record {
+  found = true;
+  secondary = secondary;
+  entry = entry;
+  first = first;
+  second = second;
+  differs = differs;
+  referenced = referenced;
+  changed = changed;
+}
+
+-- VSID 0x0C701C and API 3 match in entries 1, 3 and 6 with H = 0 and in entry 0 with H = 1; entries 2 and 5 are free
+abbrev pub mixed : ℕ → ℕ → ℕ → ℕ → ℕ → ℕ → List ℕ
+mixed first₁ second₁ first₃ second₃ first₆ second₆ = bytesOf (
+    0x86380E43 ∷ 0x12345012
+    ∷ first₁ ∷ second₁
+    ∷ 0x06380E03 ∷ 0x12345E96
+    ∷ first₃ ∷ second₃
+    ∷ 0x86380E83 ∷ 0x12345E96
+    ∷ 0 ∷ 0
+    ∷ first₆ ∷ second₆
+    ∷ 0xFFFFFFFF ∷ 0xFFFFFFFF
+    ∷ []
+    )
+
+abbrev pub example : List ℕ
+example = mixed 0x86380E03 0x12345E96 0x86380E03 0x12345E96 0x86380E03 0x12345112
+
+-- no entry is free
+abbrev pub full : List ℕ
+full = replicate 64 255
+
+-- only entry 7 is free
+abbrev pub last : List ℕ
+last = replicate 56 255 ++ (127 ∷ replicate 7 255)
+
+pub record GroupsTables : Type 0 where
+  -- case 1; each end of the 19 bits, and the page index alone
+  pub hashes : Hold (
+      (hashOf 0x0C701C 0x0FFA, 0x47FE6)
+      ∷ (hashOf 0xFFFFFF 0, 0x7FFFF)
+      ∷ (hashOf 0x40000 0, 0x40000)
+      ∷ (hashOf 0x80000 0, 0)
+      ∷ (hashOf 0 0xFFFF, 0xFFFF)
+      ∷ (hashOf 0xFFFF 0xFFFF, 0)
+      ∷ []
+      )
+  -- case 1, which is the manual's example of section 7.7.1.7: a table of 8192 groups at 0F980000
+  pub case-1 : Hold (
+      (2 ^ hashBits 0x0F980007, 8192)
+      ∷ (groupAddress 0x0F980007 0, 0x0F980000)
+      ∷ (groupAddress 0x0F980007 (groupNumber (hashBits 0x0F980007) false (page 0x0C701C 0x0FFA)), 0x0F9FF980)
+      ∷ (groupAddress 0x0F980007 (groupNumber (hashBits 0x0F980007) true (page 0x0C701C 0x0FFA)), 0x0F980640)
+      ∷ []
+      )
+  -- and its note: the three highest bits of the page index play no part in the group's number there
+  pub same-group : map (λ index. groupNumber 13 false (page 0x0C701C index)) (0x0FFA ∷ 0x2FFA ∷ 0x4FFA ∷ 0x6FFA ∷ 0x8FFA ∷ 0xAFFA ∷ 0xCFFA ∷ 0xEFFA ∷ [])
+      ≡ replicate 8 0x1FE6
+  -- cases 6 and 11
+  pub groups : Hold (
+      (groupNumber (hashBits 0x0F980000) false (page 0x0C701C 0x0FFA), 0x3E6)
+      ∷ (groupNumber (hashBits 0x0F980000) true (page 0x0C701C 0x0FFA), 0x019)
+      ∷ (groupNumber (hashBits 0) false (page 0x3C00 0), 0)
+      ∷ (groupNumber (hashBits 0) true (page 0x3C00 0), 0x3FF)
+      ∷ (groupNumber (hashBits 0) false (page 0 0x3FF), 0x3FF)
+      ∷ (groupNumber (hashBits 0) true (page 0 0x3FF), 0)
+      ∷ (groupNumber 19 true (page 0x0C701C 0x0FFA), 0x38019)
+      ∷ []
+      )
+  pub pages : Hold (
+      (samePage (page 1 2) (page 1 2), true)
+      ∷ (samePage (page 1 2) (page 3 2), false)
+      ∷ (samePage (page 1 2) (page 1 3), false)
+      ∷ []
+      )
+  -- every match is found, in order, and H tells which
+  pub found : Hold (
+      (matchesIn true 0x0C701C 3 example, matched true 0 0x86380E43 0x12345012 ∷ [])
+      ∷ (
+        matchesIn false 0x0C701C 3 example,
+        matched false 1 0x86380E03 0x12345E96 ∷ matched false 3 0x86380E03 0x12345E96 ∷ matched false 6 0x86380E03 0x12345112 ∷ [],
+      )
+      ∷ (matchesIn false 0x0C701D 3 example, matched false 4 0x86380E83 0x12345E96 ∷ [])
+      ∷ (matchesIn true 0xFFFFFF 63 example, matched true 7 0xFFFFFFFF 0xFFFFFFFF ∷ [])
+      ∷ (matchesIn false 0xFFFFFF 63 example, [])
+      ∷ (matchesIn false 0x0C701C 2 example, [])
+      ∷ []
+      )
+  -- the first match in search order, a further one that contradicts, and R and C of any; twins do not contradict
+  pub summaries : Hold (
+      (summary (matchesOf 0x0C701C 3 example example), told false 1 0x86380E03 0x12345E96 true true true)
+      ∷ (summary (matchesOf 0x0C701C 3 full example), told true 0 0x86380E43 0x12345012 false false false)
+      ∷ (
+        summary (matched false 1 0x86380E03 0x12345E96 ∷ matched false 3 0x86380E03 0x12345E96 ∷ []),
+        told false 1 0x86380E03 0x12345E96 false false true,
+      )
+      ∷ (
+        summary (matched false 6 0x86380E03 0x12345112 ∷ matched true 0 0x86380E43 0x12345012 ∷ []),
+        told false 6 0x86380E03 0x12345112 true true false,
+      )
+      ∷ (
+        summary (matched false 1 0x86380E03 0x12345012 ∷ matched false 2 0x86380E03 0x12345016 ∷ matched true 0 0x86380E43 0x12345012 ∷ []),
+        told false 1 0x86380E03 0x12345012 true false false,
+      )
+      ∷ (summary (matchesOf 0x0C701C 2 example example), nothingFound)
+      ∷ []
+      )
+  -- the first free entry: of the primary group, of the secondary where the primary is full, or none
+  pub free-places : Hold (
+      (freePlace example last, Entry false 2)
+      ∷ (freePlace last example, Entry false 7)
+      ∷ (freePlace full example, Entry true 2)
+      ∷ (freePlace full last, Entry true 7)
+      ∷ (freePlace (replicate 64 0) example, Entry false 0)
+      ∷ (freePlace full (replicate 64 0), Entry true 0)
+      ∷ (freePlace full full, Full)
+      ∷ []
+      )
+  -- eight zero bytes over each match; another PP in each, every other bit kept, the ignored ones too; and the match of the other H alone
+  pub edits : Hold (
+      (editMatches Clear false 0x0C701C 3 example, mixed 0 0 0 0 0 0)
+      ∷ (editMatches (Protect 1) false 0x0C701C 3 example, mixed 0x86380E03 0x12345E95 0x86380E03 0x12345E95 0x86380E03 0x12345111)
+      ∷ (editMatches Clear true 0xFFFFFF 63 full, replicate 64 0)
+      ∷ (editMatches Clear false 0xFFFFFF 63 full, full)
+      ∷ []
+      )
+  -- groups of a table, and an entry put in one
+  pub stored : Hold (
+      (groupOf (example ++ full ++ last) 1, full)
+      ∷ (groupOf (example ++ full ++ last) 2, last)
+      ∷ (putAt (example ++ full ++ full) 2 7 0x7FFFFFFF 0xFFFFFFFF, example ++ full ++ last)
+      ∷ []
+      )
+  pub words : Hold (
+      (firstOf (full ++ example) 1 6, 0x86380E03)
+      ∷ (secondOf (full ++ example) 1 6, 0x12345112)
+      ∷ []
+      )

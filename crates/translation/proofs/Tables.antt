@@ -1,0 +1,36 @@
+-- Every row of the tables of an access holds: both sides compute to the same.
+use mathlib.Core.Path.{refl}
+use Rattle.words.specs.Below.{firstFrom, firstBelow}
+use Rattle.entry.specs.Entry.{pageIndex, physicalAddress}
+use Rattle.registers.specs.Segment.{supervisorKey, userKey, noExecute, segmentVsid}
+use Rattle.registers.specs.Block.{blockAttributes, blockPP, blockPhysical, validFor, inBlock, covers}
+use Rattle.registers.specs.Set.{pairCovers, coveringPair}
+use Rattle.registers.specs.Tables.{blank, one, two, three}
+use Rattle.translation.specs.Access.{userMode, fetching, storing, relocated, sideOf, keyOf}
+use Rattle.translation.specs.Protection.{pageReadable, pageWritable, pageAllows, blockAllows, guarded}
+use Rattle.translation.specs.Fault.{causeWord, storeWord, faultOf}
+use Rattle.translation.specs.Steps.{blockOutcome, beforeSearch, pageOutcome, afterSearch, outcomeOf, answerOf}
+use Rattle.translation.specs.Tables.{AccessTables}
+
+pub access-tables : AccessTables
+unfolding firstFrom firstBelow pageIndex physicalAddress supervisorKey userKey noExecute segmentVsid blockAttributes blockPP blockPhysical validFor inBlock covers pairCovers coveringPair blank one two three userMode fetching storing relocated sideOf keyOf pageReadable pageWritable pageAllows blockAllows guarded causeWord storeWord faultOf blockOutcome beforeSearch pageOutcome afterSearch outcomeOf answerOf
+access-tables = record {
+  privilege = record { equal = refl };
+  relocation = record { equal = refl };
+  sides = record { equal = refl };
+  keys = record { equal = refl };
+  page-rights = record { equal = refl };
+  block-rights = record { equal = refl };
+  guards = record { equal = refl };
+  faults = record { equal = refl };
+  real-mode = record { equal = refl };
+  blocks = record { equal = refl };
+  block-sides = record { equal = refl };
+  block-privilege = record { equal = refl };
+  block-before-segment = record { equal = refl };
+  segments = record { equal = refl };
+  searched = record { equal = refl };
+  pages = record { equal = refl };
+  answers = record { equal = refl };
+  accesses = record { equal = refl };
+}

@@ -1,0 +1,124 @@
+-- What is stated of one access for all arguments, beside the rows of the tables: each step of document 01 with its conditions, and what an outcome answers.
+use Prim.Native.Nat.{ℕ, _+_, _/_, _%_, _^_, _<_}
+use mathlib.Core.Bool.{Bool, true, false, _&&_}
+use mathlib.Core.List.{List}
+use mathlib.Core.Logic.{_↔_}
+use mathlib.Core.Path.{_≡_}
+use Rattle.words.specs.Bits.{placed}
+use Rattle.words.specs.Ones.{bitLength}
+use Rattle.entry.specs.Entry.{rpnOf, wimgOf, ppOf}
+use Rattle.entry.specs.RoundTrip.{PackingAgrees}
+use Rattle.entry.specs.Tables.{EntryTables}
+use Rattle.registers.specs.Segment.{noExecute}
+use Rattle.registers.specs.Block.{brpnOf, blOf, upperShape, lowerShape, blockAttributes, blockPP, blockPhysical}
+use Rattle.registers.specs.Blocks.{BlocksDecide}
+use Rattle.registers.specs.Set.{upperOf, lowerOf, checkWords, pairCovers}
+use Rattle.translation.specs.Access.{userMode, fetching, relocated, sideOf}
+use Rattle.translation.specs.Protection.{pageAllows, blockAllows, guarded}
+use Rattle.translation.specs.Fault.{faultOf}
+use Rattle.translation.specs.Steps.{segmentAt, wantedOf, beforeSearch, afterSearch, outcomeOf, doneAnswer, refusedAnswer, answerOf}
+use Rattle.translation.specs.Tables.{AccessTables}
+use Rattle.translation.specs.declared.Outcome.{Outcome}
+use Rattle.translation.specs.declared.Outcome.the-variants.{Real, Block, BlockProtection, NoExecute, NoMatch, Guarded, Protection, Done, Refused}
+use Rattle.translation.specs.declared.Wanted.{Wanted}
+use Rattle.translation.specs.declared.Early.the-variants.{Decided, Search}
+use Rattle.translation.specs.declared.Searched.{Searched}
+use Rattle.translation.specs.declared.Searched.the-variants.{Nothing, At, Contradicting}
+
+-- the outcomes of steps 1 to 3; the others come of the search
+unfoldable pub earlyOutcome : Outcome → Bool
+earlyOutcome Real = true
+earlyOutcome (Block i physical attributes) = true
+earlyOutcome (BlockProtection i) = true
+earlyOutcome NoExecute = true
+earlyOutcome NoMatch = false
+earlyOutcome Guarded = false
+earlyOutcome Protection = false
+earlyOutcome (Done second) = false
+earlyOutcome (Refused number) = false
+
+-- steps 1 to 3: in each case that they tell apart, what they come to
+pub record StepsBefore (pairs width : ℕ) (words : List ℕ) (mode kind address : ℕ) : Type 0 where
+  -- step 1: IR off for a fetch, DR off for data
+  pub real-mode : relocated mode kind ≡ false → beforeSearch pairs width words mode kind address ≡ Decided Real
+  -- step 2: the block of the side that covers the address decides, by its PP
+  pub block-done : relocated mode kind ≡ true → checkWords pairs width words ≡ 0
+      → (i : ℕ) → i < pairs → pairCovers pairs width words (sideOf kind) (userMode mode) address i ≡ true
+      → blockAllows (blockPP (lowerOf pairs words (sideOf kind) i)) kind ≡ true
+      → let upper = upperOf pairs words (sideOf kind) i in
+      let lower = lowerOf pairs words (sideOf kind) i in
+      beforeSearch pairs width words mode kind address ≡ Decided (Block i (blockPhysical width upper lower address) (blockAttributes lower))
+  pub block-fault : relocated mode kind ≡ true → checkWords pairs width words ≡ 0
+      → (i : ℕ) → i < pairs → pairCovers pairs width words (sideOf kind) (userMode mode) address i ≡ true
+      → blockAllows (blockPP (lowerOf pairs words (sideOf kind) i)) kind ≡ false
+      → beforeSearch pairs width words mode kind address ≡ Decided (BlockProtection i)
+  -- step 3: where no block of the side covers it, a fetch with N = 1 faults, and else the page is looked for
+  pub no-execute : relocated mode kind ≡ true
+      → ((i : ℕ) → i < pairs → pairCovers pairs width words (sideOf kind) (userMode mode) address i ≡ false)
+      → fetching kind && noExecute (segmentAt words address) ≡ true
+      → beforeSearch pairs width words mode kind address ≡ Decided NoExecute
+  pub looks : relocated mode kind ≡ true
+      → ((i : ℕ) → i < pairs → pairCovers pairs width words (sideOf kind) (userMode mode) address i ≡ false)
+      → fetching kind && noExecute (segmentAt words address) ≡ false
+      → beforeSearch pairs width words mode kind address ≡ Search (wantedOf (userMode mode) (segmentAt words address) address)
+  -- the page looked for is in the page calls' range
+  pub in-range : (wanted : Wanted) → beforeSearch pairs width words mode kind address ≡ Search wanted → (wanted .vsid < 2 ^ 24) × (wanted .index < 2 ^ 16)
+  -- no other outcome is decided before the search
+  pub only-early : (outcome : Outcome) → beforeSearch pairs width words mode kind address ≡ Decided outcome → earlyOutcome outcome ≡ true
+  -- N is met by a fetch alone
+  pub only-fetches : beforeSearch pairs width words mode kind address ≡ Decided NoExecute → kind ≡ 0
+
+-- steps 4 to 7: what the search found, and the entry's G and PP
+pub record StepsAfter (kind : ℕ) (key : Bool) : Type 0 where
+  -- step 4
+  pub contradiction : afterSearch kind key Contradicting ≡ Refused 10
+  pub no-match : afterSearch kind key Nothing ≡ NoMatch
+  -- step 5: a fetch with G = 1
+  pub guarded-fetch : (second : ℕ) → fetching kind && guarded (wimgOf second) ≡ true → afterSearch kind key (At second) ≡ Guarded
+  -- step 6: neither that, nor allowed
+  pub page-fault : (second : ℕ) → fetching kind && guarded (wimgOf second) ≡ false → pageAllows key (ppOf second) kind ≡ false
+      → afterSearch kind key (At second) ≡ Protection
+  -- step 7: an access is done by an entry exactly when the search found it and steps 5 and 6 let it pass
+  pub page-done : (searched : Searched) (second : ℕ)
+      → (afterSearch kind key searched ≡ Done second)
+      ↔ ((searched ≡ At second) × ((fetching kind && guarded (wimgOf second) ≡ false) × (pageAllows key (ppOf second) kind ≡ true)))
+  -- a store is done only by a page that its key may write
+  pub store-done : (searched : Searched) (second : ℕ) → kind ≡ 2 → afterSearch kind key searched ≡ Done second
+      → (key ≡ false → ppOf second ≡ 3 → ⊥) × (key ≡ true → ppOf second ≡ 2)
+  -- no outcome of an earlier step comes of the search
+  pub only-late : (searched : Searched) → earlyOutcome (afterSearch kind key searched) ≡ false
+  -- G is met by a fetch alone
+  pub only-fetches : (searched : Searched) → afterSearch kind key searched ≡ Guarded → kind ≡ 0
+  -- of the entry only RPN, WIMG and PP play a part in the answer
+  pub by-fields : (address u w : ℕ) → rpnOf u ≡ rpnOf w → wimgOf u ≡ wimgOf w → ppOf u ≡ ppOf w
+      → answerOf kind address (afterSearch kind key (At u)) ≡ answerOf kind address (afterSearch kind key (At w))
+
+-- what an access answers
+pub record AnswersStated (kind address : ℕ) : Type 0 where
+  -- in real mode the address itself, whatever the registers hold and whatever a search would find
+  pub real-mode : (pairs width : ℕ) (words : List ℕ) (mode : ℕ) (search : Wanted → Searched) → relocated mode kind ≡ false
+      → answerOf kind address (outcomeOf kind search (beforeSearch pairs width words mode kind address)) ≡ doneAnswer address 3 address
+  -- done by a page: 0, the entry's frame with the byte in the page, the entry's attributes
+  pub done : (second : ℕ) → answerOf kind address (Done second) .result ≡ 0
+  pub frame : (second : ℕ) → answerOf kind address (Done second) .address / 2 ^ 12 ≡ rpnOf second
+  pub byte : (second : ℕ) → answerOf kind address (Done second) .address % 2 ^ 12 ≡ address % 2 ^ 12
+  pub attributes : (second : ℕ) → answerOf kind address (Done second) .attributes ≡ wimgOf second
+  -- a fetch's fault is 65 at 0x400, any other's 64 at 0x300, whatever the cause
+  pub fetch-fault : (cause : ℕ) → kind ≡ 0 → (faultOf cause kind .result ≡ 65) × (faultOf cause kind .offset ≡ 0x400)
+  pub data-fault : (cause : ℕ) → (kind ≡ 0 → ⊥) → (faultOf cause kind .result ≡ 64) × (faultOf cause kind .offset ≡ 0x300)
+  -- the effective address is answered unless the access is refused; then the last three words are zero
+  pub effective : (outcome : Outcome) → ((number : ℕ) → outcome ≡ Refused number → ⊥) → answerOf kind address outcome .effective ≡ address
+  pub refused : (number : ℕ) → answerOf kind address (Refused number) ≡ refusedAnswer number
+
+-- demand 2: packing, entries, blocks and the steps of an access are as document 01 states them
+pub record AccessAsStated : Type 0 where
+  pub packing : PackingAgrees
+  pub entries : EntryTables
+  pub blocks : BlocksDecide 4 11
+  -- in a block of right shape the physical address is its physical start and the address's 17 + k low bits, where BL has k ones
+  pub block-physical : (side : Bool) (upper lower address : ℕ) → upperShape 11 upper ≡ true → lowerShape 11 side upper lower ≡ true
+      → blockPhysical 11 upper lower address ≡ placed 14 (brpnOf lower) + address % 2 ^ (17 + bitLength (blOf 11 upper))
+  pub before : (words : List ℕ) (mode kind address : ℕ) → StepsBefore 4 11 words mode kind address
+  pub after : (kind : ℕ) (key : Bool) → StepsAfter kind key
+  pub answers : (kind address : ℕ) → AnswersStated kind address
+  pub tables : AccessTables

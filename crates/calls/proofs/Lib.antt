@@ -9,3 +9,5 @@ pub mod Histories
 pub mod Theorem
 pub mod Changes
 pub mod Corollaries
+pub mod PageCalls
+pub mod Access

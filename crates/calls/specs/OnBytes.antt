@@ -5,12 +5,12 @@ use mathlib.Core.List.{List, [], _∷_}
 use mathlib.Core.Option.{Option, none, some}
 use lib.Dec.{eqb}
 use lib.ListN.{length, replicate}
-use Rattle.entry.specs.Entry.{firstWord, secondWord, matches, free, apiOf, referenced, changed, withMarks, withPP}
+use Rattle.entry.specs.Entry.{firstWord, secondWord, matches, free, apiOf, withMarks, withPP}
 use Rattle.registers.specs.Sdr1.{maskOnes}
 use Rattle.groups.specs.Page.{Page}
 use Rattle.groups.specs.Hash.{groupNumber}
 use Rattle.groups.specs.Group.{firstOf, secondOf, putAt}
-use Rattle.groups.specs.Search.{hOf, agree, anyMatch}
+use Rattle.groups.specs.Search.{hOf, disagrees, isReferenced, isChanged, anyMatch}
 use Rattle.tables.specs.Matches.{Match}
 use Rattle.tables.specs.Layout.{Layout, matchesOf, freePlace, overwrite, overwriteEach}
 use Rattle.translation.specs.Access.{storing}
@@ -58,13 +58,13 @@ abbrev pub byOption : {A X : Type 0} → Option A → X → (A → X) → X
 byOption none missing found = missing
 byOption (some a) missing found = found a
 
--- the matches contradict: some other one does not agree with the first
+-- the matches contradict: some other one's second word does not agree with the first's
 unfoldable pub contradict : Match → List Match → Bool
-contradict x xs = anyMatch (λ y. cond (agree (x .second) (y .second)) false true) xs
+contradict x xs = anyMatch (disagrees (x .second)) xs
 
 -- the first match's second word, with R and C each set if any match had it
 unfoldable pub merged : Match → List Match → ℕ
-merged x xs = withMarks (anyMatch (λ y. referenced (y .second)) (x ∷ xs)) (anyMatch (λ y. changed (y .second)) (x ∷ xs)) (x .second)
+merged x xs = withMarks (anyMatch isReferenced (x ∷ xs)) (anyMatch isChanged (x ∷ xs)) (x .second)
 
 -- the first word of a page's entry in its primary or its secondary group
 unfoldable pub entryWord : Bool → Page → ℕ

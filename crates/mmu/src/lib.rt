@@ -1,4 +1,8 @@
 // The exported calls. Each contract gives the result number and every lent byte by a definition of the crate `calls`, for all inputs.
+mod access;
+mod located;
+mod pages;
+
 ghost use mathlib.Core.Path.{_≡_};
 ghost use Rattle.calls.specs.Lent.{left};
 ghost use Rattle.calls.specs.WithoutTable.{checkCall, setRegisterCall, packCall, unpackCall};

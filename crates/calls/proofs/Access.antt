@@ -1,0 +1,199 @@
+-- The cases of an access on bytes: its rules after 11, what one pass over a page's matches says of the search and of the mark, and what the call leaves.
+use mathlib.Core.Path.{_≡_, refl, sym, ap, ap₂, _∙_}
+use mathlib.Core.Bool.{Bool, true, false, cond, not, _&&_, _||_, true≢false}
+use mathlib.Core.List.{List, [], _∷_, _++_, List·Memᴰ, List·Memᴰ·head}
+use Prim.Native.Nat.{ℕ, _+_, _<_}
+use native.Mathlib.Omega.{arith}
+use lib.Dec.{eqb, ltb}
+use lib.ListN.{length}
+use borrow.Author.Tests.{eq-eqb, ne-eqb, eqb-true}
+use Rattle.entry.specs.Entry.{withMarks}
+use Rattle.registers.specs.Rules.{firstBroken}
+use Rattle.registers.specs.Sdr1.{sdr1Shape, tableLength, maskOnes}
+use Rattle.registers.specs.Set.{sdr1Of, segmentsShape, sideShape, sideApart, registerRules, checkWords}
+use Rattle.registers.proofs.Set.{checked}
+use Rattle.groups.specs.Hash.{groupNumber}
+use Rattle.groups.specs.Group.{putAt}
+use Rattle.groups.specs.Search as groups
+use Rattle.groups.specs.declared.Search.{Search as Summary}
+use Rattle.groups.proofs.Summary.{Summarised, summary-none, summarised}
+use Rattle.tables.specs.Matches.{Match}
+use Rattle.tables.specs.Layout.{matchesOf, overwrite}
+use Rattle.tables.proofs.Groups.{members-of}
+use Rattle.translation.specs.Access.{storing}
+use Rattle.translation.specs.Steps.{beforeSearch, afterSearch, outcomeOf, answerOf, refusedAnswer}
+use Rattle.translation.specs.declared.Early.{Early}
+use Rattle.translation.specs.declared.Early.the-variants.{Decided, Search}
+use Rattle.translation.specs.declared.Outcome.{Outcome}
+use Rattle.translation.specs.declared.Outcome.the-variants.{Done}
+use Rattle.translation.specs.declared.Searched.the-variants.{Nothing, At, Contradicting}
+use Rattle.translation.specs.declared.Wanted.{Wanted}
+use Rattle.translation.proofs.Steps.{done-passes}
+use Rattle.calls.specs.Request.{Request, access, registerWords, sdr1In, fed}
+use Rattle.calls.specs.Rules.{argumentOutOfRange, tableLengthWrong, rules, refusal}
+use Rattle.calls.specs.Answers as answers
+use Rattle.calls.specs.Answers.{accessAnswer, answerRefused, doneByPage}
+use Rattle.calls.specs.OnBytes.{layout, ended, byMatches, contradict, wantedPage, searched, markedBy, bytesDo, onBytes}
+use Rattle.calls.proofs.OnBytes.{taken, refused}
+
+-- ---- the rules after 11
+
+-- the rules of an access after 11, given the words of its register page
+abbrev pub rulesThen : List ℕ → ℕ → ℕ → ℕ → List (Bool × ℕ)
+rulesThen words mode kind lent = argumentOutOfRange (ltb mode 8 && ltb kind 3) ∷ registerRules 4 11 words ++ (tableLengthWrong (sdr1Of words) lent ∷ [])
+
+module _ (words : List ℕ) (mode kind lent : ℕ) where
+  -- they are 6, then the check of the set, then the table's length; none is 11
+  rules-are : (firstBroken (rulesThen words mode kind lent)
+      ≡ cond (ltb mode 8 && ltb kind 3)
+      (cond (eqb (checkWords 4 11 words) 0) (cond (eqb lent (tableLength (sdr1Of words))) 0 1) (checkWords 4 11 words))
+      6) × (eqb (firstBroken (rulesThen words mode kind lent)) 11 ≡ false)
+  unfolding checkWords
+  rules-are =
+      go (ltb mode 8 && ltb kind 3) (sdr1Shape (sdr1Of words)) (sideShape 4 11 words false && sideShape 4 11 words true)
+      (sideApart 4 11 words false && sideApart 4 11 words true) (segmentsShape words) (eqb lent (tableLength (sdr1Of words)))
+    where
+      go : (range sdr1 shape apart segments long : Bool)
+          → let set : List (Bool × ℕ) = (not sdr1, 2) ∷ (not shape, 3) ∷ (not apart, 4) ∷ (not segments, 5) ∷ [] in
+          let all : List (Bool × ℕ) = (not range, 6) ∷ set ++ ((not long, 1) ∷ []) in
+          (firstBroken all ≡ cond range (cond (eqb (firstBroken set) 0) (cond long 0 1) (firstBroken set)) 6) × (eqb (firstBroken all) 11 ≡ false)
+      go false sdr1 shape apart segments long = (refl, refl)
+      go true false shape apart segments long = (refl, refl)
+      go true true false apart segments long = (refl, refl)
+      go true true true false segments long = (refl, refl)
+      go true true true true false long = (refl, refl)
+      go true true true true true false = (refl, refl)
+      go true true true true true true = (refl, refl)
+
+  pub then-range : (ltb mode 8 && ltb kind 3) ≡ false → firstBroken (rulesThen words mode kind lent) ≡ 6
+  then-range out = rw out
+
+  module _ (range : (ltb mode 8 && ltb kind 3) ≡ true) where
+    pub then-check : (checkWords 4 11 words ≡ 0 → ⊥) → firstBroken (rulesThen words mode kind lent) ≡ checkWords 4 11 words
+    then-check broken = rw (rules-are .0, range, ne-eqb (checkWords 4 11 words) 0 broken)
+
+    module _ (passed : checkWords 4 11 words ≡ 0) where
+      pub then-length : (lent ≡ tableLength (sdr1Of words) → ⊥) → firstBroken (rulesThen words mode kind lent) ≡ 1
+      then-length wrong = rw (rules-are .0, range, eq-eqb (checkWords 4 11 words) 0 passed, ne-eqb lent (tableLength (sdr1Of words)) wrong)
+
+      pub then-none : lent ≡ tableLength (sdr1Of words) → firstBroken (rulesThen words mode kind lent) ≡ 0
+      then-none right = rw (rules-are .0, range, eq-eqb (checkWords 4 11 words) 0 passed, eq-eqb lent (tableLength (sdr1Of words)) right)
+
+  pub then-not-11 : eqb (firstBroken (rulesThen words mode kind lent)) 11 ≡ false
+  then-not-11 = rules-are .1
+
+  -- an access that none of them refuses has a table of its SDR1
+  pub then-kept : firstBroken (rulesThen words mode kind lent) ≡ 0 → (sdr1Shape (sdr1Of words) ≡ true) × (lent ≡ tableLength (sdr1Of words))
+  then-kept e =
+      go (ltb mode 8 && ltb kind 3) (eqb (checkWords 4 11 words) 0) (eqb lent (tableLength (sdr1Of words))) refl refl (sym (rules-are .0) ∙ e)
+    where
+      go : (range passed long : Bool) → eqb (checkWords 4 11 words) 0 ≡ passed → eqb lent (tableLength (sdr1Of words)) ≡ long
+          → cond range (cond passed (cond long 0 1) (checkWords 4 11 words)) 6 ≡ 0 → (sdr1Shape (sdr1Of words) ≡ true) × (lent ≡ tableLength (sdr1Of words))
+      go true true true p l z = (checked 4 11 words (eqb-true _ 0 p) .sdr1, eqb-true lent (tableLength (sdr1Of words)) l)
+      go true true false p l z = absurd (omega arith)
+      go true false long p l z = absurd (true≢false (sym (eq-eqb _ 0 z) ∙ p))
+      go false passed long p l z = absurd (omega arith)
+
+-- ---- what one pass over the matches says
+
+module _ (s : Summary) where
+  -- by the list that was passed over: none, or the first match and the others
+  by-list : (P : List Match → Type 0) (ms : List Match) → s ≡ groups.summary ms
+      → (s ≡ groups.nothingFound → P []) → ((x : Match) (xs : List Match) → Summarised x xs s → P (x ∷ xs)) → P ms
+  by-list P [] e none found = none (e ∙ summary-none)
+  by-list P (x ∷ xs) e none found = found x xs (rw e (summarised x xs))
+
+  module _ (ms : List Match) (e : s ≡ groups.summary ms) where
+    pub searched-nothing : s .found ≡ false → searched ms ≡ Nothing
+    unfolding searched
+    searched-nothing f = by-list (λ l. searched l ≡ Nothing) ms e (λ z. refl) (λ x xs m. absurd (true≢false (sym (m .found) ∙ f)))
+
+    pub searched-contradicting : s .found ≡ true → s .differs ≡ true → searched ms ≡ Contradicting
+    unfolding searched contradict groups.nothingFound
+    searched-contradicting f d =
+        by-list (λ l. searched l ≡ Contradicting) ms e (λ z. absurd (true≢false (sym f ∙ ap (λ (r : Summary). r .found) z)))
+        (λ x xs m. rw (← m .differs, d))
+
+    pub searched-at : s .found ≡ true → s .differs ≡ false → searched ms ≡ At (s .second)
+    unfolding searched contradict groups.nothingFound
+    searched-at f d =
+        by-list (λ l. searched l ≡ At (s .second)) ms e (λ z. absurd (true≢false (sym f ∙ ap (λ (r : Summary). r .found) z)))
+        (λ x xs m. rw (← m .differs, d) (ap At (sym (m .second))))
+
+    -- an access is done only by the first match
+    pub record ByFirst (second : ℕ) : Type 0 where
+      pub found : s .found ≡ true
+      pub word : s .second ≡ second
+
+    pub done-by-first : (kind : ℕ) (key : Bool) (second : ℕ) → afterSearch kind key (searched ms) ≡ Done second → ByFirst second
+    done-by-first kind key second done =
+        go (s .found) (s .differs) refl refl (done-passes kind key (searched ms) second done .found)
+      where
+        go : (t d : Bool) → s .found ≡ t → s .differs ≡ d → searched ms ≡ At second → ByFirst second
+        go true false f g a = record { found = f; word = let same = sym (searched-at f g) ∙ a in cc }
+        go true true f g a = let other = sym (searched-contradicting f g) ∙ a in absurd (true≢false (cc))
+        go false d f g a = let other = sym (searched-nothing f) ∙ a in absurd (true≢false (cc))
+
+-- ---- the mark
+
+-- an outcome by which no page did the access leaves the table
+pub unmarked : (k kind : ℕ) (early : Early) (outcome : Outcome) (t : List ℕ) → doneByPage outcome ≡ false → markedBy k kind early outcome t ≡ t
+unfolding markedBy
+unmarked k kind (Decided decided) outcome t n = refl
+unmarked k kind (Search wanted) outcome t n = rw n
+
+pub unmarked-decided : (k kind : ℕ) (decided outcome : Outcome) (t : List ℕ) → markedBy k kind (Decided decided) outcome t ≡ t
+unfolding markedBy
+unmarked-decided k kind decided outcome t = refl
+
+module _ (k : ℕ) (wanted : Wanted) (t : List ℕ) (s : Summary) (e : s ≡ groups.summary (matchesOf (layout k) t (wantedPage wanted))) where
+  -- the entry told is one of eight
+  pub first-entry-lt : s .entry < 8
+  unfolding groups.nothingFound
+  first-entry-lt =
+      by-list s (λ l. ((x : Match) → List·Memᴰ x l → x .entry < 8) → s .entry < 8) (matchesOf (layout k) t (wantedPage wanted)) e
+      (λ z h. rw z (omega arith))
+      (λ x xs m h. rw (m .entry) (h x (List·Memᴰ·head refl)))
+      (λ x h. members-of (layout k) t (wantedPage wanted) x h .in-range)
+
+  -- an access done by the page marks the first match, where the search told
+  pub marked-done : (kind second : ℕ) → s .found ≡ true
+      → markedBy k kind (Search wanted) (Done second) t
+      ≡ putAt t (groupNumber (10 + k) (s .secondary) (wantedPage wanted)) (s .entry) (s .first) (withMarks true (storing kind) (s .second))
+  unfolding markedBy doneByPage overwrite groups.nothingFound
+  marked-done kind second f =
+      by-list s (λ l. byMatches l t (λ x xs. overwrite (layout k) (wantedPage wanted) x (x .first) (withMarks true (storing kind) (x .second)) t)
+      ≡ putAt t (groupNumber (10 + k) (s .secondary) (wantedPage wanted)) (s .entry) (s .first) (withMarks true (storing kind) (s .second)))
+      (matchesOf (layout k) t (wantedPage wanted)) e
+      (λ z. absurd (true≢false (sym f ∙ ap (λ (r : Summary). r .found) z)))
+      (λ x xs m. rw (m .secondary, m .entry, m .first, m .second))
+
+-- ---- the call
+
+module _ (page : List ℕ) (mode kind address : ℕ) (answer t : List ℕ) where
+  abbrev request : Request (List ℕ)
+  request = access page mode kind address answer
+
+  pub access-wrong-length : (eqb (length page) 132 && eqb (length answer) 16) ≡ false → onBytes request t ≡ ended 11 t answer
+  unfolding refusal rules fed answerRefused answers.refusedAnswer
+  access-wrong-length w = refused request t 11 (rw w) (λ z. omega arith)
+
+  module _ (page-length : length page ≡ 132) (answer-length : length answer ≡ 16) where
+    after-11 : refusal (fed request) (length t) ≡ firstBroken (rulesThen (registerWords page) mode kind (length t))
+    unfolding refusal rules fed
+    after-11 = rw (page-length, answer-length)
+
+    pub access-refused : (number : ℕ) → number ≡ firstBroken (rulesThen (registerWords page) mode kind (length t)) → (number ≡ 0 → ⊥)
+        → onBytes request t ≡ ended number t (accessAnswer (refusedAnswer number))
+    unfolding answerRefused answers.refusedAnswer accessAnswer
+    access-refused number e n =
+        refused request t number (after-11 ∙ sym e) n
+        ∙ (rw (ap (λ (k : ℕ). eqb k 11) e ∙ then-not-11 (registerWords page) mode kind (length t)))
+
+    pub access-taken : firstBroken (rulesThen (registerWords page) mode kind (length t)) ≡ 0 → (outcome : Outcome)
+        → let k = maskOnes (sdr1Of (registerWords page)) in
+        let early = beforeSearch 4 11 (registerWords page) mode kind address in
+        outcome ≡ outcomeOf kind (λ wanted. searched (matchesOf (layout k) t (wantedPage wanted))) early
+        → onBytes request t ≡ ended (answerOf kind address outcome .result) (markedBy k kind early outcome t) (accessAnswer (answerOf kind address outcome))
+    unfolding bytesDo sdr1In
+    access-taken z outcome e = taken request t (after-11 ∙ z) ∙ (rw e)

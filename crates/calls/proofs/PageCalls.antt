@@ -1,0 +1,327 @@
+-- The cases of the calls on one page, as the code meets them: what their three common rules refuse, what one search of a page's two groups
+-- says of the table's matches, and what its edit and its free entry are in the table.
+use mathlib.Core.Path.{_≡_, refl, sym, ap, ap₂, _∙_}
+use mathlib.Core.Bool.{Bool, true, false, cond, not, _&&_, _||_}
+use mathlib.Core.List.{List, [], _∷_}
+use mathlib.Core.Option.{Option, none, some}
+use Prim.Native.Nat.{ℕ, _+_, _*_, _^_, _≤_, _<_}
+use native.Mathlib.Omega.{arith}
+use lib.Dec.{eqb, ltb}
+use lib.ListN.{length, replicate}
+use borrow.Author.Tests.{eqb-true, ltb-true, ne-eqb, not-false}
+use Rattle.words.proofs.Tests.{both}
+use Rattle.entry.specs.Entry.{secondWord, apiOf, withMarks}
+use Rattle.registers.specs.Rules.{firstBroken}
+use Rattle.registers.specs.Sdr1.{sdr1Shape, tableLength, maskOnes}
+use Rattle.registers.proofs.Set.{rule-kept}
+use Rattle.groups.specs.Page.{Page}
+use Rattle.groups.specs.Hash.{groupNumber}
+use Rattle.groups.specs.Group as groups
+use Rattle.groups.specs.Group.{groupOf, onGroup, firstOf, putAt}
+use Rattle.groups.specs.Search as search
+use Rattle.groups.specs.Search.{agree, anyMatch, summary, nothingFound}
+use Rattle.groups.specs.Edit as edits
+use Rattle.groups.specs.Edit.{edited, editMatches}
+use Rattle.groups.specs.declared.Edit.{Edit}
+use Rattle.groups.specs.declared.Edit.the-variants.{Clear, Protect}
+use Rattle.groups.specs.declared.Place.{Place}
+use Rattle.groups.specs.declared.Place.the-variants.{Entry, Full}
+use Rattle.groups.specs.declared.Search.{Search}
+use Rattle.groups.proofs.Hash.{own-groups-differ}
+use Rattle.groups.proofs.Summary.{Summarised, summarised, summary-none}
+use Rattle.groups.proofs.Edits.{edit-both-each}
+use Rattle.tables.specs.Matches.{Match}
+use Rattle.tables.specs.Layout.{freeEntry, freePlace, matchesOf, overwrite, overwriteEach}
+use Rattle.calls.specs.Request.{Request, clear, mapPage, unmap, protect, look, sdr1In, fed}
+use Rattle.calls.specs.Rules.{pageInRange, writeThroughInhibited, argumentOutOfRange, sdr1Wrong, tableLengthWrong, rules, refusal}
+use Rattle.calls.specs.Answers.{wordAnswer, refusedAnswer, answerRefused}
+use Rattle.calls.specs.OnBytes.{layout, Ended, ended, contradict, merged, entryWord, bytesDo, onBytes}
+use Rattle.calls.proofs.OnBytes.{taken, refused, matches-by-groups}
+
+-- ---- the rules
+
+-- the rules that every call on a page has: 6, 2, 1
+abbrev pub pageRules : Bool → ℕ → ℕ → List (Bool × ℕ)
+pageRules inRange sdr1 lent = argumentOutOfRange inRange ∷ sdr1Wrong sdr1 ∷ tableLengthWrong sdr1 lent ∷ []
+
+-- what holds where none of them is broken
+pub record Kept (inRange : Bool) (sdr1 lent : ℕ) : Type 0 where
+  pub in-range : inRange ≡ true
+  pub shape : sdr1Shape sdr1 ≡ true
+  pub right-length : lent ≡ tableLength sdr1
+
+pub kept : (inRange : Bool) (sdr1 lent : ℕ) → firstBroken (pageRules inRange sdr1 lent) ≡ 0 → Kept inRange sdr1 lent
+kept inRange sdr1 lent passed =
+    let shape = sdr1Shape sdr1 in
+    let right = eqb lent (tableLength sdr1) in
+    let (kept₆, rest₆) = rule-kept (not inRange) 6 (cond (not shape) 2 (cond (not right) 1 0)) (λ e. omega arith) passed in
+    let (kept₂, rest₂) = rule-kept (not shape) 2 (cond (not right) 1 0) (λ e. omega arith) rest₆ in
+    let (kept₁, rest₁) = rule-kept (not right) 1 0 (λ e. omega arith) rest₂ in
+    record {
+      in-range = not-false inRange kept₆;
+      shape = not-false shape kept₂;
+      right-length = eqb-true lent (tableLength sdr1) (not-false right kept₁);
+    }
+
+-- 11 is none of their numbers
+not-11 : (inRange : Bool) (sdr1 lent : ℕ) → firstBroken (pageRules inRange sdr1 lent) ≡ 11 → ⊥
+not-11 inRange sdr1 lent = go (not inRange) (not (sdr1Shape sdr1)) (not (eqb lent (tableLength sdr1)))
+  where
+    go : (a b c : Bool) → firstBroken ((a, 6) ∷ (b, 2) ∷ (c, 1) ∷ []) ≡ 11 → ⊥
+    go true b c e = omega arith
+    go false true c e = omega arith
+    go false false true e = omega arith
+    go false false false e = omega arith
+
+-- what map asks of its arguments
+abbrev pub mapInRange : Page → ℕ → ℕ → ℕ → Bool
+mapInRange page rpn wimg pp = pageInRange page && ltb rpn (2 ^ 20) && ltb wimg (2 ^ 4) && ltb pp (2 ^ 2) && not (writeThroughInhibited wimg)
+
+pub record MapRanges (page : Page) (rpn wimg pp : ℕ) : Type 0 where
+  pub vsid-lt : page .vsid < 2 ^ 24
+  pub index-lt : page .index < 2 ^ 16
+  pub rpn-lt : rpn < 2 ^ 20
+  pub wimg-lt : wimg < 2 ^ 4
+  pub pp-lt : pp < 2 ^ 2
+
+pub map-ranges : (page : Page) (rpn wimg pp : ℕ) (inRange : Bool) → inRange ≡ mapInRange page rpn wimg pp → inRange ≡ true → MapRanges page rpn wimg pp
+unfolding pageInRange
+map-ranges page rpn wimg pp inRange same holds =
+    let (to-pp, _) = both _ _ (sym same ∙ holds) in
+    let (to-wimg, pp-lt) = both _ _ to-pp in
+    let (to-rpn, wimg-lt) = both _ _ to-wimg in
+    let (to-page, rpn-lt) = both _ _ to-rpn in
+    let (vsid-lt, index-lt) = both _ _ to-page in
+    record {
+      vsid-lt = ltb-true (page .vsid) (2 ^ 24) vsid-lt;
+      index-lt = ltb-true (page .index) (2 ^ 16) index-lt;
+      rpn-lt = ltb-true rpn (2 ^ 20) rpn-lt;
+      wimg-lt = ltb-true wimg (2 ^ 4) wimg-lt;
+      pp-lt = ltb-true pp (2 ^ 2) pp-lt;
+    }
+
+pub protect-range : (inRange : Bool) (pp : ℕ) → (inRange && ltb pp (2 ^ 2)) ≡ true → pp < 2 ^ 2
+protect-range inRange pp e = ltb-true pp (2 ^ 2) (both inRange (ltb pp (2 ^ 2)) e .1)
+
+-- a call whose refusal is by these rules, and the number that they give, by a test equal to its test of the ranges
+module _ (request : Request (List ℕ)) (t : List ℕ) (inRange fits : Bool) (sdr1 number : ℕ) (same : inRange ≡ fits)
+    (given : number ≡ firstBroken (pageRules inRange sdr1 (length t))) (by-rules : refusal (fed request) (length t) ≡ firstBroken (pageRules fits sdr1 (length t))) where
+  number-is : refusal (fed request) (length t) ≡ number
+  number-is = by-rules ∙ ap (λ (b : Bool). firstBroken (pageRules b sdr1 (length t))) (sym same) ∙ sym given
+
+  by-refusal : (number ≡ 0 → ⊥) → onBytes request t ≡ ended number t (answerRefused (λ lent. lent) request number)
+  by-refusal n = refused request t number number-is n
+
+  by-work : number ≡ 0 → (done : Ended) → done ≡ bytesDo (maskOnes (sdr1In request)) request t → done ≡ onBytes request t
+  by-work z done e = e ∙ sym (taken request t (number-is ∙ z))
+
+module _ (sdr1 : ℕ) (t : List ℕ) (number : ℕ) (given : number ≡ firstBroken (pageRules true sdr1 (length t))) where
+  pub clear-refused : (number ≡ 0 → ⊥) → onBytes (clear sdr1) t ≡ ended number t []
+  unfolding refusal rules fed answerRefused
+  clear-refused n = by-refusal (clear sdr1) t true true sdr1 number refl given refl n
+
+  pub clear-done : number ≡ 0 → (left : List ℕ) → left ≡ replicate (length t) 0 → ended 0 left [] ≡ onBytes (clear sdr1) t
+  unfolding refusal rules fed bytesDo
+  clear-done z left e = by-work (clear sdr1) t true true sdr1 number refl given refl z (ended 0 left []) (ap (λ (u : List ℕ). ended 0 u []) e)
+
+module _ (sdr1 : ℕ) (page : Page) (rpn wimg pp : ℕ) (t : List ℕ) (inRange : Bool) (same : inRange ≡ mapInRange page rpn wimg pp)
+    (number : ℕ) (given : number ≡ firstBroken (pageRules inRange sdr1 (length t))) where
+  pub map-refused : (number ≡ 0 → ⊥) → onBytes (mapPage sdr1 page rpn wimg pp) t ≡ ended number t []
+  unfolding refusal rules fed answerRefused
+  map-refused n = by-refusal (mapPage sdr1 page rpn wimg pp) t inRange (mapInRange page rpn wimg pp) sdr1 number same given refl n
+
+  pub map-taken : number ≡ 0 → (done : Ended) → done ≡ bytesDo (maskOnes sdr1) (mapPage sdr1 page rpn wimg pp) t → done ≡ onBytes (mapPage sdr1 page rpn wimg pp) t
+  unfolding refusal rules fed sdr1In
+  map-taken z done e = by-work (mapPage sdr1 page rpn wimg pp) t inRange (mapInRange page rpn wimg pp) sdr1 number same given refl z done e
+
+module _ (sdr1 : ℕ) (page : Page) (pp : ℕ) (t : List ℕ) (inRange : Bool) (same : inRange ≡ pageInRange page)
+    (number : ℕ) (given : number ≡ firstBroken (pageRules (inRange && ltb pp (2 ^ 2)) sdr1 (length t))) where
+  both-ranges : (inRange && ltb pp (2 ^ 2)) ≡ (pageInRange page && ltb pp (2 ^ 2))
+  both-ranges = ap (λ (b : Bool). b && ltb pp (2 ^ 2)) same
+
+  pub protect-refused : (number ≡ 0 → ⊥) → onBytes (protect sdr1 page pp) t ≡ ended number t []
+  unfolding refusal rules fed answerRefused
+  protect-refused n = by-refusal (protect sdr1 page pp) t (inRange && ltb pp (2 ^ 2)) (pageInRange page && ltb pp (2 ^ 2)) sdr1 number both-ranges given refl n
+
+  pub protect-taken : number ≡ 0 → (done : Ended) → done ≡ bytesDo (maskOnes sdr1) (protect sdr1 page pp) t → done ≡ onBytes (protect sdr1 page pp) t
+  unfolding refusal rules fed sdr1In
+  protect-taken z done e = by-work (protect sdr1 page pp) t (inRange && ltb pp (2 ^ 2)) (pageInRange page && ltb pp (2 ^ 2)) sdr1 number both-ranges given refl z done e
+
+-- after any refusal but 11 the answer is the number and three zero words
+refused-answer : (number : ℕ) (lent : List ℕ) → (number ≡ 11 → ⊥) → refusedAnswer number lent ≡ wordAnswer number 0
+unfolding refusedAnswer wordAnswer
+refused-answer number lent n = rw (ne-eqb number 11 n)
+
+-- unmap and look, lent an answer of 16 bytes
+module _ (sdr1 : ℕ) (page : Page) (t : List ℕ) (inRange : Bool) (same : inRange ≡ pageInRange page)
+    (number : ℕ) (given : number ≡ firstBroken (pageRules inRange sdr1 (length t))) (answer : List ℕ) (sixteen : length answer ≡ 16) where
+  other-refusal : refusedAnswer number answer ≡ wordAnswer number 0
+  other-refusal = refused-answer number answer (λ q. not-11 inRange sdr1 (length t) (sym given ∙ q))
+
+  unmap-rules : refusal (fed (unmap sdr1 page answer)) (length t) ≡ firstBroken (pageRules (pageInRange page) sdr1 (length t))
+  unfolding refusal rules fed
+  unmap-rules = rw sixteen
+
+  pub unmap-refused : (number ≡ 0 → ⊥) → onBytes (unmap sdr1 page answer) t ≡ ended number t (wordAnswer number 0)
+  unfolding answerRefused
+  unmap-refused n = by-refusal (unmap sdr1 page answer) t inRange (pageInRange page) sdr1 number same given unmap-rules n ∙ ap (ended number t) other-refusal
+
+  pub unmap-taken : number ≡ 0 → (done : Ended) → done ≡ bytesDo (maskOnes sdr1) (unmap sdr1 page []) t → done ≡ onBytes (unmap sdr1 page answer) t
+  unfolding sdr1In bytesDo
+  unmap-taken z done e = by-work (unmap sdr1 page answer) t inRange (pageInRange page) sdr1 number same given unmap-rules z done e
+
+  look-rules : refusal (fed (look sdr1 page answer)) (length t) ≡ firstBroken (pageRules (pageInRange page) sdr1 (length t))
+  unfolding refusal rules fed
+  look-rules = rw sixteen
+
+  pub look-refused : (number ≡ 0 → ⊥) → onBytes (look sdr1 page answer) t ≡ ended number t (wordAnswer number 0)
+  unfolding answerRefused
+  look-refused n = by-refusal (look sdr1 page answer) t inRange (pageInRange page) sdr1 number same given look-rules n ∙ ap (ended number t) other-refusal
+
+  pub look-taken : number ≡ 0 → (done : Ended) → done ≡ bytesDo (maskOnes sdr1) (look sdr1 page []) t → done ≡ onBytes (look sdr1 page answer) t
+  unfolding sdr1In bytesDo
+  look-taken z done e = by-work (look sdr1 page answer) t inRange (pageInRange page) sdr1 number same given look-rules z done e
+
+-- lent an answer of another length they leave all as it was
+module _ (sdr1 : ℕ) (page : Page) (answer t : List ℕ) (wrong : length answer ≡ 16 → ⊥) where
+  pub unmap-11 : onBytes (unmap sdr1 page answer) t ≡ ended 11 t answer
+  unfolding onBytes refusal rules fed answerRefused refusedAnswer
+  unmap-11 = rw (ne-eqb (length answer) 16 wrong)
+
+  pub look-11 : onBytes (look sdr1 page answer) t ≡ ended 11 t answer
+  unfolding onBytes refusal rules fed answerRefused refusedAnswer
+  look-11 = rw (ne-eqb (length answer) 16 wrong)
+
+-- ---- the search
+
+-- a list of matches that has a first, and what the search told of it
+pub record Matched (ms : List Match) (s : Search) : Type 0 where
+  pub x : Match
+  pub xs : List Match
+  pub are : ms ≡ x ∷ xs
+  pub told : Summarised x xs s
+
+found-none : (ms : List Match) → summary ms .found ≡ false → ms ≡ []
+found-none [] f = refl
+found-none (x ∷ xs) f = absurd (let told = summarised x xs in let z : _≡_ {A = ℕ} 0 1 = cc in omega arith)
+
+found-some : (ms : List Match) → summary ms .found ≡ true → Matched ms (summary ms)
+unfolding nothingFound
+found-some [] f = absurd (let told = summary-none in let z : _≡_ {A = ℕ} 0 1 = cc in omega arith)
+found-some (x ∷ xs) f = record { x = x; xs = xs; are = refl; told = summarised x xs }
+
+-- what the calls ask of the matches, by what the search told
+module _ (x : Match) (xs : List Match) (s : Search) (told : Summarised x xs s) where
+  pub contradict-is : contradict x xs ≡ s .differs
+  unfolding contradict
+  contradict-is = sym (told .differs)
+
+  pub merged-is : merged x xs ≡ withMarks (s .referenced) (s .changed) (s .second)
+  unfolding merged
+  merged-is = rw (told .referenced, told .changed, told .second)
+
+-- the place of a free entry, as the definition on tables gives it
+abbrev pub placeOption : Place → Option (Bool × ℕ)
+placeOption (Entry secondary i) = some (secondary, i)
+placeOption Full = none
+
+-- `s` is what the search of the page's two groups told
+module _ (k : ℕ) (t : List ℕ) (page : Page) where
+  -- the 64 bytes of the page's primary (false) or secondary (true) group
+  abbrev pub ownGroup : Bool → List ℕ
+  ownGroup secondary = groupOf t (groupNumber (10 + k) secondary page)
+
+  abbrev pub pageSearch : Search
+  pageSearch = summary (search.matchesOf (page .vsid) (apiOf (page .index)) (ownGroup false) (ownGroup true))
+
+  pub free-place-is : freePlace (layout k) t page ≡ placeOption (groups.freePlace (ownGroup false) (ownGroup true))
+  unfolding freePlace freeEntry groups.freePlace groups.freeEntry groups.freeAt firstOf
+  free-place-is = go (ltb (groups.freeEntry (ownGroup false)) 8) (ltb (groups.freeEntry (ownGroup true)) 8)
+    where
+      go : (a b : Bool) → cond a (some (false, groups.freeEntry (ownGroup false))) (cond b (some (true, groups.freeEntry (ownGroup true))) none)
+          ≡ placeOption (cond a (Entry false (groups.freeEntry (ownGroup false))) (cond b (Entry true (groups.freeEntry (ownGroup true))) Full))
+      go true b = refl
+      go false true = refl
+      go false false = refl
+
+  -- the table with each match of the page's primary group edited, then each of its secondary group
+  abbrev pub editedBoth : Edit → List ℕ
+  editedBoth edit =
+      let api = apiOf (page .index) in
+      onGroup (onGroup t (groupNumber (10 + k) false page) (editMatches edit false (page .vsid) api)) (groupNumber (10 + k) true page) (editMatches edit true (page .vsid) api)
+
+  -- which is one pass over the page's matches
+  each : (words : Match → ℕ × ℕ) (ms : List Match) (u : List ℕ)
+      → edits.overwriteEach (λ b. groupNumber (10 + k) b page) words ms u ≡ overwriteEach (layout k) page words ms u
+  unfolding edits.overwriteEach overwriteEach overwrite
+  each words [] u = refl
+  each words (x ∷ xs) u = each words xs (putAt u (groupNumber (10 + k) (x .secondary) page) (x .entry) (words x .0) (words x .1))
+
+  pub edit-is : (edit : Edit) → ((b : Bool) → 64 * groupNumber (10 + k) b page + 64 ≤ length t)
+      → editedBoth edit ≡ overwriteEach (layout k) page (edited edit) (matchesOf (layout k) t page) t
+  edit-is edit inside =
+      edit-both-each edit (page .vsid) (apiOf (page .index)) (λ b. groupNumber (10 + k) b page) t inside
+      (own-groups-differ (10 + k) page (omega arith))
+      ∙ each (edited edit) _ t
+      ∙ ap (λ (ms : List Match). overwriteEach (layout k) page (edited edit) ms t) (sym (matches-by-groups k t page))
+
+  module _ (s : Search) (e : s ≡ pageSearch) where
+    pub unmatched : s .found ≡ false → matchesOf (layout k) t page ≡ []
+    unmatched f = matches-by-groups k t page ∙ found-none _ (ap (λ (r : Search). r .found) (sym e) ∙ f)
+
+    pub matched : s .found ≡ true → Matched (matchesOf (layout k) t page) s
+    matched f = rw (matches-by-groups k t page, e) (found-some _ (ap (λ (r : Search). r .found) (sym e) ∙ f))
+
+    -- map
+    module _ (sdr1 rpn wimg pp : ℕ) where
+      pub map-matched : s .found ≡ true → bytesDo k (mapPage sdr1 page rpn wimg pp) t ≡ ended 7 t []
+      unfolding bytesDo
+      map-matched f = rw (matched f .are)
+
+      pub map-full : s .found ≡ false → groups.freePlace (ownGroup false) (ownGroup true) ≡ Full → bytesDo k (mapPage sdr1 page rpn wimg pp) t ≡ ended 9 t []
+      unfolding bytesDo
+      map-full f full = rw (unmatched f, free-place-is, full)
+
+      pub map-placed : s .found ≡ false → (secondary : Bool) (i : ℕ) → groups.freePlace (ownGroup false) (ownGroup true) ≡ Entry secondary i
+          → bytesDo k (mapPage sdr1 page rpn wimg pp) t
+          ≡ ended 0 (putAt t (groupNumber (10 + k) secondary page) i (entryWord secondary page) (secondWord rpn 0 0 wimg pp)) []
+      unfolding bytesDo
+      map-placed f secondary i place = rw (unmatched f, free-place-is, place)
+
+    -- unmap and look of a page with no match
+    pub unmap-missing : (sdr1 : ℕ) (answer : List ℕ) → s .found ≡ false → bytesDo k (unmap sdr1 page answer) t ≡ ended 8 t (wordAnswer 8 0)
+    unfolding bytesDo
+    unmap-missing sdr1 answer f = rw (unmatched f)
+
+    pub protect-missing : (sdr1 pp : ℕ) → s .found ≡ false → bytesDo k (protect sdr1 page pp) t ≡ ended 8 t []
+    unfolding bytesDo
+    protect-missing sdr1 pp f = rw (unmatched f)
+
+    pub look-missing : (sdr1 : ℕ) (answer : List ℕ) → s .found ≡ false → bytesDo k (look sdr1 page answer) t ≡ ended 8 t (wordAnswer 8 0)
+    unfolding bytesDo
+    look-missing sdr1 answer f = rw (unmatched f)
+
+    pub look-contradicted : (sdr1 : ℕ) (answer : List ℕ) → s .found ≡ true → s .differs ≡ true → bytesDo k (look sdr1 page answer) t ≡ ended 10 t (wordAnswer 10 0)
+    unfolding bytesDo
+    look-contradicted sdr1 answer f d =
+        let m = matched f in
+        rw (m .are, contradict-is (m .x) (m .xs) s (m .told) ∙ d)
+
+    pub look-done : (sdr1 : ℕ) (answer : List ℕ) → s .found ≡ true → s .differs ≡ false → bytesDo k (look sdr1 page answer) t ≡ ended 0 t (wordAnswer 0 (s .second))
+    unfolding bytesDo
+    look-done sdr1 answer f d =
+        let m = matched f in
+        rw (m .are, contradict-is (m .x) (m .xs) s (m .told) ∙ d) (ap (λ (w : ℕ). ended 0 t (wordAnswer 0 w)) (sym (m .told .second)))
+
+    -- unmap and protect of a page that has a match, whose groups lie in the table
+    module _ (inside : (b : Bool) → 64 * groupNumber (10 + k) b page + 64 ≤ length t) (f : s .found ≡ true) where
+      pub unmap-done : (sdr1 : ℕ) (answer : List ℕ)
+          → bytesDo k (unmap sdr1 page answer) t ≡ ended 0 (editedBoth Clear) (wordAnswer 0 (withMarks (s .referenced) (s .changed) (s .second)))
+      unfolding bytesDo edited
+      unmap-done sdr1 answer =
+          let m = matched f in
+          rw (edit-is Clear inside, m .are, merged-is (m .x) (m .xs) s (m .told))
+
+      pub protect-done : (sdr1 pp : ℕ) → bytesDo k (protect sdr1 page pp) t ≡ ended 0 (editedBoth (Protect pp)) []
+      unfolding bytesDo edited
+      protect-done sdr1 pp = rw (edit-is (Protect pp) inside, matched f .are)

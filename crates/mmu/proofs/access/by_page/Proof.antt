@@ -1,0 +1,156 @@
+-- `mmu::access::by_page` meets its contract: what the search noted are the page's matches, and the entry marked is the first of them.
+use borrow.Author.Needs.{needs}
+use denote.Enum.Declared.{tagOf}
+use types.Run.{OneOf, miss}
+use mathlib.Core.Path.{_≡_, refl, sym, ap, ap₂, _∙_}
+use mathlib.Core.Bool.{Bool, true, false}
+use mathlib.Core.List.{List, [], _∷_}
+use Prim.Native.Nat.{ℕ, _+_, _*_, _≤_}
+use lib.ListN.{length}
+use Rattle.entry.specs.Entry.{withMarks}
+use Rattle.registers.specs.Sdr1.{maskOnes, hashBits}
+use Rattle.groups.specs.Group.{putAt}
+use Rattle.groups.specs.Hash.{groupNumber}
+use Rattle.groups.specs.Search.{summary}
+use Rattle.groups.proofs.Hash.{group-lt, within-table}
+use Rattle.tables.specs.Layout.{matchesOf}
+use Rattle.translation.specs.Access.{storing}
+use Rattle.translation.specs.Steps.{afterSearch}
+use Rattle.translation.specs.declared.Outcome.{Outcome}
+use Rattle.translation.specs.declared.Outcome.the-variants.{Real, Block, BlockProtection, NoExecute, NoMatch, Guarded, Protection, Done, Refused}
+use Rattle.translation.proofs.Outcome.{the-type}
+use Rattle.calls.specs.Answers.{doneByPage}
+use Rattle.calls.specs.OnBytes.{layout, wantedPage, searched}
+use Rattle.calls.proofs.OnBytes.{matches-by-groups}
+use Rattle.calls.proofs.Access.{done-by-first, unmarked, first-entry-lt, marked-done}
+use Rattle.mmu.proofs.access.by_page.Statement.{statement}
+use Rattle.mmu.proofs.access.by_page.Tie as tie
+
+-- the numbers of the outcomes other than `Done`, and that an outcome of such a number was not done by the page
+abbrev others : List ℕ
+others = 0 ∷ 1 ∷ 2 ∷ 3 ∷ 4 ∷ 5 ∷ 6 ∷ 8 ∷ []
+
+not-done : (outcome : Outcome) → OneOf others (tagOf the-type outcome) → doneByPage outcome ≡ false
+unfolding doneByPage
+not-done Real h = refl
+not-done (Block i physical attributes) h = refl
+not-done (BlockProtection i) h = refl
+not-done NoExecute h = refl
+not-done NoMatch h = refl
+not-done Guarded h = refl
+not-done Protection h = refl
+not-done (Done second) h = absurd (miss others 7 tt h)
+not-done (Refused number) h = refl
+
+-- both groups of the page lie in the table
+within : (c : tie.Start) (secondary : Bool) → 64 * groupNumber (10 + maskOnes (c .args .sdr1)) secondary (wantedPage (c .args .wanted)) + 64 ≤ length (c .args .table .now)
+unfolding hashBits
+within c secondary =
+    let n = hashBits (c .args .sdr1) in
+    let page = wantedPage (c .args .wanted) in
+    rw (c .pre .1) (within-table (c .args .sdr1) (groupNumber n secondary page) (c .pre .0) (group-lt n page secondary))
+
+-- what the search noted are the page's matches
+noted-are : (c : tie.After-search-both) →
+    let a = c .before .before .before .before .args in
+    c .search-both .result ≡ summary (matchesOf (layout (maskOnes (a .sdr1))) (a .table .now) (wantedPage (a .wanted)))
+noted-are c =
+    let at-locate = c .before .before in
+    let a = at-locate .before .before .args in
+    (rw (at-locate .locate .ensures) at (c .search-both .ensures))
+    ∙ ap summary (sym (matches-by-groups (maskOnes (a .sdr1)) (a .table .now) (wantedPage (a .wanted))))
+
+-- the outcome is that of the page's matches
+outcome-is : (c : tie.After-after-search) →
+    let a = c .before .before .before .before .before .before .args in
+    c .after-search .result ≡ afterSearch (a .kind) (a .wanted .key) (searched (matchesOf (layout (maskOnes (a .sdr1))) (a .table .now) (wantedPage (a .wanted))))
+outcome-is c =
+    let at-both = c .before .before in
+    let a = at-both .before .before .before .before .args in
+    c .after-search .ensures ∙ ap (afterSearch (a .kind) (a .wanted .key)) (c .before .searched-of .ensures _ (noted-are at-both))
+
+-- the group that is written is the one of the first match
+group-is : (c : tie.After-group) →
+    let at-both = c .before .before .before .before .before .before in
+    let a = at-both .before .before .before .before .args in
+    c .group .result ≡ groupNumber (10 + maskOnes (a .sdr1)) (at-both .search-both .result .secondary) (wantedPage (a .wanted))
+unfolding groupNumber
+group-is c = rw (c .before .before .before .before .before .before .before .before .locate .ensures) at (c .group .ensures)
+
+locate-requires : tie.Need-locate-requires
+locate-requires c κs = search needs
+
+search-both-requires : tie.Need-search-both-requires
+search-both-requires c κs =
+    let at-locate = c .before in
+    let start = at-locate .before .before in
+    rw (at-locate .locate .ensures) (within start false, within start true)
+
+searched-of-requires : tie.Need-searched-of-requires
+searched-of-requires c κs = search needs
+
+after-search-requires : tie.Need-after-search-requires
+after-search-requires c κs = search needs
+
+enum-known-outcome : tie.Need-enum-known-outcome
+enum-known-outcome c = search needs
+
+group-requires : tie.Need-group-requires
+group-requires c κs = search needs
+
+with-marks-requires : tie.Need-with-marks-requires
+with-marks-requires c κs = search needs
+
+put-entry-requires : tie.Need-put-entry-requires
+put-entry-requires c κs =
+    let at-group = c .before .before in
+    let at-both = at-group .before .before .before .before .before .before in
+    let start = at-both .before .before .before .before in
+    let s = at-both .search-both .result in
+    (first-entry-lt (maskOnes (start .args .sdr1)) (start .args .wanted) (start .args .table .now) s (noted-are at-both), rw (group-is at-group) (within start (s .secondary)))
+
+same-length : tie.Need-same-length
+same-length c = search needs
+
+returns : tie.Need-returns
+unfolding storing
+returns c =
+    let at-marks = c .before .before .before .before in
+    let at-group = at-marks .before in
+    let at-outcome = at-group .before .before in
+    let at-after = at-outcome .before .before in
+    let at-both = at-after .before .before in
+    let s = at-both .search-both .result in
+    let a = at-both .before .before .before .before .args in
+    let second = at-outcome .outcome .given .0 .0 in
+    let done = sym (at-outcome .outcome .given .1) ∙ outcome-is at-after in
+    let first = done-by-first s _ (noted-are at-both) (a .kind) (a .wanted .key) second (sym done) in (
+      done,
+      c .before .before .put-entry .ensures
+          ∙ ap₂ (λ (g w : ℕ). putAt (a .table .now) g (s .entry) (s .first) w) (group-is at-group)
+          (at-marks .with-marks .ensures ∙ ap (withMarks true (storing (a .kind))) (sym (first .word)))
+          ∙ sym (marked-done (maskOnes (a .sdr1)) (a .wanted) (a .table .now) s (noted-are at-both) (a .kind) second (first .found)),
+    )
+
+same-length-2 : tie.Need-same-length-2
+same-length-2 c = search needs
+
+returns-2 : tie.Need-returns-2
+returns-2 c = (outcome-is (c .before), sym (unmarked _ _ _ _ _ (not-done _ (c .match .keys2))))
+
+pub by-page-spec : {M : Type 1} → statement M
+by-page-spec =
+    tie.close
+    (tie.spec
+    locate-requires
+    search-both-requires
+    searched-of-requires
+    after-search-requires
+    enum-known-outcome
+    group-requires
+    with-marks-requires
+    put-entry-requires
+    same-length
+    returns
+    same-length-2
+    returns-2)

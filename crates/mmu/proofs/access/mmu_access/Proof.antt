@@ -1,0 +1,58 @@
+-- `mmu::access::mmu_access` meets its contract: 11 at a wrong length, else the four words of what the access answers.
+use borrow.Author.Needs.{needs}
+use borrow.Author.Tests.{eqb-true, not-true, not-false}
+use mathlib.Core.Path.{_≡_, sym}
+use lib.ListN.{length}
+use Rattle.words.proofs.Tests.{both}
+use Rattle.calls.specs.Answers.{accessAnswer}
+use Rattle.calls.proofs.Access.{access-wrong-length}
+use Rattle.mmu.proofs.access.mmu_access.Statement.{statement}
+use Rattle.mmu.proofs.access.mmu_access.Tie as tie
+
+-- past 11 both lengths are right
+lengths : (c : tie.Else1) →
+    let start = c .before .before .before .before in
+    (length (start .args .page .now) ≡ 132) × (length (start .args .answer .now) ≡ 16)
+lengths c =
+    let right = both _ _ (not-false _ (c .if1 .left)) in
+    (eqb-true _ 132 (right .0), eqb-true _ 16 (right .1))
+
+returns : tie.Need-returns
+returns c =
+    let a = c .before .before .before .before .args in
+    sym (access-wrong-length (a .page .now) (a .mode) (a .kind) (a .address) (a .answer .now) (a .table .now) (not-true _ (c .if1 .taken)))
+
+translate-requires : tie.Need-translate-requires
+translate-requires c κs = lengths (c .before) .0
+
+slice-aggregate-write-words : tie.Need-slice-aggregate-write-words
+slice-aggregate-write-words c = search needs
+
+write-words-requires : tie.Need-write-words-requires
+write-words-requires c κs = lengths (c .before .before .before .before .before .before) .1
+
+same-length : tie.Need-same-length
+same-length c = search needs
+
+same-length-2 : tie.Need-same-length-2
+same-length-2 c = search needs
+
+returns-2 : tie.Need-returns-2
+unfolding accessAnswer
+returns-2 c =
+    let at-translate = c .before .before .before .before .before .before .before in
+    let at-else = at-translate .before .before in
+    let a = at-else .before .before .before .before .args in
+    rw (c .before .before .write-words .ensures) (at-translate .translate .ensures (a .answer .now) (lengths at-else .1))
+
+pub mmu-access-spec : {M : Type 1} → statement M
+mmu-access-spec =
+    tie.close
+    (tie.spec
+    returns
+    translate-requires
+    slice-aggregate-write-words
+    write-words-requires
+    same-length
+    same-length-2
+    returns-2)

@@ -1,0 +1,46 @@
+-- `mmu::pages::mmu_protect` meets its contract: the work is done on a table of right length, with PP in its range.
+use mathlib.Core.Path.{sym, _∙_}
+use mathlib.Core.Bool.{_&&_}
+use Prim.Native.Nat.{_^_}
+use lib.Dec.{ltb}
+use Rattle.calls.proofs.PageCalls.{kept, protect-range, protect-refused, protect-taken}
+use borrow.Author.Needs.{needs}
+use Rattle.mmu.proofs.pages.mmu_protect.Statement.{statement}
+use Rattle.mmu.proofs.pages.mmu_protect.Tie as tie
+
+page-in-range-requires : tie.Need-page-in-range-requires
+page-in-range-requires c κs = search needs
+
+page-refusal-requires : tie.Need-page-refusal-requires
+page-refusal-requires c κs = search needs
+
+returns : tie.Need-returns
+returns c = sym (protect-refused _ _ _ _ _ (c .before .before .page-in-range .ensures) _ (c .before .page-refusal .ensures) (c .if1 .taken))
+
+protect-page-requires : tie.Need-protect-page-requires
+protect-page-requires c κs =
+    let n = c .before .before in
+    let a = n .before .before .before .args in
+    let in-range = n .before .page-in-range .result in
+    let k = kept (in-range && ltb (a .pp) (2 ^ 2)) _ _ (sym (n .page-refusal .ensures) ∙ c .before .if1 .left) in
+    (k .shape, k .right-length, protect-range in-range _ (k .in-range))
+
+same-length : tie.Need-same-length
+same-length c = search needs
+
+returns-2 : tie.Need-returns-2
+returns-2 c =
+    let w = c .before .before in
+    let i = w .before .before in
+    protect-taken _ _ _ _ _ (i .before .before .page-in-range .ensures) _ (i .before .page-refusal .ensures) (i .if1 .left) _ (w .protect-page .ensures)
+
+pub mmu-protect-spec : {M : Type 1} → statement M
+mmu-protect-spec =
+    tie.close
+    (tie.spec
+    page-in-range-requires
+    page-refusal-requires
+    returns
+    protect-page-requires
+    same-length
+    returns-2)

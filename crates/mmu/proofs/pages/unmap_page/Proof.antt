@@ -1,0 +1,67 @@
+-- `mmu::pages::unmap_page` meets its contract: where the search found a match, the edit of both groups is the overwriting of each match.
+use mathlib.Core.Path.{_≡_, sym, ap₂, _∙_}
+use borrow.Author.Tests.{not-true, not-false}
+use Rattle.registers.specs.Sdr1.{maskOnes}
+use Rattle.groups.specs.declared.Edit.the-variants.{Clear}
+use Rattle.calls.specs.Answers.{wordAnswer}
+use Rattle.calls.specs.OnBytes.{ended}
+use Rattle.calls.proofs.PageCalls.{pageSearch, unmap-missing, unmap-done}
+use Rattle.mmu.proofs.located.AtPage.{inside, both-inside, search-is, edited-is}
+use borrow.Author.Needs.{needs}
+use Rattle.mmu.proofs.pages.unmap_page.Statement.{statement}
+use Rattle.mmu.proofs.pages.unmap_page.Tie as tie
+
+locate-requires : tie.Need-locate-requires
+locate-requires c κs = search needs
+
+search-both-requires : tie.Need-search-both-requires
+search-both-requires c κs =
+    let start = c .before .before .before in
+    both-inside _ _ _ (c .before .locate .ensures) _ (start .pre .0) (start .pre .1)
+
+-- the search is the page's
+told : (c : tie.After-search-both) →
+    let a = c .before .before .before .before .args in
+    c .search-both .result ≡ pageSearch (maskOnes (a .sdr1)) (a .table .now) (record { vsid = a .vsid; index = a .index })
+told c = search-is _ _ _ (c .before .before .locate .ensures) _ _ (c .search-both .ensures)
+
+same-length : tie.Need-same-length
+same-length c = search needs
+
+returns : tie.Need-returns
+returns c = sym (unmap-missing _ _ _ _ (told (c .before .before)) _ _ (not-true _ (c .if1 .taken)))
+
+edit-both-requires : tie.Need-edit-both-requires
+edit-both-requires c κs =
+    let l = c .before .before .before .before .before in
+    let start = l .before .before in
+    let (first, second) = both-inside _ _ _ (l .locate .ensures) _ (start .pre .0) (start .pre .1) in
+    (tt, first, second)
+
+with-marks-requires : tie.Need-with-marks-requires
+with-marks-requires c κs = search needs
+
+same-length-2 : tie.Need-same-length-2
+same-length-2 c = search needs
+
+returns-2 : tie.Need-returns-2
+returns-2 c =
+    let e = c .before .before .before in
+    let s = e .before .before .before .before in
+    let l = s .before .before in
+    let start = l .before .before in
+    ap₂ (λ t w. ended 0 t (wordAnswer 0 w)) (edited-is _ _ _ (l .locate .ensures) _ Clear _ (e .edit-both .ensures)) (c .with-marks .ensures)
+    ∙ sym (unmap-done _ _ _ _ (told s) (inside _ _ _ (start .pre .0) (start .pre .1)) (not-false _ (e .before .before .if1 .left)) _ _)
+
+pub unmap-page-spec : {M : Type 1} → statement M
+unmap-page-spec =
+    tie.close
+    (tie.spec
+    locate-requires
+    search-both-requires
+    same-length
+    returns
+    edit-both-requires
+    with-marks-requires
+    same-length-2
+    returns-2)

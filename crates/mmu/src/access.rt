@@ -1,0 +1,133 @@
+// The exported access: the rules of its arguments in order, the steps, the search of the page's two groups, the mark and the answer.
+use super::located::locate;
+ghost use mathlib.Core.Path.{_≡_};
+ghost use mathlib.Core.Bool.{true, _&&_};
+ghost use mathlib.Core.List.{List, [], _∷_, _++_};
+ghost use Prim.Native.Nat.{ℕ};
+ghost use lib.Dec.{ltb};
+ghost use lib.ListN.{length};
+ghost use Rattle.registers.specs.Rules.{firstBroken};
+ghost use Rattle.registers.specs.Sdr1.{sdr1Shape, tableLength, maskOnes};
+ghost use Rattle.registers.specs.Set.{sdr1Of, registerRules};
+ghost use Rattle.groups.specs.Search.{summary};
+ghost use Rattle.tables.specs.Matches.{Match};
+ghost use Rattle.tables.specs.Layout.{matchesOf};
+ghost use Rattle.translation.specs.Steps.{afterSearch, outcomeOf};
+ghost use Rattle.translation.specs.declared.Early.the-variants.{Search};
+ghost use Rattle.calls.specs.Request.{access};
+ghost use Rattle.calls.specs.Rules.{argumentOutOfRange, tableLengthWrong};
+ghost use Rattle.calls.specs.Answers.{accessAnswer};
+ghost use Rattle.calls.specs.OnBytes.{layout, ended, wantedPage, searched, markedBy, onBytes};
+
+// The first broken rule after 11, or 0: the arguments' ranges, then the register set, then the table's length.
+fn refusal(set: registers::Registers, mode: u32, kind: u32, lent: usize) -> u32
+    ensures { λ r. ⌜ r ≡ firstBroken (argumentOutOfRange (ltb mode 8 && ltb kind 3)
+        ∷ registerRules 4 11 (set .words) ++ (tableLengthWrong (sdr1Of (set .words)) lent ∷ [])) ⌝ }
+{
+    if !((mode < 8) & (kind < 3)) {
+        return 6;
+    }
+    let broken = set.check();
+    if broken != 0 {
+        return broken;
+    }
+    if lent != registers::table_length(set.words[0]) {
+        return 1;
+    }
+    0
+}
+
+// What the matches that a search noted come to.
+fn searched_of(search: groups::Search) -> translation::Searched
+    ensures { λ r. ⌜ ((ms : List Match) → search ≡ summary ms → r ≡ searched ms) ⌝ }
+{
+    if !search.found {
+        return translation::Searched::Nothing;
+    }
+    if search.differs {
+        return translation::Searched::Contradicting;
+    }
+    translation::Searched::At(search.second)
+}
+
+// Steps 4 to 7: the search of the page's groups, and the mark of the first match by an access that it did.
+fn by_page(
+    table: &mut [u8],
+    sdr1: u32,
+    kind: u32,
+    wanted: translation::Wanted,
+) -> translation::Outcome
+    requires { ⌜ (sdr1Shape sdr1 ≡ true) × (length (now table) ≡ tableLength sdr1) ⌝ }
+    ensures { λ r. ⌜ (r ≡ afterSearch kind (wanted .key) (searched (matchesOf (layout (maskOnes sdr1)) (now (table .entry)) (wantedPage wanted))))
+        × (now (table .exit) ≡ markedBy (maskOnes sdr1) kind (Search wanted) r (now (table .entry))) ⌝ }
+{
+    let at = locate(sdr1, wanted.vsid, wanted.index);
+    let search = groups::search_both(table, at.primary, at.secondary, wanted.vsid, at.api);
+    let outcome = translation::after_search(kind, wanted.key, searched_of(search));
+    if let translation::Outcome::Done(second) = outcome {
+        let group = at.group(search.secondary);
+        let marked = entry::with_marks(second, true, kind == translation::STORE);
+        groups::put_entry(table, group, search.entry, search.first, marked);
+    }
+    outcome
+}
+
+// What an access comes to, by what the steps before the search came to, with the mark made.
+fn decided(
+    table: &mut [u8],
+    sdr1: u32,
+    kind: u32,
+    early: translation::Early,
+) -> translation::Outcome
+    requires { ⌜ (sdr1Shape sdr1 ≡ true) × (length (now table) ≡ tableLength sdr1) ⌝ }
+    ensures { λ r. ⌜ (r ≡ outcomeOf kind (λ wanted. searched (matchesOf (layout (maskOnes sdr1)) (now (table .entry)) (wantedPage wanted))) early)
+        × (now (table .exit) ≡ markedBy (maskOnes sdr1) kind early r (now (table .entry))) ⌝ }
+{
+    match early {
+        translation::Early::Decided(outcome) => outcome,
+        translation::Early::Search(wanted) => by_page(table, sdr1, kind, wanted),
+    }
+}
+
+// One access whose lent lengths are right: what it answers, with the mark made. The register page is read once.
+fn translate(
+    page: &[u8],
+    mode: u32,
+    kind: u32,
+    address: u32,
+    table: &mut [u8],
+) -> translation::Answer
+    requires { ⌜ length (now page) ≡ 132 ⌝ }
+    ensures { λ r. ⌜ ((answer : List ℕ) → length answer ≡ 16
+        → ended (r .result) (now (table .exit)) (accessAnswer r) ≡ onBytes (access (now (page .entry)) mode kind address answer) (now (table .entry))) ⌝ }
+{
+    let set = registers::read_set(page);
+    let number = refusal(set, mode, kind, table.len());
+    if number != 0 {
+        return translation::answer_of(kind, address, translation::Outcome::Refused(number));
+    }
+    let early = translation::before_search(set, mode, kind, address);
+    let outcome = decided(table, set.words[0], kind, early);
+    translation::answer_of(kind, address, outcome)
+}
+
+// Translates one access and marks the entry that did it.
+#[no_mangle]
+pub extern "C" fn mmu_access(
+    page: &[u8],
+    mode: u32,
+    kind: u32,
+    address: u32,
+    table: &mut [u8],
+    answer: &mut [u8],
+) -> u32
+    ensures { λ r. ⌜ ended r (now (table .exit)) (now (answer .exit)) ≡ onBytes (access (now (page .entry)) mode kind address (now (answer .entry))) (now (table .entry)) ⌝ }
+{
+    if !((page.len() == 132) & (answer.len() == 16)) {
+        return 11;
+    }
+    let told = translate(page, mode, kind, address, table);
+    let four = [told.result, told.address, told.attributes, told.effective];
+    words::write_words(answer, &four);
+    told.result
+}

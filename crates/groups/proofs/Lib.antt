@@ -8,4 +8,5 @@ pub mod Free
 pub mod Matches
 pub mod Summary
 pub mod Edits
+pub mod Alone
 pub mod Tables

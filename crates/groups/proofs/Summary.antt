@@ -22,6 +22,14 @@ pub summary-none : summary [] ≡ nothingFound
 unfolding summary notedAll
 summary-none = refl
 
+-- a test that every match passes
+abbrev pub each : Match → Bool
+each m = true
+
+or-true : (b : Bool) → b || true ≡ true
+or-true true = refl
+or-true false = refl
+
 or-false : (b : Bool) → b || false ≡ b
 or-false true = refl
 or-false false = refl
@@ -37,6 +45,7 @@ record Grown (s : Search) (ms : List Match) (r : Search) : Type 0 where
   entry : r .entry ≡ s .entry
   first : r .first ≡ s .first
   second : r .second ≡ s .second
+  several : r .several ≡ (s .several || anyMatch each ms)
   differs : r .differs ≡ (s .differs || anyMatch (disagrees (s .second)) ms)
   referenced : r .referenced ≡ (s .referenced || anyMatch isReferenced ms)
   changed : r .changed ≡ (s .changed || anyMatch isChanged ms)
@@ -51,6 +60,7 @@ one-more s m f =
       entry = refl;
       first = refl;
       second = refl;
+      several = sym (or-true (s .several));
       differs = ap (λ (b : Bool). s .differs || b) (sym (or-false (disagrees (s .second) m)));
       referenced = ap (λ (b : Bool). s .referenced || b) (sym (or-false (isReferenced m)));
       changed = ap (λ (b : Bool). s .changed || b) (sym (or-false (isChanged m)));
@@ -70,6 +80,7 @@ grown s [] f =
       entry = refl;
       first = refl;
       second = refl;
+      several = sym (or-false (s .several));
       differs = sym (or-false (s .differs));
       referenced = sym (or-false (s .referenced));
       changed = sym (or-false (s .changed));
@@ -83,6 +94,7 @@ grown s (m ∷ ms) f =
       entry = g .entry ∙ o .entry;
       first = g .first ∙ o .first;
       second = g .second ∙ o .second;
+      several = g .several ∙ then (s .several) (noted s m .several) each m ms (o .several);
       differs = g .differs ∙ ap (λ (w : ℕ). noted s m .differs || anyMatch (disagrees w) ms) (o .second)
           ∙ then (s .differs) (noted s m .differs) (disagrees (s .second)) m ms (o .differs);
       referenced = g .referenced ∙ then (s .referenced) (noted s m .referenced) isReferenced m ms (o .referenced);
@@ -96,6 +108,7 @@ pub record Summarised (m : Match) (ms : List Match) (r : Search) : Type 0 where
   pub entry : r .entry ≡ m .entry
   pub first : r .first ≡ m .first
   pub second : r .second ≡ m .second
+  pub several : r .several ≡ anyMatch each ms
   pub differs : r .differs ≡ anyMatch (disagrees (m .second)) ms
   pub referenced : r .referenced ≡ anyMatch isReferenced (m ∷ ms)
   pub changed : r .changed ≡ anyMatch isChanged (m ∷ ms)
@@ -110,10 +123,16 @@ summarised m ms =
       entry = g .entry;
       first = g .first;
       second = g .second;
+      several = g .several;
       differs = g .differs;
       referenced = g .referenced;
       changed = g .changed;
     }
+
+-- a match without a further one is alone
+pub alone : (ms : List Match) → anyMatch each ms ≡ false → ms ≡ []
+alone [] e = refl
+alone (m ∷ ms) e = absurd (true≢false e)
 
 -- the search finds a match exactly where there is one
 pub found-none : (ms : List Match) → summary ms .found ≡ false → ms ≡ []

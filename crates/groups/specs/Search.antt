@@ -47,12 +47,13 @@ nothingFound = record {
   entry = 0;
   first = 0;
   second = 0;
+  several = false;
   differs = false;
   referenced = false;
   changed = false;
 }
 
--- one match more: the first keeps its place and words; a further one whose second word does not agree, and any R and C, are noted
+-- one match more: the first keeps its place and words; that there is a further one, whether its second word does not agree, and any R and C, are noted
 unfoldable pub noted : Search → Match → Search
 noted s m =
     cond (s .found)
@@ -62,6 +63,7 @@ noted s m =
       entry = s .entry;
       first = s .first;
       second = s .second;
+      several = true;
       differs = s .differs || disagrees (s .second) m;
       referenced = s .referenced || isReferenced m;
       changed = s .changed || isChanged m;
@@ -72,6 +74,7 @@ noted s m =
       entry = m .entry;
       first = m .first;
       second = m .second;
+      several = false;
       differs = false;
       referenced = isReferenced m;
       changed = isChanged m;

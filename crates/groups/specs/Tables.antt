@@ -24,14 +24,15 @@ page vsid index = record { vsid = vsid; index = index }
 abbrev pub matched : Bool → ℕ → ℕ → ℕ → Match
 matched secondary entry first second = record { secondary = secondary; entry = entry; first = first; second = second }
 
--- a search that found a match: its place and words, then whether a further one contradicts, and R and C of any
-abbrev pub told : Bool → ℕ → ℕ → ℕ → Bool → Bool → Bool → Search
-told secondary entry first second differs referenced changed = record {
+-- a search that found a match: its place and words, then whether there is a further one, whether one contradicts, and R and C of any
+abbrev pub told : Bool → ℕ → ℕ → ℕ → Bool → Bool → Bool → Bool → Search
+told secondary entry first second several differs referenced changed = record {
   found = true;
   secondary = secondary;
   entry = entry;
   first = first;
   second = second;
+  several = several;
   differs = differs;
   referenced = referenced;
   changed = changed;
@@ -116,19 +117,19 @@ pub record GroupsTables : Type 0 where
       )
   -- the first match in search order, a further one that contradicts, and R and C of any; twins do not contradict
   pub summaries : Hold (
-      (summary (matchesOf 0x0C701C 3 example example), told false 1 0x86380E03 0x12345E96 true true true)
-      ∷ (summary (matchesOf 0x0C701C 3 full example), told true 0 0x86380E43 0x12345012 false false false)
+      (summary (matchesOf 0x0C701C 3 example example), told false 1 0x86380E03 0x12345E96 true true true true)
+      ∷ (summary (matchesOf 0x0C701C 3 full example), told true 0 0x86380E43 0x12345012 false false false false)
       ∷ (
         summary (matched false 1 0x86380E03 0x12345E96 ∷ matched false 3 0x86380E03 0x12345E96 ∷ []),
-        told false 1 0x86380E03 0x12345E96 false false true,
+        told false 1 0x86380E03 0x12345E96 true false false true,
       )
       ∷ (
         summary (matched false 6 0x86380E03 0x12345112 ∷ matched true 0 0x86380E43 0x12345012 ∷ []),
-        told false 6 0x86380E03 0x12345112 true true false,
+        told false 6 0x86380E03 0x12345112 true true true false,
       )
       ∷ (
         summary (matched false 1 0x86380E03 0x12345012 ∷ matched false 2 0x86380E03 0x12345016 ∷ matched true 0 0x86380E43 0x12345012 ∷ []),
-        told false 1 0x86380E03 0x12345012 true false false,
+        told false 1 0x86380E03 0x12345012 true true false false,
       )
       ∷ (summary (matchesOf 0x0C701C 2 example example), nothingFound)
       ∷ []

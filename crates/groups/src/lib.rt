@@ -47,14 +47,15 @@ pub fn words_agree(second: u32, other: u32) -> bool
     second == other
 }
 
-// What one pass over the matches tells: the first match's place and words, whether a further match's second word does not agree with
-// the first's, and whether R and C are set in any.
+// What one pass over the matches tells: the first match's place and words, whether there is a further match, whether a further match's
+// second word does not agree with the first's, and whether R and C are set in any.
 pub struct Search {
     pub found: bool,
     pub secondary: bool,
     pub entry: usize,
     pub first: u32,
     pub second: u32,
+    pub several: bool,
     pub differs: bool,
     pub referenced: bool,
     pub changed: bool,
@@ -71,6 +72,7 @@ impl Search {
             entry: 0,
             first: 0,
             second: 0,
+            several: false,
             differs: false,
             referenced: false,
             changed: false,
@@ -90,6 +92,7 @@ impl Search {
                 entry: self.entry,
                 first: self.first,
                 second: self.second,
+                several: true,
                 differs: self.differs | !words_agree(self.second, second),
                 referenced: self.referenced | r,
                 changed: self.changed | c,
@@ -101,6 +104,7 @@ impl Search {
                 entry,
                 first,
                 second,
+                several: false,
                 differs: false,
                 referenced: r,
                 changed: c,
@@ -238,6 +242,30 @@ pub fn edit_both(
     let next = secondary * 64;
     let end = next + 64;
     edit_group(&mut table[next..end], true, vsid, api, edit);
+}
+
+// Edits each match that a search of the page's groups found: the one match where it stands, or, where there are several, both groups.
+pub fn edit_found(
+    table: &mut [u8],
+    primary: usize,
+    secondary: usize,
+    vsid: u32,
+    api: u32,
+    search: Search,
+    edit: Edit,
+)
+    requires { ⌜ (EditFits edit) × (64 * primary + 64 ≤ length (now table)) × (64 * secondary + 64 ≤ length (now table))
+        × (primary ≡ secondary → ⊥) × (search .found ≡ true)
+        × (search ≡ summary (matchesOf vsid api (groupOf (now table) primary) (groupOf (now table) secondary))) ⌝ }
+    ensures { λ _. ⌜ now (table .exit) ≡ onGroup (onGroup (now (table .entry)) primary (editMatches edit false vsid api)) secondary (editMatches edit true vsid api) ⌝ }
+{
+    if search.several {
+        edit_both(table, primary, secondary, vsid, api, edit);
+        return;
+    }
+    let group = if search.secondary { secondary } else { primary };
+    let made = edited_words(edit, search.first, search.second);
+    put_entry(table, group, search.entry, made.first, made.second);
 }
 
 // Zeroes the table.

@@ -96,12 +96,13 @@ fn unmap_page(sdr1: u32, vsid: u32, index: u32, table: &mut [u8]) -> WordAnswer
     if !search.found {
         return WordAnswer { result: 8, word: 0 };
     }
-    groups::edit_both(
+    groups::edit_found(
         table,
         at.primary,
         at.secondary,
         vsid,
         at.api,
+        search,
         groups::Edit::Clear,
     );
     WordAnswer {
@@ -121,12 +122,13 @@ fn protect_page(sdr1: u32, vsid: u32, index: u32, pp: u32, table: &mut [u8]) -> 
     if !search.found {
         return 8;
     }
-    groups::edit_both(
+    groups::edit_found(
         table,
         at.primary,
         at.secondary,
         vsid,
         at.api,
+        search,
         groups::Edit::Protect(pp),
     );
     0

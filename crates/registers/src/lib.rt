@@ -5,7 +5,7 @@ ghost use Prim.Native.Nat.{_-_, _<_, _^_};
 ghost use lib.ListN.{length};
 ghost use Rattle.registers.specs.Sdr1.{sdr1Shape, tableLength, hashBits};
 ghost use Rattle.registers.specs.Segment.{segmentShape};
-ghost use Rattle.registers.specs.Set.{segmentOf, segmentsShape, sideStart, upperOf, lowerOf, sideShape, pairApart, sideApart, checkSet, replaced, pageSet, coveringPair};
+ghost use Rattle.registers.specs.Set.{segmentOf, segmentsShape, sideStart, upperOf, lowerOf, sideShape, pairApart, sideApart, checkWords, checkSet, replaced, pageSet, coveringPair};
 ghost use Rattle.registers.specs.Block.{blockShape, clash, covers, inBlock, blockPhysical};
 
 // The words of the register page in order: SDR1, segments 0 to 15, four instruction pairs, four data pairs.
@@ -57,7 +57,10 @@ pub fn block_shape(side: bool, upper: u32, lower: u32) -> bool
         return true;
     }
     let bl = (upper >> 2) & 0x7FF;
-    let upper_good = words::low_ones(bl) & ((upper >> 13) & 0xF == 0) & ((upper >> 17) & bl == 0);
+    if !words::low_ones(bl) {
+        return false;
+    }
+    let upper_good = ((upper >> 13) & 0xF == 0) & ((upper >> 17) & bl == 0);
     let lower_good = ((lower >> 17) & bl == 0)
         & ((lower >> 7) & 0x3FF == 0)
         & ((lower >> 2) & 1 == 0)
@@ -104,6 +107,101 @@ pub fn side_start(side: bool) -> usize
     if side { 25 } else { 17 }
 }
 
+// Whether each pair of a side has the shape of that side's blocks.
+pub fn side_shape(words: &[u32; 33], side: bool) -> bool
+    ensures { λ r. ⌜ r ≡ sideShape 4 11 (now (words .entry)) side ⌝ }
+{
+    let start = side_start(side);
+    let mut i: usize = 0;
+    while i < 4 {
+        let at = start + 2 * i;
+        if !block_shape(side, words[at], words[at + 1]) {
+            return false;
+        }
+        i += 1;
+    }
+    true
+}
+
+// Whether pair `j` of a side shares no address and V bit with a pair before it.
+pub fn pair_apart(words: &[u32; 33], side: bool, j: usize) -> bool
+    requires { ⌜ j < 4 ⌝ }
+    ensures { λ r. ⌜ r ≡ pairApart 4 11 (now (words .entry)) side j ⌝ }
+{
+    let start = side_start(side);
+    let upper = words[start + 2 * j];
+    let mut i: usize = 0;
+    while i < j {
+        if blocks_clash(words[start + 2 * i], upper) {
+            return false;
+        }
+        i += 1;
+    }
+    true
+}
+
+// Whether no two pairs of a side share an address and a V bit.
+pub fn side_apart(words: &[u32; 33], side: bool) -> bool
+    ensures { λ r. ⌜ r ≡ sideApart 4 11 (now (words .entry)) side ⌝ }
+{
+    let mut j: usize = 0;
+    while j < 4 {
+        if !pair_apart(words, side, j) {
+            return false;
+        }
+        j += 1;
+    }
+    true
+}
+
+// Whether each of the sixteen segment registers has its shape.
+pub fn segments_shape(words: &[u32; 33]) -> bool
+    ensures { λ r. ⌜ r ≡ segmentsShape (now (words .entry)) ⌝ }
+{
+    let mut i: usize = 0;
+    while i < 16 {
+        if !segment_shape(words[1 + i]) {
+            return false;
+        }
+        i += 1;
+    }
+    true
+}
+
+// 0, or the number of the first rule that the words break.
+pub fn check_words(words: &[u32; 33]) -> u32
+    ensures { λ r. ⌜ r ≡ checkWords 4 11 (now (words .entry)) ⌝ }
+{
+    if !sdr1_shape(words[0]) {
+        return 2;
+    }
+    if !(side_shape(words, false) & side_shape(words, true)) {
+        return 3;
+    }
+    if !(side_apart(words, false) & side_apart(words, true)) {
+        return 4;
+    }
+    if !segments_shape(words) {
+        return 5;
+    }
+    0
+}
+
+// The first pair of a side that covers the address for the user or the supervisor, or 4 where none does.
+pub fn first_covering(words: &[u32; 33], side: bool, user: bool, address: u32) -> usize
+    ensures { λ r. ⌜ r ≡ coveringPair 4 11 (now (words .entry)) side user address ⌝ }
+{
+    let start = side_start(side);
+    let mut i: usize = 0;
+    while i < 4 {
+        if block_covers(user, words[start + 2 * i], address) {
+            return i;
+        }
+        i += 1;
+    }
+    4
+}
+
 impl Registers {
     // The upper word of a pair.
     pub fn upper(self, side: bool, i: usize) -> u32
@@ -123,81 +221,12 @@ impl Registers {
         self.words[start + 2 * i + 1]
     }
 
-    // Whether each pair of a side has the shape of that side's blocks.
-    pub fn side_shape(self, side: bool) -> bool
-        ensures { λ r. ⌜ r ≡ sideShape 4 11 (self .words) side ⌝ }
-    {
-        let mut i: usize = 0;
-        while i < 4 {
-            if !block_shape(side, self.upper(side, i), self.lower(side, i)) {
-                return false;
-            }
-            i += 1;
-        }
-        true
-    }
-
-    // Whether pair `j` of a side shares no address and V bit with a pair before it.
-    pub fn pair_apart(self, side: bool, j: usize) -> bool
-        requires { ⌜ j < 4 ⌝ }
-        ensures { λ r. ⌜ r ≡ pairApart 4 11 (self .words) side j ⌝ }
-    {
-        let upper = self.upper(side, j);
-        let mut i: usize = 0;
-        while i < j {
-            if blocks_clash(self.upper(side, i), upper) {
-                return false;
-            }
-            i += 1;
-        }
-        true
-    }
-
-    // Whether no two pairs of a side share an address and a V bit.
-    pub fn side_apart(self, side: bool) -> bool
-        ensures { λ r. ⌜ r ≡ sideApart 4 11 (self .words) side ⌝ }
-    {
-        let mut j: usize = 0;
-        while j < 4 {
-            if !self.pair_apart(side, j) {
-                return false;
-            }
-            j += 1;
-        }
-        true
-    }
-
-    // Whether each of the sixteen segment registers has its shape.
-    pub fn segments_shape(self) -> bool
-        ensures { λ r. ⌜ r ≡ segmentsShape (self .words) ⌝ }
-    {
-        let mut i: usize = 0;
-        while i < 16 {
-            if !segment_shape(self.words[1 + i]) {
-                return false;
-            }
-            i += 1;
-        }
-        true
-    }
-
     // 0, or the number of the first rule that the set breaks.
     pub fn check(self) -> u32
         ensures { λ r. ⌜ r ≡ checkSet self ⌝ }
     {
-        if !sdr1_shape(self.words[0]) {
-            return 2;
-        }
-        if !(self.side_shape(false) & self.side_shape(true)) {
-            return 3;
-        }
-        if !(self.side_apart(false) & self.side_apart(true)) {
-            return 4;
-        }
-        if !self.segments_shape() {
-            return 5;
-        }
-        0
+        let words = self.words;
+        check_words(&words)
     }
 
     // The set with one word changed, or the refusal and the old set.
@@ -226,14 +255,8 @@ impl Registers {
     pub fn covering_pair(self, side: bool, user: bool, address: u32) -> usize
         ensures { λ r. ⌜ r ≡ coveringPair 4 11 (self .words) side user address ⌝ }
     {
-        let mut i: usize = 0;
-        while i < 4 {
-            if block_covers(user, self.upper(side, i), address) {
-                return i;
-            }
-            i += 1;
-        }
-        4
+        let words = self.words;
+        first_covering(&words, side, user, address)
     }
 
     // A segment register.
@@ -252,6 +275,11 @@ pub fn read_set(page: &[u8]) -> Registers
 {
     let mut words = [0u32; 33];
     let mut i: usize = 0;
+    // Two short loops of known length, which the compiler unrolls.
+    while i < 17 {
+        words[i] = words::read_word(page, 4 * i);
+        i += 1;
+    }
     while i < 33 {
         words[i] = words::read_word(page, 4 * i);
         i += 1;

@@ -16,7 +16,7 @@ use Rattle.groups.specs.declared.Edit.{Edit}
 use Rattle.groups.specs.declared.Place.{Place}
 use Rattle.groups.specs.declared.Place.the-variants.{Entry}
 use Rattle.groups.specs.declared.Search.{Search}
-use Rattle.groups.proofs.Hash.{group-lt, within-table}
+use Rattle.groups.proofs.Hash.{group-lt, own-groups-differ, within-table}
 use Rattle.groups.proofs.Free.{PlaceCase, in-primary, in-secondary, nowhere, place-case}
 use Rattle.groups.proofs.Matches.{h-is}
 use Rattle.calls.specs.OnBytes.{entryWord}
@@ -40,6 +40,10 @@ module _ (sdr1 : ℕ) (page : Page) where
   module _ (at : Located) (e : at ≡ located sdr1 page) where
     pub both-inside : (lent : ℕ) → sdr1Shape sdr1 ≡ true → lent ≡ tableLength sdr1 → (64 * at .primary + 64 ≤ lent) × (64 * at .secondary + 64 ≤ lent)
     both-inside lent shape right = rw e (inside lent shape right false, inside lent shape right true)
+
+    pub groups-apart : at .primary ≡ at .secondary → ⊥
+    groups-apart q =
+        own-groups-differ (10 + maskOnes sdr1) page (omega arith) (sym (ap (λ (l : Located). l .secondary) e) ∙ sym q ∙ ap (λ (l : Located). l .primary) e)
 
     pub api-lt : page .index < 2 ^ 16 → at .api < 2 ^ 6
     unfolding apiOf

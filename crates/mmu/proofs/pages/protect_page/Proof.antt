@@ -1,4 +1,4 @@
--- `mmu::pages::protect_page` meets its contract: where the search found a match, the edit of both groups is the overwriting of each match.
+-- `mmu::pages::protect_page` meets its contract: where the search found a match, the edit of what it found is the overwriting of each match.
 use mathlib.Core.Path.{_≡_, sym, ap, _∙_}
 use mathlib.Core.List.{List, []}
 use Prim.Native.Nat.{ℕ}
@@ -7,7 +7,7 @@ use Rattle.registers.specs.Sdr1.{maskOnes}
 use Rattle.groups.specs.declared.Edit.the-variants.{Protect}
 use Rattle.calls.specs.OnBytes.{ended}
 use Rattle.calls.proofs.PageCalls.{pageSearch, protect-missing, protect-done}
-use Rattle.mmu.proofs.located.AtPage.{inside, both-inside, search-is, edited-is}
+use Rattle.mmu.proofs.located.AtPage.{inside, both-inside, groups-apart, search-is, edited-is}
 use borrow.Author.Needs.{needs}
 use Rattle.mmu.proofs.pages.protect_page.Statement.{statement}
 use Rattle.mmu.proofs.pages.protect_page.Tie as tie
@@ -32,12 +32,12 @@ same-length c = search needs
 returns : tie.Need-returns
 returns c = sym (protect-missing _ _ _ _ (told (c .before .before)) _ _ (not-true _ (c .if1 .taken)))
 
-edit-both-requires : tie.Need-edit-both-requires
-edit-both-requires c κs =
+edit-found-requires : tie.Need-edit-found-requires
+edit-found-requires c κs =
     let l = c .before .before .before .before .before in
     let start = l .before .before in
     let (first, second) = both-inside _ _ _ (l .locate .ensures) _ (start .pre .0) (start .pre .1) in
-    (start .pre .2, first, second)
+    (start .pre .2, first, second, groups-apart _ _ _ (l .locate .ensures), not-false _ (c .before .if1 .left), c .before .before .before .search-both .ensures)
 
 same-length-2 : tie.Need-same-length-2
 same-length-2 c = search needs
@@ -48,7 +48,7 @@ returns-2 c =
     let s = e .before .before .before .before in
     let l = s .before .before in
     let start = l .before .before in
-    ap (λ (t : List ℕ). ended 0 t []) (edited-is _ _ _ (l .locate .ensures) _ (Protect (start .args .pp)) _ (e .edit-both .ensures))
+    ap (λ (t : List ℕ). ended 0 t []) (edited-is _ _ _ (l .locate .ensures) _ (Protect (start .args .pp)) _ (e .edit-found .ensures))
     ∙ sym (protect-done _ _ _ _ (told s) (inside _ _ _ (start .pre .0) (start .pre .1)) (not-false _ (e .before .before .if1 .left)) _ _)
 
 pub protect-page-spec : {M : Type 1} → statement M
@@ -59,6 +59,6 @@ protect-page-spec =
     search-both-requires
     same-length
     returns
-    edit-both-requires
+    edit-found-requires
     same-length-2
     returns-2)

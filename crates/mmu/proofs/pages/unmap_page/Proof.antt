@@ -1,4 +1,4 @@
--- `mmu::pages::unmap_page` meets its contract: where the search found a match, the edit of both groups is the overwriting of each match.
+-- `mmu::pages::unmap_page` meets its contract: where the search found a match, the edit of what it found is the overwriting of each match.
 use mathlib.Core.Path.{_≡_, sym, ap₂, _∙_}
 use borrow.Author.Tests.{not-true, not-false}
 use Rattle.registers.specs.Sdr1.{maskOnes}
@@ -6,7 +6,7 @@ use Rattle.groups.specs.declared.Edit.the-variants.{Clear}
 use Rattle.calls.specs.Answers.{wordAnswer}
 use Rattle.calls.specs.OnBytes.{ended}
 use Rattle.calls.proofs.PageCalls.{pageSearch, unmap-missing, unmap-done}
-use Rattle.mmu.proofs.located.AtPage.{inside, both-inside, search-is, edited-is}
+use Rattle.mmu.proofs.located.AtPage.{inside, both-inside, groups-apart, search-is, edited-is}
 use borrow.Author.Needs.{needs}
 use Rattle.mmu.proofs.pages.unmap_page.Statement.{statement}
 use Rattle.mmu.proofs.pages.unmap_page.Tie as tie
@@ -31,12 +31,12 @@ same-length c = search needs
 returns : tie.Need-returns
 returns c = sym (unmap-missing _ _ _ _ (told (c .before .before)) _ _ (not-true _ (c .if1 .taken)))
 
-edit-both-requires : tie.Need-edit-both-requires
-edit-both-requires c κs =
+edit-found-requires : tie.Need-edit-found-requires
+edit-found-requires c κs =
     let l = c .before .before .before .before .before in
     let start = l .before .before in
     let (first, second) = both-inside _ _ _ (l .locate .ensures) _ (start .pre .0) (start .pre .1) in
-    (tt, first, second)
+    (search needs, first, second, groups-apart _ _ _ (l .locate .ensures), not-false _ (c .before .if1 .left), c .before .before .before .search-both .ensures)
 
 with-marks-requires : tie.Need-with-marks-requires
 with-marks-requires c κs = search needs
@@ -50,7 +50,7 @@ returns-2 c =
     let s = e .before .before .before .before in
     let l = s .before .before in
     let start = l .before .before in
-    ap₂ (λ t w. ended 0 t (wordAnswer 0 w)) (edited-is _ _ _ (l .locate .ensures) _ Clear _ (e .edit-both .ensures)) (c .with-marks .ensures)
+    ap₂ (λ t w. ended 0 t (wordAnswer 0 w)) (edited-is _ _ _ (l .locate .ensures) _ Clear _ (e .edit-found .ensures)) (c .with-marks .ensures)
     ∙ sym (unmap-done _ _ _ _ (told s) (inside _ _ _ (start .pre .0) (start .pre .1)) (not-false _ (e .before .before .if1 .left)) _ _)
 
 pub unmap-page-spec : {M : Type 1} → statement M
@@ -61,7 +61,7 @@ unmap-page-spec =
     search-both-requires
     same-length
     returns
-    edit-both-requires
+    edit-found-requires
     with-marks-requires
     same-length-2
     returns-2)

@@ -1,21 +1,21 @@
--- `registers::Registers::side_apart` meets its contract. The invariant: each pair that was passed is apart from those before it.
+-- `registers::side_apart` meets its contract. The invariant: each pair that was passed is apart from those before it.
 use borrow.Author.Needs.{needs}
 use borrow.Author.Tests.{not-true, not-false}
-use mathlib.Core.Path.{_≡_, refl, sym, ap, ap₂, _∙_}
-use mathlib.Core.Bool.{Bool, true, not}
-use Prim.Native.Nat.{ℕ, _≤_, _-_}
+use mathlib.Core.Path.{_≡_, refl, sym, _∙_}
+use mathlib.Core.Bool.{true}
+use Prim.Native.Nat.{_≤_, _-_}
 use native.Mathlib.Omega.{arith}
 use Rattle.words.specs.Below.{everyBelow}
 use Rattle.words.proofs.Below.{every-more, every-not}
 use Rattle.registers.specs.Set.{pairApart, sideApart}
-use Rattle.registers.proofs.Registers.side_apart.Statement.{statement}
-use Rattle.registers.proofs.Registers.side_apart.Tie as tie
+use Rattle.registers.proofs.side_apart.Statement.{statement}
+use Rattle.registers.proofs.side_apart.Tie as tie
 
 abbrev Inv-loop : tie.InvT-loop
-Inv-loop self side j₀ j = (j ≤ 4) × (everyBelow j (pairApart 4 11 (self .words) side) ≡ true)
+Inv-loop words side j₀ j = (j ≤ 4) × (everyBelow j (pairApart 4 11 words side) ≡ true)
 
 abbrev μ-loop : tie.MeasureT-loop
-μ-loop self side j₀ j = 4 - j
+μ-loop words side j₀ j = 4 - j
 
 loop-holds : tie.Need-loop-holds Inv-loop μ-loop
 unfolding everyBelow
@@ -28,7 +28,7 @@ returns : tie.Need-returns Inv-loop μ-loop
 unfolding sideApart
 returns c =
     let at-loop = c .before .before .before in
-    every-not (pairApart 4 11 (at-loop .before .args .self .words) (at-loop .before .args .side)) 4 (at-loop .loop .j) (c .before .before .loop-test .taken)
+    every-not (pairApart 4 11 (at-loop .before .args .words .now) (at-loop .before .args .side)) 4 (at-loop .loop .j) (c .before .before .loop-test .taken)
     (sym (c .before .pair-apart .ensures) ∙ not-true _ (c .if1 .taken))
 
 add-j : tie.Need-add-j Inv-loop μ-loop
@@ -41,7 +41,7 @@ loop-again : tie.Need-loop-again Inv-loop μ-loop
 loop-again c =
     let at-loop = c .before .before .before in (
       search needs,
-      every-more (pairApart 4 11 (at-loop .before .args .self .words) (at-loop .before .args .side)) (at-loop .loop .j) (at-loop .loop .inv .1)
+      every-more (pairApart 4 11 (at-loop .before .args .words .now) (at-loop .before .args .side)) (at-loop .loop .j) (at-loop .loop .inv .1)
           (sym (c .before .pair-apart .ensures) ∙ not-false _ (c .if1 .left)),
     )
 

@@ -1,21 +1,21 @@
--- `registers::Registers::segments_shape` meets its contract. The invariant: each segment register that was passed has its shape.
+-- `registers::segments_shape` meets its contract. The invariant: each segment register that was passed has its shape.
 use borrow.Author.Needs.{needs}
 use borrow.Author.Tests.{not-true, not-false}
-use mathlib.Core.Path.{_≡_, refl, sym, ap, ap₂, _∙_}
-use mathlib.Core.Bool.{Bool, true, not}
-use Prim.Native.Nat.{ℕ, _≤_, _-_}
+use mathlib.Core.Path.{_≡_, refl, sym, _∙_}
+use mathlib.Core.Bool.{true}
+use Prim.Native.Nat.{_≤_, _-_}
 use native.Mathlib.Omega.{arith}
 use Rattle.words.specs.Below.{everyBelow}
 use Rattle.words.proofs.Below.{every-more, every-not}
 use Rattle.registers.specs.Set.{segmentShapeAt, segmentsShape}
-use Rattle.registers.proofs.Registers.segments_shape.Statement.{statement}
-use Rattle.registers.proofs.Registers.segments_shape.Tie as tie
+use Rattle.registers.proofs.segments_shape.Statement.{statement}
+use Rattle.registers.proofs.segments_shape.Tie as tie
 
 abbrev Inv-loop : tie.InvT-loop
-Inv-loop self i₀ i = (i ≤ 16) × (everyBelow i (segmentShapeAt (self .words)) ≡ true)
+Inv-loop words i₀ i = (i ≤ 16) × (everyBelow i (segmentShapeAt words) ≡ true)
 
 abbrev μ-loop : tie.MeasureT-loop
-μ-loop self i₀ i = 16 - i
+μ-loop words i₀ i = 16 - i
 
 loop-holds : tie.Need-loop-holds Inv-loop μ-loop
 unfolding everyBelow
@@ -37,7 +37,7 @@ returns : tie.Need-returns Inv-loop μ-loop
 unfolding segmentsShape
 returns c =
     let at-loop = c .before .before .before .before in
-    every-not (segmentShapeAt (at-loop .before .args .t1 .words)) 16 (at-loop .loop .i) (c .before .before .before .loop-test .taken)
+    every-not (segmentShapeAt (at-loop .before .args .words .now)) 16 (at-loop .loop .i) (c .before .before .before .loop-test .taken)
     (sym (c .before .segment-shape .ensures) ∙ not-true _ (c .if1 .taken))
 
 add-i : tie.Need-add-i Inv-loop μ-loop
@@ -50,7 +50,7 @@ loop-again : tie.Need-loop-again Inv-loop μ-loop
 loop-again c =
     let at-loop = c .before .before .before .before in (
       search needs,
-      every-more (segmentShapeAt (at-loop .before .args .t1 .words)) (at-loop .loop .i) (at-loop .loop .inv .1)
+      every-more (segmentShapeAt (at-loop .before .args .words .now)) (at-loop .loop .i) (at-loop .loop .inv .1)
           (sym (c .before .segment-shape .ensures) ∙ not-false _ (c .if1 .left)),
     )
 

@@ -1,0 +1,327 @@
+/*
+ * Holds the plain C against the library: random calls, good and bad, on two copies of everything that is lent.
+ * After each call the result numbers and every lent byte must be equal.
+ *
+ *   agree CALLS SEED   prints how often each call gave each result; fails where one of them was never met
+ *   agree -s CALLS SEED   the same for small counts: a result that was not met is no failure
+ */
+#include "calls.h"
+
+#include <stdio.h>
+#include <stdlib.h>
+#include <string.h>
+
+enum { CHECK, SET_REGISTER, CLEAR, MAP, UNMAP, PROTECT, LOOK, ACCESS, PACK, UNPACK, CALLS };
+enum { LARGEST_TABLE = 1 << 19, ROUND = 400, VSIDS = 8, PAGES = 4 };
+
+static const char *const names[CALLS] = { "check", "set_register", "clear", "map", "unmap",
+                                          "protect", "look", "access", "pack", "unpack" };
+
+/* The results that each call can give; a 255 ends a list. */
+static const uint8_t possible[CALLS][12] = {
+    { 0, 2, 3, 4, 5, 11, 255 },
+    { 0, 2, 3, 4, 5, 6, 11, 255 },
+    { 0, 1, 2, 255 },
+    { 0, 1, 2, 6, 7, 9, 255 },
+    { 0, 1, 2, 6, 8, 11, 255 },
+    { 0, 1, 2, 6, 8, 255 },
+    { 0, 1, 2, 6, 8, 10, 11, 255 },
+    { 0, 1, 2, 3, 4, 5, 6, 10, 11, 64, 65, 255 },
+    { 0, 6, 11, 255 },
+    { 0, 11, 255 },
+};
+
+/* What is lent, one byte longer than any call takes, so that a length can be one too many. */
+struct lent {
+    uint8_t registers[MMU_REGISTERS_SIZE + 1];
+    uint8_t answer[MMU_FIELDS_SIZE + 1];
+    uint8_t table[LARGEST_TABLE + 1];
+};
+
+struct request {
+    int call;
+    uint32_t sdr1, vsid, page_index, rpn, wimg, pp, mode, kind, address, number, word;
+    uint32_t v, h, api, r, c;
+    size_t registers_len, table_len, answer_len;
+};
+
+static struct lent lent[2];
+static uint64_t state;
+static uint32_t odds = 40;
+static unsigned long seen[CALLS][66];
+
+/* ---- Random numbers --------------------------------------------------------------------------- */
+
+static uint32_t any(void)
+{
+    state ^= state >> 12;
+    state ^= state << 25;
+    state ^= state >> 27;
+    return (uint32_t)((state * UINT64_C(2685821657736338717)) >> 32);
+}
+
+static uint32_t below(uint32_t bound)
+{
+    return any() % bound;
+}
+
+/* Mostly one time in forty; for some requests every other time, so that several rules are broken at once. */
+static int rarely(void)
+{
+    return below(odds) == 0;
+}
+
+/* A number below the bound; rarely the bound itself or any number. */
+static uint32_t argument(uint32_t bound)
+{
+    if (rarely())
+        return below(2) ? bound : any();
+    return below(bound);
+}
+
+/* The right length; rarely 0, one less or one more. */
+static size_t length(size_t right)
+{
+    static const int off[3] = { -1, 1, 0 };
+    if (!rarely())
+        return right;
+    return below(3) == 0 ? 0 : right + (size_t)off[below(2)];
+}
+
+/* ---- Register pages --------------------------------------------------------------------------- */
+
+static uint32_t low_ones(uint32_t most)
+{
+    return (1u << below(most + 1)) - 1;
+}
+
+static uint32_t random_sdr1(void)
+{
+    uint32_t mask = below(8) == 0 ? low_ones(3) : 0;
+    return (any() & 0xFFFF0000u & ~(mask << 16)) | mask;
+}
+
+/* VSIDs that differ above the hashed bits, so that their pages meet in the same two groups. */
+static uint32_t random_vsid(void)
+{
+    return 0x2701C ^ below(VSIDS) << 19;
+}
+
+/* Page indices that differ in API and in the group. */
+static uint32_t random_page(void)
+{
+    static const uint32_t pages[PAGES] = { 0x0FFA, 0x13FA, 0x0FFB, 0xF005 };
+    return pages[below(PAGES)];
+}
+
+static void put_both(size_t offset, uint32_t word)
+{
+    mmu_put_word(lent[0].registers, offset, word);
+    mmu_put_word(lent[1].registers, offset, word);
+}
+
+/* A pair of right shape in one of the topmost places, often on. */
+static void random_pair(uint32_t number, int data)
+{
+    static const uint32_t attributes[8] = { 0, 2, 4, 6, 1, 3, 8, 11 };
+    uint32_t bl = below(3) ? low_ones(11) : 0;
+    uint32_t start = (0x4000 | below(8) << 11 | below(64)) & ~bl & 0x7FFF;
+    uint32_t physical = any() & 0x7FFF & ~bl;
+    uint32_t wimg = attributes[below(data ? 8 : 4)];
+    put_both(MMU_REGISTER_OFFSET(number), start << 17 | bl << 2 | (below(4) ? 1 + below(3) : 0));
+    put_both(MMU_REGISTER_OFFSET(number + 1), physical << 17 | wimg << 3 | below(4));
+}
+
+static void random_registers(uint32_t sdr1)
+{
+    uint32_t i;
+    put_both(0, sdr1);
+    for (i = 0; i < 16; i++)
+        put_both(MMU_REGISTER_OFFSET(MMU_REGISTER_SEGMENT(i)), below(8) << 28 | random_vsid());
+    for (i = 0; i < 4; i++) {
+        random_pair(MMU_REGISTER_INSTRUCTION_UPPER(i), 0);
+        random_pair(MMU_REGISTER_DATA_UPPER(i), 1);
+    }
+}
+
+/* One bit of one word turned, so that each rule is broken now and then. */
+static void spoil_registers(void)
+{
+    size_t offset = MMU_REGISTER_OFFSET(below(MMU_REGISTER_COUNT));
+    put_both(offset, mmu_get_word(lent[0].registers, offset) ^ (1u << below(32)));
+}
+
+/* ---- Tables ----------------------------------------------------------------------------------- */
+
+/* An entry of a page in one of its groups, or nearly one, as another writer could have left it. */
+static void plant_entry(uint32_t sdr1)
+{
+    uint32_t vsid = random_vsid();
+    uint32_t page = random_page();
+    uint32_t mask = (sdr1 & MMU_SDR1_MASK) << 10 | 0x3FF;
+    uint32_t h = below(2);
+    uint32_t group = ((vsid ^ page) & mask) ^ (h ? mask : 0);
+    uint32_t first = MMU_FIRST_V | vsid << MMU_FIRST_VSID_SHIFT | h << 6 | page >> 10;
+    size_t at = (size_t)group * MMU_GROUP_SIZE + below(8) * MMU_ENTRY_SIZE;
+    if (below(4) == 0)
+        first ^= 1u << below(32);
+    mmu_put_word(lent[0].table, at, first);
+    mmu_put_word(lent[0].table, at + 4, below(2) ? any() : 0x12345012u);
+    memcpy(lent[1].table + at, lent[0].table + at, MMU_ENTRY_SIZE);
+}
+
+/* ---- Calls ------------------------------------------------------------------------------------ */
+
+/* An access more often than the rest, a clear seldom, so that the table fills. */
+static int random_call(void)
+{
+    int call = (int)below(CALLS + 6);
+    if (call == CLEAR && below(40))
+        call = MAP;
+    return call < CALLS ? call : ACCESS;
+}
+
+static struct request random_request(uint32_t sdr1)
+{
+    static const uint32_t answers[3] = { MMU_ANSWER_SIZE, MMU_ENTRY_SIZE, MMU_FIELDS_SIZE };
+    struct request q;
+    odds = below(12) ? 40 : 2;
+    q.call = random_call();
+    q.sdr1 = rarely() ? sdr1 ^ 1u << below(32) : sdr1;
+    q.vsid = rarely() ? argument(1u << 24) : random_vsid();
+    q.page_index = rarely() ? argument(1u << 16) : random_page();
+    q.rpn = argument(1u << 20);
+    q.wimg = argument(16);
+    q.pp = argument(4);
+    q.mode = argument(8);
+    q.kind = argument(3);
+    q.address = below(3) ? below(16) << 28 | random_page() << 12 | below(4096) : 0x80000000u | any();
+    q.number = argument(33);
+    q.word = any();
+    q.v = argument(2);
+    q.h = argument(2);
+    q.api = argument(64);
+    q.r = argument(2);
+    q.c = argument(2);
+    q.registers_len = length(MMU_REGISTERS_SIZE);
+    q.table_len = length(MMU_TABLE_SIZE(sdr1));
+    q.answer_len = length(answers[q.call == PACK ? 1 : q.call == UNPACK ? 2 : 0]);
+    return q;
+}
+
+/* A word that often leaves the set whole: the old one with one bit turned, or one of the same kind. */
+static void choose_word(struct request *q)
+{
+    if (q->number < MMU_REGISTER_COUNT && below(2))
+        q->word = mmu_get_word(lent[0].registers, MMU_REGISTER_OFFSET(q->number)) ^ 1u << below(32);
+    else if (q->number >= 1 && q->number <= 16)
+        q->word = below(16) << 28 | random_vsid();
+}
+
+/* A slice of length 0 is lent as NULL. */
+static uint8_t *slice(uint8_t *bytes, size_t len)
+{
+    return len == 0 ? NULL : bytes;
+}
+
+static uint32_t perform(const struct calls *calls, struct lent *l, const struct request *q)
+{
+    uint8_t *registers = slice(l->registers, q->registers_len);
+    uint8_t *table = slice(l->table, q->table_len);
+    uint8_t *answer = slice(l->answer, q->answer_len);
+    switch (q->call) {
+    case CHECK:
+        return calls->check(registers, q->registers_len);
+    case SET_REGISTER:
+        return calls->set_register(registers, q->registers_len, q->number, q->word);
+    case CLEAR:
+        return calls->clear(q->sdr1, table, q->table_len);
+    case MAP:
+        return calls->map(q->sdr1, q->vsid, q->page_index, q->rpn, q->wimg, q->pp, table, q->table_len);
+    case UNMAP:
+        return calls->unmap(q->sdr1, q->vsid, q->page_index, table, q->table_len, answer, q->answer_len);
+    case PROTECT:
+        return calls->protect(q->sdr1, q->vsid, q->page_index, q->pp, table, q->table_len);
+    case LOOK:
+        return calls->look(q->sdr1, q->vsid, q->page_index, table, q->table_len, answer, q->answer_len);
+    case ACCESS:
+        return calls->access(registers, q->registers_len, q->mode, q->kind, q->address, table, q->table_len, answer,
+                             q->answer_len);
+    case PACK:
+        return calls->pack(q->v, q->vsid, q->h, q->api, q->rpn, q->r, q->c, q->wimg, q->pp, answer, q->answer_len);
+    default:
+        return calls->unpack(q->word, q->address, answer, q->answer_len);
+    }
+}
+
+static int same_bytes(size_t table_size)
+{
+    return memcmp(lent[0].registers, lent[1].registers, sizeof lent[0].registers) == 0
+        && memcmp(lent[0].answer, lent[1].answer, sizeof lent[0].answer) == 0
+        && memcmp(lent[0].table, lent[1].table, table_size + 1) == 0;
+}
+
+static void step(uint32_t sdr1)
+{
+    struct request q = random_request(sdr1);
+    uint32_t numbers[2];
+    choose_word(&q);
+    numbers[0] = perform(&library, &lent[0], &q);
+    numbers[1] = perform(&contender, &lent[1], &q);
+    if (numbers[0] != numbers[1] || !same_bytes(MMU_TABLE_SIZE(sdr1))) {
+        fprintf(stderr, "agree: %s: the library gives %u, the plain C %u%s\n", names[q.call], (unsigned)numbers[0],
+                (unsigned)numbers[1], numbers[0] == numbers[1] ? ", and the lent bytes differ" : "");
+        exit(1);
+    }
+    seen[q.call][numbers[0] < 66 ? numbers[0] : 0]++;
+}
+
+/* A round: one SDR1, one register page, some entries of others, then many calls. */
+static void start_round(uint32_t sdr1)
+{
+    int i;
+    for (i = 0; i < 2; i++) {
+        memset(lent[i].table, 0, sizeof lent[i].table);
+        lent[i].table[MMU_TABLE_SIZE(sdr1)] = 0xA5;
+        memset(lent[i].answer, 0xA5, sizeof lent[i].answer);
+    }
+    random_registers(sdr1);
+    if (below(2))
+        spoil_registers();
+    for (i = (int)below(40); i > 0; i--)
+        plant_entry(sdr1);
+}
+
+static int report(int small)
+{
+    int call, i, missed = 0;
+    for (call = 0; call < CALLS; call++) {
+        printf("%-13s", names[call]);
+        for (i = 0; possible[call][i] != 255; i++) {
+            printf(" %u:%lu", possible[call][i], seen[call][possible[call][i]]);
+            missed += seen[call][possible[call][i]] == 0;
+        }
+        printf("\n");
+    }
+    if (missed && !small)
+        fprintf(stderr, "agree: %d results were never met\n", missed);
+    return missed && !small;
+}
+
+int main(int argc, char **argv)
+{
+    int small = argc > 1 && strcmp(argv[1], "-s") == 0;
+    long calls = argc > 1 + small ? atol(argv[1 + small]) : 100000;
+    long done;
+    uint32_t sdr1 = 0;
+    state = (argc > 2 + small ? (uint64_t)atol(argv[2 + small]) : 1) * UINT64_C(0x9E3779B97F4A7C15) + 1;
+    for (done = 0; done < calls; done++) {
+        if (done % ROUND == 0) {
+            sdr1 = random_sdr1();
+            start_round(sdr1);
+        }
+        step(sdr1);
+    }
+    printf("%ld calls: equal results and bytes\n", calls);
+    return report(small);
+}

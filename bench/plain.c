@@ -1,0 +1,526 @@
+/*
+ * Document 01's calls in portable C, written for speed: the contender of the benchmarks.
+ * It makes the library's checks in the library's order and shares no code with it.
+ */
+#include "plain.h"
+
+#include <string.h>
+
+/* Every small function is to melt into its caller, where a constant argument takes tests away. */
+#if defined(__GNUC__)
+#define INLINE static inline __attribute__((always_inline))
+#else
+#define INLINE static inline
+#endif
+
+enum { FETCH, LOAD, STORE };
+enum { REGISTERS = 132, SEGMENTS = 4, INSTRUCTION_PAIRS = 68, DATA_PAIRS = 100, PAIRS = 4 };
+
+#define NO_MATCH 0x40000000u
+#define NO_EXECUTE 0x10000000u
+#define PROTECTION 0x08000000u
+#define STORING 0x02000000u
+
+/* ---- Words ------------------------------------------------------------------------------------ */
+
+INLINE uint32_t word_at(const uint8_t *bytes)
+{
+    return (uint32_t)bytes[0] << 24 | (uint32_t)bytes[1] << 16 | (uint32_t)bytes[2] << 8 | bytes[3];
+}
+
+INLINE uint64_t words_at(const uint8_t *bytes)
+{
+    return (uint64_t)bytes[0] << 56 | (uint64_t)bytes[1] << 48 | (uint64_t)bytes[2] << 40 | (uint64_t)bytes[3] << 32
+         | (uint64_t)bytes[4] << 24 | (uint64_t)bytes[5] << 16 | (uint64_t)bytes[6] << 8 | bytes[7];
+}
+
+/* A word as it lies in memory, so that comparing needs no swap of bytes. */
+INLINE uint32_t raw_at(const uint8_t *bytes)
+{
+    uint32_t raw;
+    memcpy(&raw, bytes, 4);
+    return raw;
+}
+
+INLINE uint64_t raw_words_at(const uint8_t *bytes)
+{
+    uint64_t raw;
+    memcpy(&raw, bytes, 8);
+    return raw;
+}
+
+/* The same raw form of a word in a register. */
+INLINE uint32_t raw_of(uint32_t word)
+{
+    uint8_t bytes[4];
+    uint32_t raw;
+    bytes[0] = (uint8_t)(word >> 24);
+    bytes[1] = (uint8_t)(word >> 16);
+    bytes[2] = (uint8_t)(word >> 8);
+    bytes[3] = (uint8_t)word;
+    memcpy(&raw, bytes, 4);
+    return raw;
+}
+
+INLINE void put_word(uint8_t *bytes, uint32_t word)
+{
+    uint32_t raw = raw_of(word);
+    memcpy(bytes, &raw, 4);
+}
+
+INLINE void put_words(uint8_t *bytes, uint32_t first, uint32_t second)
+{
+    put_word(bytes, first);
+    put_word(bytes + 4, second);
+}
+
+INLINE uint32_t answer_words(uint8_t *answer, uint32_t result, uint32_t second, uint32_t third, uint32_t fourth)
+{
+    put_words(answer, result, second);
+    put_words(answer + 8, third, fourth);
+    return result;
+}
+
+INLINE uint32_t refuse(uint8_t *answer, uint32_t number)
+{
+    return answer_words(answer, number, 0, 0, 0);
+}
+
+/* ---- Register words --------------------------------------------------------------------------- */
+
+/* The low half of SDR1 is the mask alone: ones at the low end only, with zeros above them in the origin. */
+INLINE int sdr1_bad(uint32_t sdr1)
+{
+    uint32_t mask = sdr1 & 0xFFFF;
+    return mask > 0x1FF || (((mask + 1) | sdr1 >> 16) & mask) != 0;
+}
+
+/* For an SDR1 of right shape. */
+INLINE size_t table_size(uint32_t sdr1)
+{
+    return (size_t)((sdr1 & 0xFFFF) + 1) << 16;
+}
+
+/* The address bits that run within a block: BL and the low 17. */
+INLINE uint32_t inner_bits(uint32_t upper)
+{
+    return upper << 15 | 0x1FFFF;
+}
+
+/* A block's upper word and the address bits that run within it. */
+struct block {
+    uint32_t upper, inner;
+};
+
+/*
+ * Reads a pair; whether it is on and breaks a rule. `zero` has the bits of both words that must be zero.
+ * BL has a gap where the carry of inner + 1 stops under a one of BL. W and I both one carry into a bit of `zero`.
+ */
+INLINE int block_bad(struct block *block, const uint8_t *bytes, uint64_t zero)
+{
+    uint64_t pair = words_at(bytes);
+    uint32_t upper = (uint32_t)(pair >> 32);
+    uint32_t inner = inner_bits(upper);
+    uint32_t under_bl = ((inner + 1) | upper | (uint32_t)pair) & upper << 15;
+    uint64_t reserved = zero & 0x40 ? pair & zero : (pair | (pair + 0x20)) & zero;
+    block->upper = upper;
+    block->inner = inner;
+    return (upper & 3) && (under_bl | reserved);
+}
+
+/* The V bits in common of two blocks that share an address; BL's ones are at the low end by then. */
+INLINE uint32_t shared(struct block one, struct block other)
+{
+    if ((one.upper ^ other.upper) > (one.inner | other.inner))
+        return 0;
+    return one.upper & other.upper & 3;
+}
+
+/* 3 or 4 where a side breaks that rule, 3 before 4; a side that is off as a whole is quick. */
+INLINE uint32_t side_check(const uint8_t *pairs, uint64_t zero)
+{
+    static const uint8_t valid[8] = { 0, 0, 0, 3, 0, 0, 0, 0 };
+    struct block a, b, c, d;
+    if (!((raw_words_at(pairs) | raw_words_at(pairs + 8) | raw_words_at(pairs + 16) | raw_words_at(pairs + 24))
+          & raw_words_at(valid)))
+        return 0;
+    if (block_bad(&a, pairs, zero) || block_bad(&b, pairs + 8, zero) || block_bad(&c, pairs + 16, zero)
+        || block_bad(&d, pairs + 24, zero))
+        return 3;
+    if (shared(a, b) || shared(a, c) || shared(a, d) || shared(b, c) || shared(b, d) || shared(c, d))
+        return 4;
+    return 0;
+}
+
+/* The segments' words are put together as they lie in memory: only their first bytes are asked about. */
+INLINE int segments_bad(const uint8_t *segments)
+{
+    static const uint8_t zero[8] = { 0x8F, 0, 0, 0, 0x8F, 0, 0, 0 };
+    uint64_t any = 0;
+    int i;
+    for (i = 0; i < 8; i++)
+        any |= raw_words_at(segments + 8 * i);
+    return (any & raw_words_at(zero)) != 0;
+}
+
+static uint32_t check_page(const uint8_t *registers)
+{
+    uint32_t instruction, data;
+    if (sdr1_bad(word_at(registers)))
+        return 2;
+    instruction = side_check(registers + INSTRUCTION_PAIRS, UINT64_C(0x0001E0000001FFCC));
+    data = side_check(registers + DATA_PAIRS, UINT64_C(0x0001E0000001FF84));
+    if (instruction | data)
+        return instruction == 3 || data == 3 ? 3 : 4;
+    return segments_bad(registers + SEGMENTS) ? 5 : 0;
+}
+
+uint32_t PLAIN(check)(const uint8_t *registers, size_t registers_len)
+{
+    return registers_len != REGISTERS ? 11 : check_page(registers);
+}
+
+uint32_t PLAIN(set_register)(uint8_t *registers, size_t registers_len, uint32_t number, uint32_t word)
+{
+    uint8_t next[REGISTERS];
+    uint32_t result;
+    if (registers_len != REGISTERS)
+        return 11;
+    if (number > 32)
+        return 6;
+    memcpy(next, registers, REGISTERS);
+    put_word(next + 4 * number, word);
+    result = check_page(next);
+    if (result == 0)
+        put_word(registers + 4 * number, word);
+    return result;
+}
+
+/* ---- Groups ----------------------------------------------------------------------------------- */
+
+/* A group, to be addressed by entry. */
+struct group {
+    uint8_t entry[8][8];
+};
+
+/* A page's two groups and the first words, as they lie in memory, that match in each. */
+struct pair {
+    struct group *primary, *secondary;
+    uint32_t primary_word, secondary_word;
+};
+
+INLINE struct pair pair_of(uint32_t sdr1, uint32_t vsid, uint32_t page_index, uint8_t *table)
+{
+    struct pair pair;
+    struct group *groups = (struct group *)table;
+    uint32_t mask = (sdr1 & 0xFFFF) << 10 | 0x3FF;
+    uint32_t hash = (vsid ^ page_index) & mask;
+    uint32_t first = 0x80000000u | vsid << 7 | page_index >> 10;
+    pair.primary = groups + hash;
+    pair.secondary = groups + (hash ^ mask);
+    pair.primary_word = raw_of(first);
+    pair.secondary_word = pair.primary_word | raw_of(0x40);
+    return pair;
+}
+
+/* A statement for each entry of a group; written out, since a loop would cost more than the comparison in it. */
+#define EACH_ENTRY(DO) DO(0) DO(1) DO(2) DO(3) DO(4) DO(5) DO(6) DO(7)
+
+INLINE int group_has(const struct group *group, uint32_t word)
+{
+#define RETURN_IF_MATCH(i) if (raw_at(group->entry[i]) == word) return 1;
+    EACH_ENTRY(RETURN_IF_MATCH)
+    return 0;
+}
+
+/*
+ * The matches of a page: the first one's place in search order, or NONE, its second word as it lies in memory, and
+ * whether another's differs; V, VSID and API are equal in all.
+ */
+struct matches {
+    uint32_t place, second;
+    int contradict;
+};
+
+enum { NONE = 16 };
+
+INLINE void note_match(struct matches *matches, const uint8_t *entry, uint32_t place)
+{
+    uint32_t second = raw_at(entry + 4);
+    if (matches->place == NONE) {
+        matches->place = place;
+        matches->second = second;
+    } else if (second != matches->second) {
+        matches->contradict = 1;
+    }
+}
+
+INLINE void search_group(struct matches *matches, const struct group *group, uint32_t word, uint32_t place)
+{
+#define NOTE_IF_MATCH(i) if (raw_at(group->entry[i]) == word) note_match(matches, group->entry[i], place + i);
+    EACH_ENTRY(NOTE_IF_MATCH)
+}
+
+INLINE struct matches search(struct pair pair)
+{
+    struct matches matches = { NONE, 0, 0 };
+    search_group(&matches, pair.primary, pair.primary_word, 0);
+    search_group(&matches, pair.secondary, pair.secondary_word, 8);
+    return matches;
+}
+
+/* ---- Page calls ------------------------------------------------------------------------------- */
+
+/* The refusal that a page call's arguments earn: 6, 2, 1. */
+INLINE uint32_t page_check(uint32_t sdr1, uint32_t vsid, uint32_t page_index, size_t table_len)
+{
+    if (vsid > 0xFFFFFF || page_index > 0xFFFF)
+        return 6;
+    if (sdr1_bad(sdr1))
+        return 2;
+    return table_len != table_size(sdr1);
+}
+
+uint32_t PLAIN(clear)(uint32_t sdr1, uint8_t *table, size_t table_len)
+{
+    uint32_t result = page_check(sdr1, 0, 0, table_len);
+    if (result == 0)
+        memset(table, 0, table_len);
+    return result;
+}
+
+/* A group's first entry with V = 0, or NULL. */
+INLINE uint8_t *free_entry(struct group *group)
+{
+#define RETURN_IF_FREE(i) if (!(group->entry[i][0] & 0x80)) return group->entry[i];
+    EACH_ENTRY(RETURN_IF_FREE)
+    return NULL;
+}
+
+uint32_t PLAIN(map)(uint32_t sdr1, uint32_t vsid, uint32_t page_index, uint32_t rpn, uint32_t wimg, uint32_t pp,
+                    uint8_t *table, size_t table_len)
+{
+    struct pair pair;
+    uint8_t *entry;
+    uint32_t result;
+    if (rpn > 0xFFFFF || wimg > 11 || pp > 3)
+        return 6;
+    result = page_check(sdr1, vsid, page_index, table_len);
+    if (result != 0)
+        return result;
+    pair = pair_of(sdr1, vsid, page_index, table);
+    if (group_has(pair.primary, pair.primary_word) || group_has(pair.secondary, pair.secondary_word))
+        return 7;
+    entry = free_entry(pair.primary);
+    if (entry == NULL) {
+        entry = free_entry(pair.secondary);
+        pair.primary_word = pair.secondary_word;
+    }
+    if (entry == NULL)
+        return 9;
+    memcpy(entry, &pair.primary_word, 4);
+    put_word(entry + 4, rpn << 12 | wimg << 3 | pp);
+    return 0;
+}
+
+/* What an unmap met: how many matches, the first one's second word and the marks of all. */
+struct emptied {
+    uint32_t count, second, marks;
+};
+
+INLINE void empty_entry(struct emptied *emptied, uint8_t *entry)
+{
+    uint32_t second = word_at(entry + 4);
+    if (emptied->count == 0)
+        emptied->second = second;
+    emptied->marks |= second & 0x180;
+    emptied->count++;
+    memset(entry, 0, 8);
+}
+
+INLINE void empty_group(struct emptied *emptied, struct group *group, uint32_t word)
+{
+#define EMPTY_IF_MATCH(i) if (raw_at(group->entry[i]) == word) empty_entry(emptied, group->entry[i]);
+    EACH_ENTRY(EMPTY_IF_MATCH)
+}
+
+uint32_t PLAIN(unmap)(uint32_t sdr1, uint32_t vsid, uint32_t page_index, uint8_t *table, size_t table_len,
+                      uint8_t *answer, size_t answer_len)
+{
+    struct emptied emptied = { 0, 0, 0 };
+    struct pair pair;
+    uint32_t result;
+    if (answer_len != 16)
+        return 11;
+    result = page_check(sdr1, vsid, page_index, table_len);
+    if (result != 0)
+        return refuse(answer, result);
+    pair = pair_of(sdr1, vsid, page_index, table);
+    empty_group(&emptied, pair.primary, pair.primary_word);
+    empty_group(&emptied, pair.secondary, pair.secondary_word);
+    if (emptied.count == 0)
+        return refuse(answer, 8);
+    return answer_words(answer, 0, emptied.second | emptied.marks, 0, 0);
+}
+
+INLINE void protect_entry(uint32_t *count, uint8_t *entry, uint32_t pp)
+{
+    entry[7] = (uint8_t)((entry[7] & 0xFC) | pp);
+    ++*count;
+}
+
+INLINE void protect_group(uint32_t *count, struct group *group, uint32_t word, uint32_t pp)
+{
+#define PROTECT_IF_MATCH(i) if (raw_at(group->entry[i]) == word) protect_entry(count, group->entry[i], pp);
+    EACH_ENTRY(PROTECT_IF_MATCH)
+}
+
+uint32_t PLAIN(protect)(uint32_t sdr1, uint32_t vsid, uint32_t page_index, uint32_t pp, uint8_t *table,
+                        size_t table_len)
+{
+    struct pair pair;
+    uint32_t result, count = 0;
+    if (pp > 3)
+        return 6;
+    result = page_check(sdr1, vsid, page_index, table_len);
+    if (result != 0)
+        return result;
+    pair = pair_of(sdr1, vsid, page_index, table);
+    protect_group(&count, pair.primary, pair.primary_word, pp);
+    protect_group(&count, pair.secondary, pair.secondary_word, pp);
+    return count == 0 ? 8 : 0;
+}
+
+uint32_t PLAIN(look)(uint32_t sdr1, uint32_t vsid, uint32_t page_index, const uint8_t *table, size_t table_len,
+                     uint8_t *answer, size_t answer_len)
+{
+    struct matches matches;
+    uint32_t result;
+    if (answer_len != 16)
+        return 11;
+    result = page_check(sdr1, vsid, page_index, table_len);
+    if (result != 0)
+        return refuse(answer, result);
+    matches = search(pair_of(sdr1, vsid, page_index, (uint8_t *)table));
+    if (matches.contradict)
+        return refuse(answer, 10);
+    if (matches.place == NONE)
+        return refuse(answer, 8);
+    refuse(answer, 0);
+    memcpy(answer + 4, &matches.second, 4);
+    return 0;
+}
+
+/* ---- Access ----------------------------------------------------------------------------------- */
+
+/* The rights of key 1 are those of a block too: bit 4 * key + PP of each number. */
+INLINE int allowed(uint32_t kind, uint32_t key, uint32_t pp)
+{
+    uint32_t rights = kind == STORE ? 0x47 : 0xEF;
+    return rights >> (4 * key + pp) & 1;
+}
+
+INLINE uint32_t fault(uint8_t *answer, uint32_t kind, uint32_t cause, uint32_t address)
+{
+    if (kind == FETCH)
+        return answer_words(answer, 65, cause, 0x400, address);
+    return answer_words(answer, 64, kind == STORE ? cause | STORING : cause, 0x300, address);
+}
+
+INLINE uint32_t by_block(const uint8_t *pair, uint32_t kind, uint32_t address, uint8_t *answer)
+{
+    uint32_t upper = word_at(pair);
+    uint32_t lower = word_at(pair + 4);
+    uint32_t inner = inner_bits(upper);
+    if (!allowed(kind, 1, lower & 3))
+        return fault(answer, kind, PROTECTION, address);
+    return answer_words(answer, 0, (lower & ~inner) | (address & inner), lower >> 3 & 15, address);
+}
+
+INLINE uint32_t by_page(const uint8_t *registers, uint32_t mode, uint32_t kind, uint32_t address, uint8_t *table,
+                        uint8_t *answer)
+{
+    uint32_t segment = word_at(registers + SEGMENTS + 4 * (address >> 28));
+    uint32_t key = (mode & 4 ? segment >> 29 : segment >> 30) & 1;
+    struct pair pair = pair_of(word_at(registers), segment & 0xFFFFFF, address >> 12 & 0xFFFF, table);
+    struct matches matches;
+    uint8_t *entry;
+    uint32_t second;
+    if (kind == FETCH && segment & 0x10000000)
+        return fault(answer, kind, NO_EXECUTE, address);
+    matches = search(pair);
+    if (matches.contradict)
+        return refuse(answer, 10);
+    if (matches.place == NONE)
+        return fault(answer, kind, NO_MATCH, address);
+    second = raw_of(matches.second);
+    if (kind == FETCH && second & 8)
+        return fault(answer, kind, NO_EXECUTE, address);
+    if (!allowed(kind, key, second & 3))
+        return fault(answer, kind, PROTECTION, address);
+    entry = (matches.place < 8 ? pair.primary : pair.secondary)->entry[matches.place % 8];
+    entry[6] |= 1;
+    if (kind == STORE)
+        entry[7] |= 0x80;
+    return answer_words(answer, 0, (second & 0xFFFFF000) | (address & 0xFFF), second >> 3 & 15, address);
+}
+
+/* The steps of an access whose registers and table length are right. */
+INLINE uint32_t translate(const uint8_t *registers, uint32_t mode, uint32_t kind, uint32_t address, uint8_t *table,
+                          uint8_t *answer)
+{
+    const uint8_t *pairs = registers + (kind == FETCH ? INSTRUCTION_PAIRS : DATA_PAIRS);
+    uint32_t valid = mode & 4 ? 1 : 2;
+    int i;
+    if (!(mode & (kind == FETCH ? 2 : 1)))
+        return answer_words(answer, 0, address, 3, address);
+    for (i = 0; i < PAIRS; i++) {
+        uint32_t upper = word_at(pairs + 8 * i);
+        if (upper & valid && (upper ^ address) <= inner_bits(upper))
+            return by_block(pairs + 8 * i, kind, address, answer);
+    }
+    return by_page(registers, mode, kind, address, table, answer);
+}
+
+uint32_t PLAIN(access)(const uint8_t *registers, size_t registers_len, uint32_t mode, uint32_t kind,
+                       uint32_t address, uint8_t *table, size_t table_len, uint8_t *answer, size_t answer_len)
+{
+    uint32_t result;
+    if (registers_len != REGISTERS || answer_len != 16)
+        return 11;
+    if (mode > 7 || kind > STORE)
+        return refuse(answer, 6);
+    result = check_page(registers);
+    if (result == 0 && table_len != table_size(word_at(registers)))
+        result = 1;
+    if (result != 0)
+        return refuse(answer, result);
+    return translate(registers, mode, kind, address, table, answer);
+}
+
+/* ---- Packing ---------------------------------------------------------------------------------- */
+
+uint32_t PLAIN(pack)(uint32_t v, uint32_t vsid, uint32_t h, uint32_t api, uint32_t rpn, uint32_t r, uint32_t c,
+                     uint32_t wimg, uint32_t pp, uint8_t *entry, size_t entry_len)
+{
+    if (entry_len != 8)
+        return 11;
+    if ((v | h | r | c) > 1 || vsid > 0xFFFFFF || api > 63 || rpn > 0xFFFFF || wimg > 15 || pp > 3) {
+        put_words(entry, 0, 0);
+        return 6;
+    }
+    put_words(entry, v << 31 | vsid << 7 | h << 6 | api, rpn << 12 | r << 8 | c << 7 | wimg << 3 | pp);
+    return 0;
+}
+
+uint32_t PLAIN(unpack)(uint32_t first, uint32_t second, uint8_t *fields, size_t fields_len)
+{
+    if (fields_len != 36)
+        return 11;
+    put_words(fields, first >> 31, first >> 7 & 0xFFFFFF);
+    put_words(fields + 8, first >> 6 & 1, first & 63);
+    put_words(fields + 16, second >> 12, second >> 8 & 1);
+    put_words(fields + 24, second >> 7 & 1, second >> 3 & 15);
+    put_word(fields + 32, second & 3);
+    return 0;
+}

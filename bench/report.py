@@ -1,0 +1,141 @@
+#!/usr/bin/env python3
+"""Makes the benchmark's table and picture from what bench/run.sh measured.
+
+report.py DIRECTORY [--write]: prints the table; with --write it also writes docs/BENCHMARKS.md and docs/benchmarks.svg.
+"""
+import html
+import re
+import sys
+from pathlib import Path
+
+HEAD = ["row", "library", "plain C", "ratio", "library ns", "plain C ns", "ratio"]
+# A tenth more than the plain C is what has to be explained.
+LIMIT = 1.1
+
+
+def fields(path):
+    return [line.split("\t") for line in path.read_text().splitlines()]
+
+
+def profile_total(directory, number):
+    """The instructions of one profile; callgrind numbers them in the order of writing, from 1."""
+    text = (directory / "profiles" / f"profile.{number}").read_text()
+    return int(re.search(r"^totals: (\d+)", text, re.M).group(1))
+
+
+def read_rows(directory):
+    """For each row: its name, instructions of library and plain C, nanoseconds of library and plain C."""
+    times = {name: (float(a), float(b)) for name, a, b in fields(directory / "times.txt")}
+    rows = []
+    for i, (name, calls) in enumerate(fields(directory / "rows.txt")):
+        # Three profiles a row: what came before, the library's calls, the plain C's calls.
+        library = profile_total(directory, 3 * i + 2) / int(calls)
+        plain = profile_total(directory, 3 * i + 3) / int(calls)
+        rows.append((name, library, plain, *times[name]))
+    return rows
+
+
+def cells(row):
+    name, library, plain, library_ns, plain_ns = row
+    return [
+        name,
+        f"{library:.0f}",
+        f"{plain:.0f}",
+        f"{library / plain:.2f}",
+        f"{library_ns:.1f}",
+        f"{plain_ns:.1f}",
+        f"{library_ns / plain_ns:.2f}",
+    ]
+
+
+def text_table(rows):
+    lines = [HEAD] + [cells(row) for row in rows]
+    widths = [max(len(line[i]) for line in lines) for i in range(len(HEAD))]
+    return "\n".join(
+        "  ".join([line[0].ljust(widths[0])] + [c.rjust(w) for c, w in zip(line[1:], widths[1:])]) for line in lines
+    )
+
+
+def markdown_table(rows):
+    lines = ["| " + " | ".join(HEAD) + " |", "|---|" + "---:|" * (len(HEAD) - 1)]
+    lines += ["| " + " | ".join(cells(row)) + " |" for row in rows]
+    return "\n".join(lines)
+
+
+def bar(y, width, color, label):
+    return (
+        f'<rect x="330" y="{y}" width="{width:.1f}" height="9" fill="{color}"/>'
+        f'<text x="{336 + width:.1f}" y="{y + 8}" font-size="9">{label}</text>'
+    )
+
+
+def picture(rows):
+    """A pair of bars a row: the library's instructions and nanoseconds, as a share of the plain C's."""
+    ratios = [(row[0], row[1] / row[2], row[3] / row[4]) for row in rows]
+    scale = 380 / max(2.0, max(max(a, b) for _, a, b in ratios))
+    bottom = 46 + 26 * len(ratios)
+    parts = [
+        f'<svg xmlns="http://www.w3.org/2000/svg" width="780" height="{bottom + 24}" font-family="sans-serif">',
+        f'<rect width="780" height="{bottom + 24}" fill="#ffffff"/>',
+        '<text x="10" y="20" font-size="13">The library beside plain C: 1.00 is as much as the plain C</text>',
+        '<rect x="470" y="11" width="10" height="9" fill="#31688e"/><text x="486" y="20" font-size="11">instructions</text>',
+        '<rect x="570" y="11" width="10" height="9" fill="#b8c9d9"/><text x="586" y="20" font-size="11">nanoseconds</text>',
+    ]
+    for i, (name, instructions, time) in enumerate(ratios):
+        y = 38 + 26 * i
+        parts.append(f'<text x="322" y="{y + 13}" font-size="11" text-anchor="end">{html.escape(name)}</text>')
+        parts.append(bar(y, instructions * scale, "#31688e", f"{instructions:.2f}"))
+        parts.append(bar(y + 10, time * scale, "#b8c9d9", f"{time:.2f}"))
+    x = 330 + scale
+    parts.append(f'<line x1="{x:.1f}" y1="32" x2="{x:.1f}" y2="{bottom}" stroke="#c0392b" stroke-dasharray="4 3"/>')
+    parts.append(f'<text x="{x:.1f}" y="{bottom + 14}" font-size="10" text-anchor="middle">1.00</text>')
+    parts.append("</svg>")
+    return "\n".join(parts) + "\n"
+
+
+def over_limit(rows):
+    over = [row[0] for row in rows if row[1] > LIMIT * row[2]]
+    if not over:
+        return "In no row does the library take more than a tenth more instructions than the plain C."
+    return "More than a tenth more instructions than the plain C: " + "; ".join(over) + "."
+
+
+def document(directory, rows):
+    machine = dict(fields(directory / "machine.txt"))
+    agreed = (directory / "agree.txt").read_text().splitlines()[0]
+    notes = Path("bench/notes.md")
+    parts = [
+        "# Benchmarks",
+        "Made by `bench/run.sh --write`; `make bench` prints the same table.",
+        "The contender is `bench/plain.c`: the ten calls in portable C with the same checks, written for speed. Before the "
+        f"timing both are held against each other: {agreed}.",
+        "Instructions are those of one call, counted by callgrind inside the call alone; they repeat exactly. Nanoseconds are the "
+        "least of 200 rounds in which the two take turns. In all access rows but those marked \"blocks off\" the eight block pairs "
+        "are on, on each side of 256 MB, 16 MB, 1 MB and 128 KB. An access checks the whole register page each time.",
+        markdown_table(rows),
+        "![The library beside plain C](benchmarks.svg)",
+        over_limit(rows),
+    ]
+    if notes.exists():
+        parts.append(notes.read_text().rstrip())
+    parts.append(
+        f"Measured on {machine['processor']}; plain C by {machine['compiler']}; {machine['valgrind']}. memset is counted "
+        "without `rep stosb`, of which callgrind counts every byte."
+    )
+    return "\n\n".join(parts) + "\n"
+
+
+def main():
+    directory = Path(sys.argv[1])
+    rows = read_rows(directory)
+    print(text_table(rows))
+    print(over_limit(rows))
+    if "--write" in sys.argv[2:]:
+        Path("docs").mkdir(exist_ok=True)
+        Path("docs/BENCHMARKS.md").write_text(document(directory, rows))
+        Path("docs/benchmarks.svg").write_text(picture(rows))
+        print("written: docs/BENCHMARKS.md, docs/benchmarks.svg")
+
+
+if __name__ == "__main__":
+    main()

@@ -1,0 +1,416 @@
+/*
+ * The rows of the benchmark. Each row is prepared once and then run with the library and with the plain C in turn;
+ * a result other than the row's own ends the program.
+ *
+ *   rows list          the rows' names, a line each
+ *   rows time ROUNDS   name, least nanoseconds of the library and of the plain C, a line a row
+ *   rows count         runs each row once per implementation; callgrind writes a profile at each row_done
+ */
+#define _POSIX_C_SOURCE 200809L
+
+#include "calls.h"
+
+#include <stdio.h>
+#include <stdlib.h>
+#include <string.h>
+#include <time.h>
+
+enum { ACCESSES = 4096, LARGEST_TABLE = 1 << 19 };
+
+/* Document 01's page, and an address that the fourth data block covers. */
+#define VSID 0x0C701Cu
+#define PAGE_INDEX 0x0FFAu
+#define PAGE_ADDRESS 0x00FFA01Bu
+#define BLOCK_ADDRESS 0xB0012345u
+#define SMALL_SDR1 0x0F980000u
+#define LARGE_SDR1 0x0F980007u
+
+/* What a row lends, and the accesses that it makes. */
+struct bench {
+    uint8_t registers[MMU_REGISTERS_SIZE];
+    uint8_t answer[MMU_ANSWER_SIZE];
+    uint8_t fields[MMU_FIELDS_SIZE];
+    uint8_t packed[MMU_ENTRY_SIZE];
+    uint8_t unmarked[MMU_ENTRY_SIZE];
+    uint8_t *table;
+    size_t table_len;
+    uint8_t *entry;
+    uint32_t sdr1, mode, kind, address;
+    uint32_t addresses[ACCESSES];
+};
+
+struct row {
+    const char *name;
+    void (*prepare)(struct bench *);
+    uint32_t (*run)(struct bench *, const struct calls *, uint32_t count);
+    uint32_t expected;
+    uint32_t counted;
+};
+
+static void require(int right, const char *what)
+{
+    if (!right) {
+        fprintf(stderr, "rows: %s\n", what);
+        exit(1);
+    }
+}
+
+/* ---- Preparing -------------------------------------------------------------------------------- */
+
+static void set(struct bench *bench, uint32_t number, uint32_t word)
+{
+    require(plain_set_register(bench->registers, MMU_REGISTERS_SIZE, number, word) == MMU_DONE, "a register is refused");
+}
+
+/* An empty table, document 01's segment 0 and fifteen others, every block off, data translated. */
+static void start(struct bench *bench, uint32_t sdr1)
+{
+    uint32_t i;
+    memset(bench->registers, 0, sizeof bench->registers);
+    bench->sdr1 = sdr1;
+    bench->table_len = MMU_TABLE_SIZE(sdr1);
+    bench->mode = MMU_MODE_DR;
+    bench->kind = MMU_LOAD;
+    bench->address = PAGE_ADDRESS;
+    set(bench, MMU_REGISTER_SDR1, sdr1);
+    for (i = 0; i < 16; i++)
+        set(bench, MMU_REGISTER_SEGMENT(i), VSID + 0x111 * i);
+    require(plain_clear(sdr1, bench->table, bench->table_len) == MMU_DONE, "clear is refused");
+}
+
+/* All eight block pairs on, in the top half of the addresses: on each side 256 MB, 16 MB, 1 MB and 128 KB. */
+static void blocks_on(struct bench *bench)
+{
+    static const uint32_t bl[4] = { 0x7FF, 0x7F, 0x7, 0 };
+    uint32_t i;
+    for (i = 0; i < 4; i++) {
+        uint32_t upper = (0x80000000u + (i << 28)) | bl[i] << 2 | MMU_BLOCK_VS | MMU_BLOCK_VP;
+        set(bench, MMU_REGISTER_INSTRUCTION_LOWER(i), (i << 28) | 2);
+        set(bench, MMU_REGISTER_INSTRUCTION_UPPER(i), upper);
+        set(bench, MMU_REGISTER_DATA_LOWER(i), (i << 28) | 2);
+        set(bench, MMU_REGISTER_DATA_UPPER(i), upper);
+    }
+}
+
+/* Maps other pages of the same two groups, numbered from `first` on. */
+static void fill(struct bench *bench, uint32_t first, uint32_t count)
+{
+    uint32_t i;
+    for (i = first; i < first + count; i++)
+        require(plain_map(bench->sdr1, VSID ^ ((i + 1) << 19), PAGE_INDEX, i, 2, 2, bench->table, bench->table_len)
+                    == MMU_DONE, "a filling page is refused");
+}
+
+static void map_page(struct bench *bench)
+{
+    require(plain_map(bench->sdr1, VSID, PAGE_INDEX, 0x12345, 2, 2, bench->table, bench->table_len) == MMU_DONE,
+            "the page is refused");
+}
+
+/* The page at the given place of its search order, the other fifteen entries in use. */
+static void page_at(struct bench *bench, uint32_t place)
+{
+    uint32_t hash = (VSID ^ PAGE_INDEX) & 0x3FF;
+    uint32_t group = place < 8 ? hash : hash ^ 0x3FF;
+    start(bench, SMALL_SDR1);
+    blocks_on(bench);
+    fill(bench, 0, place);
+    map_page(bench);
+    fill(bench, place, 15 - place);
+    bench->entry = bench->table + group * MMU_GROUP_SIZE + place % 8 * MMU_ENTRY_SIZE;
+    memcpy(bench->unmarked, bench->entry, MMU_ENTRY_SIZE);
+    require(mmu_get_word(bench->entry, MMU_ENTRY_SECOND) == 0x12345012u, "the page is not in its place");
+}
+
+static void primary_0(struct bench *bench) { page_at(bench, 0); }
+static void primary_7(struct bench *bench) { page_at(bench, 7); }
+static void secondary_0(struct bench *bench) { page_at(bench, 8); }
+static void secondary_7(struct bench *bench) { page_at(bench, 15); }
+
+static void no_match(struct bench *bench)
+{
+    start(bench, SMALL_SDR1);
+    blocks_on(bench);
+    fill(bench, 0, 16);
+}
+
+static void real_mode(struct bench *bench)
+{
+    page_at(bench, 0);
+    bench->mode = 0;
+}
+
+static void blocks_off(struct bench *bench)
+{
+    start(bench, SMALL_SDR1);
+    map_page(bench);
+    fill(bench, 0, 15);
+}
+
+static void real_mode_blocks_off(struct bench *bench)
+{
+    blocks_off(bench);
+    bench->mode = 0;
+}
+
+static void block_hit(struct bench *bench)
+{
+    page_at(bench, 0);
+    bench->address = BLOCK_ADDRESS;
+    plain_access(bench->registers, MMU_REGISTERS_SIZE, bench->mode, bench->kind, bench->address, bench->table,
+                 bench->table_len, bench->answer, MMU_ANSWER_SIZE);
+    require(mmu_get_word(bench->answer, MMU_ANSWER_PHYSICAL) == 0x30012345u, "the fourth block is not hit");
+}
+
+static void storing(struct bench *bench)
+{
+    page_at(bench, 0);
+    bench->kind = MMU_STORE;
+}
+
+static void empty_groups(struct bench *bench)
+{
+    start(bench, SMALL_SDR1);
+}
+
+static void last_place_free(struct bench *bench)
+{
+    start(bench, SMALL_SDR1);
+    fill(bench, 0, 15);
+}
+
+static uint32_t next_random(uint32_t *state)
+{
+    *state ^= *state << 13;
+    *state ^= *state >> 17;
+    *state ^= *state << 5;
+    return *state;
+}
+
+/* Random pages of the lower eight segments until half the table's entries are in use, then random accesses to them. */
+static void working_set(struct bench *bench, uint32_t sdr1)
+{
+    uint32_t state = 2463534242u;
+    uint32_t pages = (uint32_t)(MMU_TABLE_SIZE(sdr1) / MMU_ENTRY_SIZE / 2);
+    uint32_t *mapped = malloc(pages * sizeof *mapped);
+    uint32_t i = 0;
+    require(mapped != NULL, "no memory");
+    start(bench, sdr1);
+    blocks_on(bench);
+    while (i < pages) {
+        uint32_t address = next_random(&state) & 0x7FFFFFFF;
+        uint32_t vsid = mmu_get_word(bench->registers, MMU_REGISTER_OFFSET(MMU_REGISTER_SEGMENT(address >> 28)));
+        if (plain_map(sdr1, vsid, address >> 12 & 0xFFFF, i, 2, 2, bench->table, bench->table_len) == MMU_DONE)
+            mapped[i++] = address;
+    }
+    for (i = 0; i < ACCESSES; i++)
+        bench->addresses[i] = mapped[next_random(&state) % pages];
+    free(mapped);
+}
+
+static void working_set_small(struct bench *bench) { working_set(bench, SMALL_SDR1); }
+static void working_set_large(struct bench *bench) { working_set(bench, LARGE_SDR1); }
+
+/* ---- Running: each gives the sum of its result numbers ------------------------------------------ */
+
+static inline uint32_t access_at(struct bench *bench, const struct calls *calls, uint32_t address)
+{
+    return calls->access(bench->registers, MMU_REGISTERS_SIZE, bench->mode, bench->kind, address, bench->table,
+                         bench->table_len, bench->answer, MMU_ANSWER_SIZE);
+}
+
+static uint32_t run_access(struct bench *bench, const struct calls *calls, uint32_t count)
+{
+    uint32_t sum = 0;
+    while (count-- > 0)
+        sum += access_at(bench, calls, bench->address);
+    return sum;
+}
+
+/* The entry is written back unmarked before each store, so that each sets C anew. */
+static uint32_t run_store(struct bench *bench, const struct calls *calls, uint32_t count)
+{
+    uint32_t sum = 0;
+    while (count-- > 0) {
+        memcpy(bench->entry, bench->unmarked, MMU_ENTRY_SIZE);
+        sum += access_at(bench, calls, bench->address);
+    }
+    return sum;
+}
+
+static uint32_t run_working_set(struct bench *bench, const struct calls *calls, uint32_t count)
+{
+    uint32_t sum = 0;
+    while (count-- > 0)
+        sum += access_at(bench, calls, bench->addresses[count % ACCESSES]);
+    return sum;
+}
+
+static uint32_t run_map_unmap(struct bench *bench, const struct calls *calls, uint32_t count)
+{
+    uint32_t sum = 0;
+    while (count-- > 0) {
+        sum += calls->map(bench->sdr1, VSID, PAGE_INDEX, 0x12345, 2, 2, bench->table, bench->table_len);
+        sum += calls->unmap(bench->sdr1, VSID, PAGE_INDEX, bench->table, bench->table_len, bench->answer,
+                            MMU_ANSWER_SIZE);
+    }
+    return sum;
+}
+
+static uint32_t run_protect(struct bench *bench, const struct calls *calls, uint32_t count)
+{
+    uint32_t sum = 0;
+    while (count-- > 0)
+        sum += calls->protect(bench->sdr1, VSID, PAGE_INDEX, 2 + count % 2, bench->table, bench->table_len);
+    return sum;
+}
+
+static uint32_t run_look(struct bench *bench, const struct calls *calls, uint32_t count)
+{
+    uint32_t sum = 0;
+    while (count-- > 0)
+        sum += calls->look(bench->sdr1, VSID, PAGE_INDEX, bench->table, bench->table_len, bench->answer,
+                           MMU_ANSWER_SIZE);
+    return sum;
+}
+
+static uint32_t run_clear(struct bench *bench, const struct calls *calls, uint32_t count)
+{
+    uint32_t sum = 0;
+    while (count-- > 0)
+        sum += calls->clear(bench->sdr1, bench->table, bench->table_len);
+    return sum;
+}
+
+static uint32_t run_check(struct bench *bench, const struct calls *calls, uint32_t count)
+{
+    uint32_t sum = 0;
+    while (count-- > 0)
+        sum += calls->check(bench->registers, MMU_REGISTERS_SIZE);
+    return sum;
+}
+
+static uint32_t run_set_register(struct bench *bench, const struct calls *calls, uint32_t count)
+{
+    uint32_t sum = 0;
+    while (count-- > 0)
+        sum += calls->set_register(bench->registers, MMU_REGISTERS_SIZE, MMU_REGISTER_SEGMENT(3), VSID + count % 2);
+    return sum;
+}
+
+static uint32_t run_pack(struct bench *bench, const struct calls *calls, uint32_t count)
+{
+    uint32_t sum = 0;
+    while (count-- > 0)
+        sum += calls->pack(1, VSID, 0, 3, 0x12345, 1, count % 2, 2, 2, bench->packed, MMU_ENTRY_SIZE);
+    return sum;
+}
+
+static uint32_t run_unpack(struct bench *bench, const struct calls *calls, uint32_t count)
+{
+    uint32_t sum = 0;
+    while (count-- > 0)
+        sum += calls->unpack(0x86380E03u, 0x12345012u + count % 2, bench->fields, MMU_FIELDS_SIZE);
+    return sum;
+}
+
+static const struct row rows[] = {
+    { "access, real mode", real_mode, run_access, MMU_DONE, 16 },
+    { "access, real mode, blocks off", real_mode_blocks_off, run_access, MMU_DONE, 16 },
+    { "access, block hit in the fourth pair", block_hit, run_access, MMU_DONE, 16 },
+    { "access, page hit, primary entry 0", primary_0, run_access, MMU_DONE, 16 },
+    { "access, page hit, primary entry 7", primary_7, run_access, MMU_DONE, 16 },
+    { "access, page hit, secondary entry 0", secondary_0, run_access, MMU_DONE, 16 },
+    { "access, page hit, secondary entry 7", secondary_7, run_access, MMU_DONE, 16 },
+    { "access, page hit, primary entry 0, blocks off", blocks_off, run_access, MMU_DONE, 16 },
+    { "access, no match", no_match, run_access, MMU_DATA_STORAGE_FAULT, 16 },
+    { "access, a store that sets C", storing, run_store, MMU_DONE, 16 },
+    { "access, random pages, 64 KB table", working_set_small, run_working_set, MMU_DONE, ACCESSES },
+    { "access, random pages, 512 KB table", working_set_large, run_working_set, MMU_DONE, ACCESSES },
+    { "map and unmap, empty groups", empty_groups, run_map_unmap, MMU_DONE, 16 },
+    { "map and unmap, only secondary entry 7 free", last_place_free, run_map_unmap, MMU_DONE, 16 },
+    { "protect", primary_0, run_protect, MMU_DONE, 16 },
+    { "look", primary_0, run_look, MMU_DONE, 16 },
+    { "clear, 64 KB (the plain C calls memset)", empty_groups, run_clear, MMU_DONE, 2 },
+    { "check", primary_0, run_check, MMU_DONE, 16 },
+    { "set_register", primary_0, run_set_register, MMU_DONE, 16 },
+    { "pack", primary_0, run_pack, MMU_DONE, 16 },
+    { "unpack", primary_0, run_unpack, MMU_DONE, 16 },
+};
+
+enum { ROWS = sizeof rows / sizeof rows[0] };
+
+/* ---- Measuring -------------------------------------------------------------------------------- */
+
+/* Where callgrind ends a row's profile, by this name. */
+static void row_done(void)
+{
+}
+
+/* Called through a pointer that the compiler must read, so that the call is not inlined away. */
+static void (*volatile end_row)(void) = row_done;
+
+static double nanoseconds(const struct row *row, struct bench *bench, const struct calls *calls, uint32_t count)
+{
+    struct timespec from, to;
+    uint32_t sum;
+    clock_gettime(CLOCK_MONOTONIC, &from);
+    sum = row->run(bench, calls, count);
+    clock_gettime(CLOCK_MONOTONIC, &to);
+    require(sum == row->expected * count, row->name);
+    return (double)(to.tv_sec - from.tv_sec) * 1e9 + (double)(to.tv_nsec - from.tv_nsec);
+}
+
+/* How many calls take some hundred microseconds. */
+static uint32_t calls_in_a_round(const struct row *row, struct bench *bench)
+{
+    uint32_t count = 16;
+    while (nanoseconds(row, bench, &contender, count) < 3e5)
+        count *= 2;
+    return count;
+}
+
+/* The two implementations take turns, and the least time of each counts. */
+static void time_row(const struct row *row, struct bench *bench, int rounds)
+{
+    double least[2] = { 1e30, 1e30 };
+    uint32_t count;
+    int i;
+    row->prepare(bench);
+    count = calls_in_a_round(row, bench);
+    for (i = 0; i < 2 * rounds; i++) {
+        double time = nanoseconds(row, bench, i % 2 ? &contender : &library, count) / count;
+        if (time < least[i % 2])
+            least[i % 2] = time;
+    }
+    printf("%s\t%.2f\t%.2f\n", row->name, least[0], least[1]);
+}
+
+static void count_row(const struct row *row, struct bench *bench)
+{
+    row->prepare(bench);
+    end_row();
+    require(row->run(bench, &library, row->counted) == row->expected * row->counted, row->name);
+    end_row();
+    require(row->run(bench, &contender, row->counted) == row->expected * row->counted, row->name);
+    end_row();
+}
+
+int main(int argc, char **argv)
+{
+    static struct bench bench;
+    const char *task = argc > 1 ? argv[1] : "list";
+    int i;
+    bench.table = malloc(LARGEST_TABLE);
+    require(bench.table != NULL, "no memory");
+    for (i = 0; i < ROWS; i++) {
+        if (strcmp(task, "time") == 0)
+            time_row(&rows[i], &bench, argc > 2 ? atoi(argv[2]) : 9);
+        else if (strcmp(task, "count") == 0)
+            count_row(&rows[i], &bench);
+        else
+            printf("%s\t%u\n", rows[i].name, (unsigned)rows[i].counted);
+    }
+    free(bench.table);
+    return 0;
+}

@@ -1,0 +1,199 @@
+/*
+ * mmu.h - address translation of a 32-bit PowerPC: register set, hashed page table, access check.
+ *
+ * Link with libmmu.a. The terms are those of document 01; docs/C-GUIDE.md tells how to use the calls.
+ *
+ * A slice is lent as a pointer and its length in bytes. NULL with length 0 is a slice of length 0.
+ * The slices lent to one call must not overlap. All words are stored big-endian. Bit 0 is the most
+ * significant bit of a word. Every call returns its result number.
+ */
+#ifndef MMU_H
+#define MMU_H
+
+#include <stddef.h>
+#include <stdint.h>
+
+#ifdef __cplusplus
+extern "C" {
+#endif
+
+/* ---- Results ---------------------------------------------------------------------------------- */
+
+#define MMU_DONE 0u                       /* Done: the call did what it was asked. */
+#define MMU_DATA_STORAGE_FAULT 64u        /* Data storage fault: a load or a store is not allowed or not mapped. */
+#define MMU_INSTRUCTION_STORAGE_FAULT 65u /* Instruction storage fault: a fetch is not allowed or not mapped. */
+
+/* Refusals: table and registers are left as they were. */
+#define MMU_REFUSED_TABLE_LENGTH 1u   /* Table length wrong: the lent table is not as long as SDR1 says. */
+#define MMU_REFUSED_SDR1 2u           /* SDR1 shape: a reserved bit, a mask with a gap, or an origin bit under the mask. */
+#define MMU_REFUSED_BLOCK 3u          /* Block shape: a pair that is on breaks a rule of block words. */
+#define MMU_REFUSED_BLOCKS_SHARE 4u   /* Two blocks of a side share an address and a V bit. */
+#define MMU_REFUSED_SEGMENT 5u        /* Segment: T is 1 or one of bits 4 to 7 is set. */
+#define MMU_REFUSED_ARGUMENT 6u       /* Argument out of range, or map's WIMG with W and I. */
+#define MMU_REFUSED_MAPPED 7u         /* Map: the page matches already. */
+#define MMU_REFUSED_NO_MATCH 8u       /* The page has no match (unmap, protect, look). */
+#define MMU_REFUSED_FULL 9u           /* Map: all 16 entries of the page's two groups have V = 1. */
+#define MMU_REFUSED_CONTRADICTION 10u /* Contradicting matches: they differ in more than H (access, look). */
+#define MMU_REFUSED_LENT_LENGTH 11u   /* Register page, answer, entry or fields lent with another length: nothing is written. */
+
+/* ---- An access -------------------------------------------------------------------------------- */
+
+/* Mode: the sum of the bits that are on, 0 to 7. */
+#define MMU_MODE_PR 4u /* PR: the access is the user's (problem state), else the supervisor's. */
+#define MMU_MODE_IR 2u /* IR: fetches are translated. */
+#define MMU_MODE_DR 1u /* DR: loads and stores are translated. */
+
+/* Kind of access. */
+#define MMU_FETCH 0u /* Fetch: an instruction is read. */
+#define MMU_LOAD 1u  /* Load: data is read. */
+#define MMU_STORE 2u /* Store: data is written. */
+
+/* Attributes (WIMG), 0 to 15: the sum of the bits that are one. */
+#define MMU_ATTRIBUTE_W 8u    /* W: write-through. */
+#define MMU_ATTRIBUTE_I 4u    /* I: caching inhibited. */
+#define MMU_ATTRIBUTE_M 2u    /* M: memory coherence. */
+#define MMU_ATTRIBUTE_G 1u    /* G: guarded. */
+#define MMU_ATTRIBUTES_REAL 3u /* Attributes of every access in real mode: M and G. */
+
+/* Fault word: a sum by cause; only the first cause met counts. */
+#define MMU_FAULT_NO_MATCH 0x40000000u   /* No match: the page is not in the table. */
+#define MMU_FAULT_NO_EXECUTE 0x10000000u /* N or G: a fetch from a no-execute segment or a guarded page. */
+#define MMU_FAULT_PROTECTION 0x08000000u /* Protection: PP, with the key where it is a page, does not allow it. */
+#define MMU_FAULT_STORE 0x02000000u      /* Added where the access was a store. */
+
+/* Interrupt offset: where the core continues after a fault. */
+#define MMU_OFFSET_DATA 0x300u        /* Interrupt offset of a data storage fault. */
+#define MMU_OFFSET_INSTRUCTION 0x400u /* Interrupt offset of an instruction storage fault. */
+
+/* ---- Answer: four words ----------------------------------------------------------------------- */
+
+#define MMU_ANSWER_SIZE 16u       /* Length of an answer in bytes. */
+#define MMU_ANSWER_RESULT 0u      /* Byte offset of the result number. */
+#define MMU_ANSWER_PHYSICAL 4u    /* Physical address, after an access that is done. */
+#define MMU_ANSWER_FAULT 4u       /* Fault word, after a fault. */
+#define MMU_ANSWER_SECOND 4u      /* Second entry word, after a look or an unmap that is done. */
+#define MMU_ANSWER_ATTRIBUTES 8u  /* Attributes, after an access that is done. */
+#define MMU_ANSWER_OFFSET 8u      /* Interrupt offset, after a fault. */
+#define MMU_ANSWER_EFFECTIVE 12u  /* Effective address, after an access that is done or a fault. */
+
+/* ---- Register page: 33 words ------------------------------------------------------------------ */
+
+#define MMU_REGISTERS_SIZE 132u                              /* Length of the register page in bytes. */
+#define MMU_REGISTER_COUNT 33u                               /* Register words, numbered 0 to 32. */
+#define MMU_REGISTER_SDR1 0u                                 /* Number of SDR1. */
+#define MMU_REGISTER_SEGMENT(n) (1u + (n))                   /* Number of segment register n, 0 to 15. */
+#define MMU_REGISTER_INSTRUCTION_UPPER(n) (17u + 2u * (n))   /* Number of the upper word of instruction block pair n, 0 to 3. */
+#define MMU_REGISTER_INSTRUCTION_LOWER(n) (18u + 2u * (n))   /* Number of the lower word of instruction block pair n, 0 to 3. */
+#define MMU_REGISTER_DATA_UPPER(n) (25u + 2u * (n))          /* Number of the upper word of data block pair n, 0 to 3. */
+#define MMU_REGISTER_DATA_LOWER(n) (26u + 2u * (n))          /* Number of the lower word of data block pair n, 0 to 3. */
+#define MMU_REGISTER_OFFSET(number) (4u * (number))          /* Byte offset of a register word in the page. */
+
+/* SDR1 and segment register. */
+#define MMU_SDR1_ORIGIN 0xFFFF0000u  /* Origin: the table's address, bits 0 to 15. */
+#define MMU_SDR1_MASK 0x000001FFu    /* Mask: bits 23 to 31, ones only at the low end. */
+#define MMU_SEGMENT_T 0x80000000u    /* T: direct-store segment, always refused. */
+#define MMU_SEGMENT_KS 0x40000000u   /* Ks: the supervisor's key. */
+#define MMU_SEGMENT_KP 0x20000000u   /* Kp: the user's key. */
+#define MMU_SEGMENT_N 0x10000000u    /* N: no execute. */
+#define MMU_SEGMENT_VSID 0x00FFFFFFu /* VSID: bits 8 to 31. */
+
+/* Block words. */
+#define MMU_BLOCK_BEPI 0xFFFE0000u    /* Upper word, BEPI: the block's effective start. */
+#define MMU_BLOCK_BL 0x00001FFCu      /* Upper word, BL: the block length, ones only at the low end. */
+#define MMU_BLOCK_VS 0x00000002u      /* Upper word, Vs: valid for the supervisor. */
+#define MMU_BLOCK_VP 0x00000001u      /* Upper word, Vp: valid for the user. */
+#define MMU_BLOCK_BRPN 0xFFFE0000u    /* Lower word, BRPN: the block's physical start. */
+#define MMU_BLOCK_WIMG_SHIFT 3u       /* Lower word, WIMG: its place, bits 25 to 28. */
+#define MMU_BLOCK_PP 0x00000003u      /* Lower word, PP: the protection. */
+
+/* ---- Table, groups and entries ---------------------------------------------------------------- */
+
+#define MMU_TABLE_SIZE(sdr1) ((size_t)65536u * (((sdr1) & MMU_SDR1_MASK) + 1u)) /* Length of the table in bytes. */
+#define MMU_GROUP_SIZE 64u    /* Length of a group in bytes; group g starts at byte 64 * g of the table. */
+#define MMU_GROUP_ENTRIES 8u  /* Entries of a group. */
+#define MMU_ENTRY_SIZE 8u     /* Length of an entry in bytes. */
+#define MMU_ENTRY_FIRST 0u    /* Byte offset of an entry's first word. */
+#define MMU_ENTRY_SECOND 4u   /* Byte offset of an entry's second word. */
+
+#define MMU_FIRST_V 0x80000000u    /* First word, V: the entry is valid. */
+#define MMU_FIRST_VSID_SHIFT 7u    /* First word, VSID: its place, bits 1 to 24. */
+#define MMU_FIRST_H 0x00000040u    /* First word, H: the entry stands in its secondary group. */
+#define MMU_FIRST_API 0x0000003Fu  /* First word, API: the top six bits of the page index. */
+#define MMU_SECOND_RPN 0xFFFFF000u /* Second word, RPN: the frame. */
+#define MMU_SECOND_R 0x00000100u   /* Second word, R: the page was accessed. */
+#define MMU_SECOND_C 0x00000080u   /* Second word, C: the page was changed. */
+#define MMU_SECOND_WIMG_SHIFT 3u   /* Second word, WIMG: its place, bits 25 to 28. */
+#define MMU_SECOND_PP 0x00000003u  /* Second word, PP: the protection. */
+
+/* Unpacked fields: nine words. */
+#define MMU_FIELDS_SIZE 36u /* Length of the unpacked fields in bytes. */
+#define MMU_FIELD_V 0u      /* Byte offset of V, 0 or 1. */
+#define MMU_FIELD_VSID 4u   /* Byte offset of VSID, below 2^24. */
+#define MMU_FIELD_H 8u      /* Byte offset of H, 0 or 1. */
+#define MMU_FIELD_API 12u   /* Byte offset of API, below 64. */
+#define MMU_FIELD_RPN 16u   /* Byte offset of RPN, below 2^20. */
+#define MMU_FIELD_R 20u     /* Byte offset of R, 0 or 1. */
+#define MMU_FIELD_C 24u     /* Byte offset of C, 0 or 1. */
+#define MMU_FIELD_WIMG 28u  /* Byte offset of WIMG, below 16. */
+#define MMU_FIELD_PP 32u    /* Byte offset of PP, below 4. */
+
+/* ---- The ten calls ---------------------------------------------------------------------------- */
+
+/* Check: whether a register page breaks a rule. Refusals in order: 11, 2, 3, 4, 5. */
+uint32_t mmu_check(const uint8_t *registers, size_t registers_len);
+
+/* Replaces one register word, number 0 to 32, where the new set breaks no rule. Refusals: 11, 6, 2, 3, 4, 5. */
+uint32_t mmu_set_register(uint8_t *registers, size_t registers_len, uint32_t number, uint32_t word);
+
+/* Clear: zeroes the table. Refusals: 2, 1. */
+uint32_t mmu_clear(uint32_t sdr1, uint8_t *table, size_t table_len);
+
+/* Map: puts a page into the first entry with V = 0 in search order, R and C zero. Refusals: 6, 2, 1, 7, 9. */
+uint32_t mmu_map(uint32_t sdr1, uint32_t vsid, uint32_t page_index, uint32_t rpn, uint32_t wimg, uint32_t pp,
+                 uint8_t *table, size_t table_len);
+
+/* Unmap: zeroes each match of a page; answers the first match's second word with all their marks. Refusals: 11, 6, 2, 1, 8. */
+uint32_t mmu_unmap(uint32_t sdr1, uint32_t vsid, uint32_t page_index, uint8_t *table, size_t table_len,
+                   uint8_t *answer, size_t answer_len);
+
+/* Protect: puts PP into each match of a page. Refusals: 6, 2, 1, 8. */
+uint32_t mmu_protect(uint32_t sdr1, uint32_t vsid, uint32_t page_index, uint32_t pp, uint8_t *table, size_t table_len);
+
+/* Look: answers the second word of a page's first match. Refusals: 11, 6, 2, 1, then 10 or 8. */
+uint32_t mmu_look(uint32_t sdr1, uint32_t vsid, uint32_t page_index, const uint8_t *table, size_t table_len,
+                  uint8_t *answer, size_t answer_len);
+
+/* Access: translates one address and marks the page used. Done, fault 64 or 65, or a refusal: 11, 6, 2, 3, 4, 5, 1, 10. */
+uint32_t mmu_access(const uint8_t *registers, size_t registers_len, uint32_t mode, uint32_t kind, uint32_t address,
+                    uint8_t *table, size_t table_len, uint8_t *answer, size_t answer_len);
+
+/* Packs nine fields into the two words of an entry, zero words after 6. Refusals: 11, 6. */
+uint32_t mmu_pack(uint32_t v, uint32_t vsid, uint32_t h, uint32_t api, uint32_t rpn, uint32_t r, uint32_t c,
+                  uint32_t wimg, uint32_t pp, uint8_t *entry, size_t entry_len);
+
+/* Unpacks the two words of an entry into nine fields. Refusal: 11. */
+uint32_t mmu_unpack(uint32_t first, uint32_t second, uint8_t *fields, size_t fields_len);
+
+/* ---- Words for the caller's own use; C code, not part of the archive --------------------------- */
+
+/* The big-endian word at a byte offset. */
+static inline uint32_t mmu_get_word(const uint8_t *bytes, size_t offset)
+{
+    return (uint32_t)bytes[offset] << 24 | (uint32_t)bytes[offset + 1] << 16 | (uint32_t)bytes[offset + 2] << 8
+         | (uint32_t)bytes[offset + 3];
+}
+
+/* Stores a big-endian word at a byte offset. */
+static inline void mmu_put_word(uint8_t *bytes, size_t offset, uint32_t word)
+{
+    bytes[offset] = (uint8_t)(word >> 24);
+    bytes[offset + 1] = (uint8_t)(word >> 16);
+    bytes[offset + 2] = (uint8_t)(word >> 8);
+    bytes[offset + 3] = (uint8_t)word;
+}
+
+#ifdef __cplusplus
+}
+#endif
+
+#endif

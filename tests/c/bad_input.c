@@ -1,0 +1,510 @@
+/*
+ * What a C program can pass within valid memory: wrong lengths, NULL with length 0, any number; and a few good calls,
+ * so that a library that refuses everything fails too. Each lent slice is a block of its own of exactly its length,
+ * so that valgrind sees a byte read or written beside it.
+ *
+ *   bad_input [CALLS]   with so many random calls after the written ones (default 2000)
+ */
+#include "mmu.h"
+
+#include <stdio.h>
+#include <stdlib.h>
+#include <string.h>
+
+#define SDR1 0x0F980000u
+#define VSID 0x0C701Cu
+#define PAGE 0x0FFAu
+#define ADDRESS 0x00FFA01Bu
+
+enum { TABLE = 65536 };
+
+static unsigned long checks, failures;
+
+static void expect(int right, const char *what, uint32_t got)
+{
+    checks++;
+    if (!right) {
+        failures++;
+        printf("bad: %s (result %u)\n", what, (unsigned)got);
+    }
+}
+
+/* ---- Lent slices ------------------------------------------------------------------------------ */
+
+/* A slice, and what was in it when it was lent. */
+struct slice {
+    uint8_t *bytes, *before;
+    size_t len;
+};
+
+static struct slice lend(size_t len, int fill)
+{
+    struct slice slice = { NULL, NULL, 0 };
+    slice.len = len;
+    if (len == 0)
+        return slice;
+    slice.bytes = malloc(len);
+    slice.before = malloc(len);
+    if (slice.bytes == NULL || slice.before == NULL) {
+        fprintf(stderr, "bad_input: no memory\n");
+        exit(2);
+    }
+    memset(slice.bytes, fill, len);
+    memset(slice.before, fill, len);
+    return slice;
+}
+
+static void remember(struct slice *slice)
+{
+    if (slice->len)
+        memcpy(slice->before, slice->bytes, slice->len);
+}
+
+static int unchanged(const struct slice *slice)
+{
+    return slice->len == 0 || memcmp(slice->bytes, slice->before, slice->len) == 0;
+}
+
+static void give_back(struct slice *slice)
+{
+    free(slice->bytes);
+    free(slice->before);
+}
+
+/* Register page, table and answer of the given lengths: SDR1 and segment 0 are document 01's, all blocks off. */
+struct lent {
+    struct slice registers, table, answer;
+};
+
+static struct lent lend_all(size_t registers_len, size_t table_len, size_t answer_len)
+{
+    struct lent lent;
+    lent.registers = lend(registers_len, 0);
+    lent.table = lend(table_len, 0);
+    lent.answer = lend(answer_len, 0xA5);
+    if (registers_len == MMU_REGISTERS_SIZE) {
+        mmu_put_word(lent.registers.bytes, MMU_REGISTER_OFFSET(MMU_REGISTER_SDR1), SDR1);
+        mmu_put_word(lent.registers.bytes, MMU_REGISTER_OFFSET(MMU_REGISTER_SEGMENT(0)), VSID);
+        remember(&lent.registers);
+    }
+    return lent;
+}
+
+static struct lent lend_right(void)
+{
+    return lend_all(MMU_REGISTERS_SIZE, TABLE, MMU_ANSWER_SIZE);
+}
+
+static void give_back_all(struct lent *lent)
+{
+    give_back(&lent->registers);
+    give_back(&lent->table);
+    give_back(&lent->answer);
+}
+
+static int answer_is(const struct slice *answer, uint32_t first, uint32_t second, uint32_t third, uint32_t fourth)
+{
+    return mmu_get_word(answer->bytes, 0) == first && mmu_get_word(answer->bytes, 4) == second
+        && mmu_get_word(answer->bytes, 8) == third && mmu_get_word(answer->bytes, 12) == fourth;
+}
+
+/* After a refusal: table and registers as they were; a lent answer untouched at 11, else the number and zeros. */
+static int refused(const struct lent *lent, uint32_t got, uint32_t number, int answers)
+{
+    if (got != number || !unchanged(&lent->registers) || !unchanged(&lent->table))
+        return 0;
+    if (!answers)
+        return 1;
+    if (number == MMU_REFUSED_LENT_LENGTH)
+        return unchanged(&lent->answer);
+    return answer_is(&lent->answer, number, 0, 0, 0);
+}
+
+/* ---- The calls on what is lent ----------------------------------------------------------------- */
+
+static uint32_t unmap(struct lent *l, uint32_t sdr1, uint32_t vsid, uint32_t page)
+{
+    return mmu_unmap(sdr1, vsid, page, l->table.bytes, l->table.len, l->answer.bytes, l->answer.len);
+}
+
+static uint32_t look(struct lent *l, uint32_t sdr1, uint32_t vsid, uint32_t page)
+{
+    return mmu_look(sdr1, vsid, page, l->table.bytes, l->table.len, l->answer.bytes, l->answer.len);
+}
+
+static uint32_t map(struct lent *l, uint32_t sdr1, uint32_t vsid, uint32_t page, uint32_t rpn, uint32_t wimg, uint32_t pp)
+{
+    return mmu_map(sdr1, vsid, page, rpn, wimg, pp, l->table.bytes, l->table.len);
+}
+
+static uint32_t protect(struct lent *l, uint32_t sdr1, uint32_t vsid, uint32_t page, uint32_t pp)
+{
+    return mmu_protect(sdr1, vsid, page, pp, l->table.bytes, l->table.len);
+}
+
+static uint32_t access_at(struct lent *l, uint32_t mode, uint32_t kind, uint32_t address)
+{
+    return mmu_access(l->registers.bytes, l->registers.len, mode, kind, address, l->table.bytes, l->table.len,
+                      l->answer.bytes, l->answer.len);
+}
+
+/* ---- Lengths ---------------------------------------------------------------------------------- */
+
+static void test_wrong_register_lengths(void)
+{
+    static const size_t lengths[] = { 0, 1, 4, 131, 133, 196, 264 };
+    size_t i;
+    for (i = 0; i < sizeof lengths / sizeof lengths[0]; i++) {
+        struct lent l = lend_all(lengths[i], TABLE, MMU_ANSWER_SIZE);
+        uint32_t got = mmu_check(l.registers.bytes, l.registers.len);
+        expect(refused(&l, got, 11, 0), "check with another length", got);
+        got = mmu_set_register(l.registers.bytes, l.registers.len, 99, 0xFFFFFFFFu);
+        expect(refused(&l, got, 11, 0), "set_register with another length, before 6", got);
+        got = access_at(&l, 99, 99, ADDRESS);
+        expect(refused(&l, got, 11, 1), "access with a register page of another length, before 6", got);
+        give_back_all(&l);
+    }
+}
+
+static void test_wrong_answer_lengths(void)
+{
+    static const size_t lengths[] = { 0, 1, 4, 15, 17, 32 };
+    size_t i;
+    for (i = 0; i < sizeof lengths / sizeof lengths[0]; i++) {
+        struct lent l = lend_all(MMU_REGISTERS_SIZE, TABLE, lengths[i]);
+        uint32_t got = unmap(&l, 0xFFFFFFFFu, 0xFFFFFFFFu, 0xFFFFFFFFu);
+        expect(refused(&l, got, 11, 1), "unmap with another answer length, before 6 and 2", got);
+        got = look(&l, 0xFFFFFFFFu, 0xFFFFFFFFu, 0xFFFFFFFFu);
+        expect(refused(&l, got, 11, 1), "look with another answer length, before 6 and 2", got);
+        got = access_at(&l, 8, 3, ADDRESS);
+        expect(refused(&l, got, 11, 1), "access with another answer length, before 6", got);
+        give_back_all(&l);
+    }
+}
+
+static void test_wrong_table_lengths(void)
+{
+    static const size_t lengths[] = { 0, 1, 64, 65535, 65537, 131072 };
+    size_t i;
+    for (i = 0; i < sizeof lengths / sizeof lengths[0]; i++) {
+        struct lent l = lend_all(MMU_REGISTERS_SIZE, lengths[i], MMU_ANSWER_SIZE);
+        uint32_t got = mmu_clear(SDR1, l.table.bytes, l.table.len);
+        expect(refused(&l, got, 1, 0), "clear with another table length", got);
+        got = map(&l, SDR1, VSID, PAGE, 1, 2, 2);
+        expect(refused(&l, got, 1, 0), "map with another table length", got);
+        got = protect(&l, SDR1, VSID, PAGE, 2);
+        expect(refused(&l, got, 1, 0), "protect with another table length", got);
+        got = unmap(&l, SDR1, VSID, PAGE);
+        expect(refused(&l, got, 1, 1), "unmap with another table length", got);
+        got = look(&l, SDR1, VSID, PAGE);
+        expect(refused(&l, got, 1, 1), "look with another table length", got);
+        got = access_at(&l, 0, MMU_LOAD, ADDRESS);
+        expect(refused(&l, got, 1, 1), "access in real mode with another table length", got);
+        give_back_all(&l);
+    }
+}
+
+static void test_wrong_entry_lengths(void)
+{
+    static const size_t lengths[] = { 0, 1, 7, 9, 16, 35, 37, 72 };
+    size_t i;
+    for (i = 0; i < sizeof lengths / sizeof lengths[0]; i++) {
+        struct slice slice = lend(lengths[i], 0xA5);
+        uint32_t got = mmu_pack(2, 0, 0, 0, 0, 0, 0, 0, 0, slice.bytes, slice.len);
+        expect(got == 11 && unchanged(&slice), "pack with another length, before 6", got);
+        got = mmu_unpack(0xFFFFFFFFu, 0xFFFFFFFFu, slice.bytes, slice.len);
+        expect(got == 11 && unchanged(&slice), "unpack with another length", got);
+        give_back(&slice);
+    }
+}
+
+/* ---- Numbers ---------------------------------------------------------------------------------- */
+
+/* The bound itself, one more, and numbers with high bits. */
+static uint32_t beyond(uint32_t bound, int i)
+{
+    static const uint32_t high[] = { 0x80000000u, 0xFFFFFFFFu };
+    return i < 2 ? bound + (uint32_t)i : high[i - 2];
+}
+
+static void test_page_numbers(void)
+{
+    int i;
+    for (i = 0; i < 4; i++) {
+        struct lent l = lend_right();
+        uint32_t vsid = beyond(1u << 24, i), page = beyond(1u << 16, i);
+        expect(refused(&l, map(&l, 5, vsid, PAGE, 1, 2, 2), 6, 0), "map with a large VSID, before 2", vsid);
+        expect(refused(&l, map(&l, SDR1, VSID, page, 1, 2, 2), 6, 0), "map with a large page index", page);
+        expect(refused(&l, map(&l, SDR1, VSID, PAGE, beyond(1u << 20, i), 2, 2), 6, 0), "map with a large RPN", 0);
+        expect(refused(&l, map(&l, SDR1, VSID, PAGE, 1, beyond(16, i), 2), 6, 0), "map with a large WIMG", 0);
+        expect(refused(&l, map(&l, SDR1, VSID, PAGE, 1, 12 + (uint32_t)i, 2), 6, 0), "map with W and I", 0);
+        expect(refused(&l, map(&l, SDR1, VSID, PAGE, 1, 2, beyond(4, i)), 6, 0), "map with a large PP", 0);
+        expect(refused(&l, protect(&l, SDR1, VSID, PAGE, beyond(4, i)), 6, 0), "protect with a large PP", 0);
+        expect(refused(&l, protect(&l, 5, vsid, PAGE, 2), 6, 0), "protect with a large VSID, before 2", vsid);
+        expect(refused(&l, unmap(&l, 5, VSID, page), 6, 1), "unmap with a large page index, before 2", page);
+        expect(refused(&l, look(&l, 5, vsid, PAGE), 6, 1), "look with a large VSID, before 2", vsid);
+        give_back_all(&l);
+    }
+}
+
+static void test_access_and_register_numbers(void)
+{
+    int i;
+    for (i = 0; i < 4; i++) {
+        struct lent l = lend_right();
+        uint32_t got;
+        expect(refused(&l, access_at(&l, beyond(8, i), MMU_LOAD, ADDRESS), 6, 1), "access with a large mode", 6);
+        expect(refused(&l, access_at(&l, 0, beyond(3, i), ADDRESS), 6, 1), "access with a large kind", 6);
+        got = mmu_set_register(l.registers.bytes, l.registers.len, beyond(33, i), 0);
+        expect(got == 6 && unchanged(&l.registers), "set_register with a large number", got);
+        give_back_all(&l);
+    }
+}
+
+static void test_pack_numbers(void)
+{
+    static const uint32_t bounds[9] = { 2, 1u << 24, 2, 64, 1u << 20, 2, 2, 16, 4 };
+    int field, i;
+    for (field = 0; field < 9; field++)
+        for (i = 0; i < 4; i++) {
+            struct slice entry = lend(MMU_ENTRY_SIZE, 0xA5);
+            uint32_t f[9] = { 1, 1, 1, 1, 1, 1, 1, 1, 1 };
+            uint32_t got;
+            f[field] = beyond(bounds[field], i);
+            got = mmu_pack(f[0], f[1], f[2], f[3], f[4], f[5], f[6], f[7], f[8], entry.bytes, entry.len);
+            expect(got == 6 && mmu_get_word(entry.bytes, 0) == 0 && mmu_get_word(entry.bytes, 4) == 0,
+                   "pack with a field over its width", got);
+            give_back(&entry);
+        }
+}
+
+/* ---- Register words --------------------------------------------------------------------------- */
+
+struct word_case {
+    uint32_t number, word, result;
+};
+
+/* A word put into a page of right shape, with what check, set_register and access must say of it. */
+static void test_register_words(void)
+{
+    static const struct word_case cases[] = {
+        { 0, 0x0F980005u, 2 }, { 0, 0x0F910007u, 2 }, { 0, 0x0F980200u, 2 }, { 0, 0xFFFFFFFFu, 2 }, { 0, 0x0F98FE00u, 2 },
+        { 1, 0x80000000u, 5 }, { 16, 0x08000000u, 5 }, { 9, 0x01000000u, 5 }, { 5, 0xFFFFFFFFu, 5 },
+        { 17, 0x0000000Au, 3 }, { 17, 0x00020006u, 3 }, { 25, 0x0001FFFEu, 3 }, { 31, 0x00002002u, 3 },
+        { 17, 0x00000003u, 0 }, { 25, 0x80001FFEu, 0 }, { 26, 0xFFFFFFFFu, 0 }, { 18, 0xFFFFFFFFu, 0 },
+        { 17, 0xFFFFFFFCu, 0 }, { 2, 0x70FFFFFFu, 0 },
+    };
+    size_t i;
+    for (i = 0; i < sizeof cases / sizeof cases[0]; i++) {
+        struct lent l = lend_right();
+        size_t at = MMU_REGISTER_OFFSET(cases[i].number);
+        uint32_t got = mmu_set_register(l.registers.bytes, l.registers.len, cases[i].number, cases[i].word);
+        expect(got == cases[i].result, "set_register", got);
+        mmu_put_word(cases[i].result ? l.registers.bytes : l.registers.before, at, cases[i].word);
+        if (cases[i].result == 0)
+            expect(unchanged(&l.registers), "set_register changes one word", got);
+        remember(&l.registers);
+        got = mmu_check(l.registers.bytes, l.registers.len);
+        expect(got == cases[i].result && unchanged(&l.registers), "check", got);
+        got = access_at(&l, 0, MMU_FETCH, 0x12345678u);
+        if (cases[i].result)
+            expect(refused(&l, got, cases[i].result, 1), "access with a register word that breaks a rule", got);
+        else
+            expect(got == 0 && answer_is(&l.answer, 0, 0x12345678u, 3, 0x12345678u), "access in real mode", got);
+        give_back_all(&l);
+    }
+}
+
+/* Where several rules are broken, the first in order is told: each turn mends one. */
+static void test_order(void)
+{
+    static const struct word_case broken[] = {
+        { 0, 5, 2 }, { 17, 0x0000000Au, 3 }, { 25, 0x80000002u, 4 }, { 27, 0x80000002u, 4 }, { 4, 0x80000000u, 5 },
+    };
+    static const uint32_t mended[] = { SDR1, 0, 0, 0, 0 };
+    struct lent l = lend_all(MMU_REGISTERS_SIZE, 1, MMU_ANSWER_SIZE);
+    uint32_t got;
+    size_t i;
+    for (i = 0; i < 5; i++)
+        mmu_put_word(l.registers.bytes, MMU_REGISTER_OFFSET(broken[i].number), broken[i].word);
+    remember(&l.registers);
+    expect(refused(&l, access_at(&l, 8, 0, 0), 6, 1), "access: 6 before 2", 6);
+    for (i = 0; i < 5; i++) {
+        got = access_at(&l, 7, MMU_STORE, 0);
+        if (i != 3)
+            expect(refused(&l, got, broken[i].result, 1), "access: the first broken rule", got);
+        mmu_put_word(l.registers.bytes, MMU_REGISTER_OFFSET(broken[i].number), mended[i]);
+        remember(&l.registers);
+    }
+    got = access_at(&l, 7, MMU_STORE, 0);
+    expect(refused(&l, got, 1, 1), "access: 1 after the registers", got);
+    expect(refused(&l, mmu_clear(5, l.table.bytes, l.table.len), 2, 0), "clear: 2 before 1", 2);
+    expect(refused(&l, map(&l, 5, VSID, PAGE, 1, 2, 2), 2, 0), "map: 2 before 1", 2);
+    give_back_all(&l);
+}
+
+/* ---- Good calls ------------------------------------------------------------------------------- */
+
+/* Document 01's cases 2 to 5: the page is mapped, stored to, protected, and not found when it is unmapped. */
+static void test_page_story(void)
+{
+    struct lent l = lend_right();
+    uint8_t *entry = l.table.bytes + 0x3E6 * MMU_GROUP_SIZE;
+    expect(map(&l, SDR1, VSID, PAGE, 0x12345, 2, 2) == 0 && mmu_get_word(entry, 0) == 0x86380E03u
+               && mmu_get_word(entry, 4) == 0x12345012u, "map writes the entry", 0);
+    expect(map(&l, SDR1, VSID, PAGE, 0x12345, 2, 2) == 7, "map of a mapped page", 7);
+    expect(access_at(&l, MMU_MODE_DR, MMU_STORE, ADDRESS) == 0 && answer_is(&l.answer, 0, 0x1234501Bu, 2, ADDRESS)
+               && mmu_get_word(entry, 4) == 0x12345192u, "store", 0);
+    expect(look(&l, SDR1, VSID, PAGE) == 0 && answer_is(&l.answer, 0, 0x12345192u, 0, 0), "look", 0);
+    expect(protect(&l, SDR1, VSID, PAGE, 3) == 0 && mmu_get_word(entry, 4) == 0x12345193u, "protect", 0);
+    expect(access_at(&l, MMU_MODE_DR, MMU_STORE, ADDRESS) == 64
+               && answer_is(&l.answer, 64, 0x0A000000u, 0x300, ADDRESS), "store to a read-only page", 64);
+    expect(unmap(&l, SDR1, VSID, PAGE) == 0 && answer_is(&l.answer, 0, 0x12345193u, 0, 0)
+               && mmu_get_word(entry, 0) == 0 && mmu_get_word(entry, 4) == 0, "unmap", 0);
+    expect(access_at(&l, MMU_MODE_DR, MMU_STORE, ADDRESS) == 64
+               && answer_is(&l.answer, 64, 0x42000000u, 0x300, ADDRESS), "store to an unmapped page", 64);
+    expect(access_at(&l, MMU_MODE_IR, MMU_FETCH, ADDRESS) == 65
+               && answer_is(&l.answer, 65, 0x40000000u, 0x400, ADDRESS), "fetch from an unmapped page", 65);
+    remember(&l.table);
+    expect(refused(&l, unmap(&l, SDR1, VSID, PAGE), 8, 1), "unmap of an unmapped page", 8);
+    expect(refused(&l, protect(&l, SDR1, VSID, PAGE, 1), 8, 0), "protect of an unmapped page", 8);
+    expect(refused(&l, look(&l, SDR1, VSID, PAGE), 8, 1), "look at an unmapped page", 8);
+    give_back_all(&l);
+}
+
+/* Cases 11 and 12: sixteen pages fill two groups, the next gets 9, and after one unmap it maps. */
+static void test_full_groups(void)
+{
+    struct lent l = lend_right();
+    uint32_t i;
+    for (i = 0; i < 16; i++)
+        expect(map(&l, 0, 0x400 * i, 0, i, 2, 2) == 0, "map into two groups", i);
+    remember(&l.table);
+    expect(refused(&l, map(&l, 0, 0x4000, 0, 1, 2, 2), 9, 0), "map into full groups", 9);
+    expect(refused(&l, map(&l, 0, 0, 0x3FF, 1, 2, 2), 9, 0), "map into full groups from the other side", 9);
+    expect(unmap(&l, 0, 0x3C00, 0) == 0, "unmap from the secondary group", 0);
+    expect(map(&l, 0, 0, 0x3FF, 1, 2, 2) == 0, "map after an unmap", 0);
+    expect(mmu_clear(0, l.table.bytes, l.table.len) == 0, "clear", 0);
+    memset(l.table.before, 0, l.table.len);
+    expect(unchanged(&l.table), "clear zeroes the table", 0);
+    give_back_all(&l);
+}
+
+/* Two matches: equal but for H they serve, else access and look refuse and unmap takes both. */
+static void test_contradiction(void)
+{
+    struct lent l = lend_right();
+    uint8_t *primary = l.table.bytes + 0x3E6 * MMU_GROUP_SIZE, *secondary = l.table.bytes + 0x019 * MMU_GROUP_SIZE;
+    mmu_put_word(primary, 8, 0x86380E03u);
+    mmu_put_word(primary, 12, 0x12345012u);
+    mmu_put_word(secondary, 56, 0x86380E43u);
+    mmu_put_word(secondary, 60, 0x12345012u);
+    expect(look(&l, SDR1, VSID, PAGE) == 0 && answer_is(&l.answer, 0, 0x12345012u, 0, 0), "look at twins", 0);
+    mmu_put_word(secondary, 60, 0x12345092u);
+    remember(&l.table);
+    expect(refused(&l, look(&l, SDR1, VSID, PAGE), 10, 1), "look at contradicting matches", 10);
+    expect(refused(&l, access_at(&l, MMU_MODE_DR, MMU_LOAD, ADDRESS), 10, 1), "access to contradicting matches", 10);
+    expect(unmap(&l, SDR1, VSID, PAGE) == 0 && answer_is(&l.answer, 0, 0x12345092u, 0, 0), "unmap of both", 0);
+    memset(l.table.before, 0, l.table.len);
+    expect(unchanged(&l.table), "unmap zeroes both matches", 0);
+    give_back_all(&l);
+}
+
+static void test_packing(void)
+{
+    static const uint32_t wanted[9] = { 1, VSID, 0, 3, 0x12345, 0, 0, 2, 2 };
+    struct slice entry = lend(MMU_ENTRY_SIZE, 0xA5), fields = lend(MMU_FIELDS_SIZE, 0xA5);
+    uint32_t i;
+    expect(mmu_pack(1, VSID, 0, 3, 0x12345, 0, 0, 2, 2, entry.bytes, entry.len) == 0
+               && mmu_get_word(entry.bytes, 0) == 0x86380E03u && mmu_get_word(entry.bytes, 4) == 0x12345012u, "pack", 0);
+    expect(mmu_unpack(0x86380E03u, 0x12345012u | 0xE04u, fields.bytes, fields.len) == 0, "unpack", 0);
+    for (i = 0; i < 9; i++)
+        expect(mmu_get_word(fields.bytes, 4 * i) == wanted[i], "unpacked field, ignored bits left out", i);
+    give_back(&entry);
+    give_back(&fields);
+}
+
+/* ---- Random numbers --------------------------------------------------------------------------- */
+
+static uint32_t any(void)
+{
+    static uint32_t state = 2463534242u;
+    state ^= state << 13;
+    state ^= state >> 17;
+    state ^= state << 5;
+    return state;
+}
+
+/* Often below a bound, else any number. */
+static uint32_t some(uint32_t bound)
+{
+    return any() % 4 ? any() % bound : any();
+}
+
+static uint32_t random_call(struct lent *l, uint32_t call, uint32_t sdr1)
+{
+    switch (call) {
+    case 0:
+        return mmu_check(l->registers.bytes, l->registers.len);
+    case 1:
+        return mmu_set_register(l->registers.bytes, l->registers.len, some(33), any());
+    case 2:
+        return mmu_clear(sdr1, l->table.bytes, l->table.len);
+    case 3:
+        return map(l, sdr1, some(1u << 24), some(1u << 16), some(1u << 20), some(16), some(4));
+    case 4:
+        return protect(l, sdr1, some(1u << 24), some(1u << 16), some(4));
+    case 5:
+        return unmap(l, sdr1, some(1u << 24), some(1u << 16));
+    case 6:
+        return look(l, sdr1, some(1u << 24), some(1u << 16));
+    default:
+        return access_at(l, some(8), some(3), any());
+    }
+}
+
+/* Any numbers and bytes: a result of the list, and whatever a refusal must leave is left. */
+static void test_random_numbers(long count)
+{
+    struct lent l = lend_right();
+    size_t i;
+    while (count-- > 0) {
+        uint32_t call = any() % 8, got;
+        if (any() % 8 == 0)
+            mmu_put_word(l.registers.bytes, 4 * (any() % 33), any() % 3 ? 0 : any());
+        for (i = 0; i < 8; i++)
+            mmu_put_word(l.table.bytes, 4 * (any() % (TABLE / 4)), any());
+        if (any() % 4 == 0)
+            mmu_put_word(l.registers.bytes, 0, SDR1);
+        remember(&l.registers);
+        remember(&l.table);
+        memset(l.answer.bytes, 0xA5, l.answer.len);
+        got = random_call(&l, call, any() % 2 ? SDR1 : any());
+        expect(got <= 11 || ((got == 64 || got == 65) && call == 7), "a result of the list", got);
+        if (got != 0)
+            expect(unchanged(&l.registers) && unchanged(&l.table), "a refusal or a fault leaves table and registers", got);
+        if (call >= 5 && got >= 1 && got <= 10)
+            expect(answer_is(&l.answer, got, 0, 0, 0), "a refusal's answer", got);
+    }
+    give_back_all(&l);
+}
+
+int main(int argc, char **argv)
+{
+    test_wrong_register_lengths();
+    test_wrong_answer_lengths();
+    test_wrong_table_lengths();
+    test_wrong_entry_lengths();
+    test_page_numbers();
+    test_access_and_register_numbers();
+    test_pack_numbers();
+    test_register_words();
+    test_order();
+    test_page_story();
+    test_full_groups();
+    test_contradiction();
+    test_packing();
+    test_random_numbers(argc > 1 ? atol(argv[1]) : 2000);
+    printf("bad_input: %lu checks, %lu failed\n", checks, failures);
+    return failures != 0;
+}

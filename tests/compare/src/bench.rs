@@ -1,0 +1,224 @@
+//! One call on the model and on what is compared with it, and every lent byte afterwards.
+
+use std::fmt::Write;
+
+use model::bytes::Model;
+use model::call::{Call, Lengths, Lent};
+use model::registers::{Registers, REGISTER_PAGE};
+use model::search::{places, Place};
+use model::words::word_at;
+
+use crate::machine::Machine;
+use crate::region::{Edge, Region};
+use crate::tally::{page_of, Tally};
+
+/// The first difference met: the run ends with it.
+#[derive(Debug)]
+pub struct Difference {
+    pub text: String,
+    /// How many calls had been compared before.
+    pub calls: u64,
+}
+
+impl Difference {
+    pub fn new(text: impl Into<String>) -> Difference {
+        let text = text.into();
+        Difference { text, calls: 0 }
+    }
+}
+
+/// What a report shows of the state before a call.
+pub struct Before {
+    pub registers: Vec<u8>,
+    pub places: Vec<Place>,
+}
+
+/// Which slice is lent as the table.
+#[derive(Clone, Copy, Debug, PartialEq, Eq)]
+pub enum Lending {
+    Table,
+    /// A slice of another length in the table's place.
+    Other,
+}
+
+pub struct Bench<'a> {
+    subject: &'a dyn Machine,
+    model: Model,
+    pub registers: Region,
+    pub table: Region,
+    pub other: Region,
+    pub answer: Region,
+    pub tally: Tally,
+}
+
+impl<'a> Bench<'a> {
+    /// A table of `table` bytes, and room for a slice of up to `other` bytes in its place.
+    pub fn new(subject: &'a dyn Machine, table: usize, other: usize) -> Bench<'a> {
+        let mut bench = Bench {
+            subject,
+            model: Model::default(),
+            registers: Region::new(0),
+            table: Region::new(table),
+            other: Region::new(other),
+            answer: Region::new(0),
+            tally: Tally::default(),
+        };
+        bench.registers.lend(REGISTER_PAGE, Edge::End);
+        bench
+    }
+
+    pub fn put_registers(&mut self, words: &[u32; 33]) {
+        self.registers.lend(REGISTER_PAGE, Edge::End);
+        for (number, word) in words.iter().enumerate() {
+            self.registers.write(4 * number, &word.to_be_bytes());
+        }
+    }
+
+    /// Lends an answer of the length that the call asks for.
+    pub fn lend_answer(&mut self, call: &Call) {
+        self.answer.lend(call.answer_length().unwrap_or(0), Edge::End);
+    }
+
+    pub fn region(&mut self, lending: Lending) -> &mut Region {
+        match lending {
+            Lending::Table => &mut self.table,
+            Lending::Other => &mut self.other,
+        }
+    }
+
+    pub fn lengths(&self, lending: Lending) -> Lengths {
+        Lengths {
+            registers: self.registers.length(),
+            table: lent_as_table(&self.table, &self.other, lending).length(),
+            answer: self.answer.length(),
+        }
+    }
+
+    /// The call on the subject alone.
+    pub fn perform(&mut self, call: &Call, lending: Lending) -> u32 {
+        self.soil_answer();
+        self.tally.calls += 1;
+        self.on_subject(call, lending)
+    }
+
+    /// The call on both; its number, or what differed.
+    pub fn compare(&mut self, call: &Call, lending: Lending) -> Result<u32, Difference> {
+        self.soil_answer();
+        let before = self.before(call, lending);
+        let expected = self.on_model(call, lending);
+        let got = self.on_subject(call, lending);
+        self.tally.count(call, expected);
+        if expected != got {
+            let text = format!("result number\n  expected {expected}\n  got      {got}");
+            return Err(self.difference(call, lending, &before, &text));
+        }
+        for (name, region) in [
+            ("registers", &self.registers),
+            ("table", lent_as_table(&self.table, &self.other, lending)),
+            ("answer", &self.answer),
+        ] {
+            if let Some(text) = byte_difference(name, region) {
+                return Err(self.difference(call, lending, &before, &text));
+            }
+        }
+        Ok(got)
+    }
+
+    /// Old bytes in the answer, other ones each time, show what a call leaves unwritten.
+    fn soil_answer(&mut self) {
+        let old = self.tally.calls as u8 | 1;
+        self.answer.fill(|bytes| bytes.fill(old));
+    }
+
+    /// Notes what the call meets, and keeps registers and the page's entries for a report.
+    fn before(&mut self, call: &Call, lending: Lending) -> Before {
+        let lengths = self.lengths(lending);
+        let table = lent_as_table(&self.table, &self.other, lending).bytes();
+        let registers = self.registers.bytes();
+        self.tally.note(&self.model, call, registers, table, lengths);
+        let page = page_of(call, registers, table.len());
+        let places = page.map_or(Vec::new(), |(sdr1, page)| places(sdr1, page, table));
+        Before { registers: registers.to_vec(), places }
+    }
+
+    fn on_model(&mut self, call: &Call, lending: Lending) -> u32 {
+        let table = match lending {
+            Lending::Table => self.table.model(),
+            Lending::Other => self.other.model(),
+        };
+        let lent = Lent { registers: self.registers.model(), table, answer: self.answer.model() };
+        self.model.perform(call, lent)
+    }
+
+    fn on_subject(&mut self, call: &Call, lending: Lending) -> u32 {
+        let table = match lending {
+            Lending::Table => self.table.subject(),
+            Lending::Other => self.other.subject(),
+        };
+        let lent =
+            Lent { registers: self.registers.subject(), table, answer: self.answer.subject() };
+        self.subject.perform(call, lent)
+    }
+
+    /// A report of a difference: the inputs, then what was expected and what was got.
+    pub fn difference(
+        &self,
+        call: &Call,
+        lending: Lending,
+        before: &Before,
+        what: &str,
+    ) -> Difference {
+        let mut text = format!("call {call:x?}\n{:?}\n", self.lengths(lending));
+        if call.is_lent_registers() {
+            write_registers(&mut text, &before.registers);
+        }
+        for place in before.places.iter().filter(|place| (place.first, place.second) != (0, 0)) {
+            let (group, entry, h) = (place.at / 64, place.at / 8 % 8, place.h);
+            let words = format!("{:08X} {:08X}", place.first, place.second);
+            let _ = writeln!(text, "entry before: group {group:#x} ({h}) entry {entry}: {words}");
+        }
+        text.push_str(what);
+        let calls = self.tally.calls;
+        Difference { text, calls }
+    }
+}
+
+fn lent_as_table<'a>(table: &'a Region, other: &'a Region, lending: Lending) -> &'a Region {
+    match lending {
+        Lending::Table => table,
+        Lending::Other => other,
+    }
+}
+
+fn byte_difference(name: &str, region: &Region) -> Option<String> {
+    let (at, expected, got) = region.difference()?;
+    let mut text = format!("byte {at} of the {name}, counted from its first lent byte");
+    let _ = write!(text, "\n  expected {expected:02X}\n  got      {got:02X}");
+    let shown = match usize::try_from(at) {
+        Ok(at) if at < region.length() && name == "table" => {
+            let entry = at / 8 * 8;
+            let _ = write!(text, "\ngroup {:#x} entry {}", at / 64, at / 8 % 8);
+            entry..(entry + 8).min(region.length())
+        }
+        _ => 0..region.length().min(REGISTER_PAGE),
+    };
+    let (expected, got) = (&region.bytes()[shown.clone()], &region.subject_bytes()[shown]);
+    let _ = write!(text, "\n  expected {expected:02X?}\n  got      {got:02X?}");
+    Some(text)
+}
+
+fn write_registers(text: &mut String, page: &[u8]) {
+    if Registers::read(page).is_none() {
+        return;
+    }
+    for (name, words) in [
+        ("SDR1", 0..1),
+        ("segments", 1..17),
+        ("instruction blocks", 17..25),
+        ("data blocks", 25..33),
+    ] {
+        let words: Vec<_> =
+            words.map(|number| format!("{:08X}", word_at(page, 4 * number))).collect();
+        let _ = writeln!(text, "{name}: {}", words.join(" "));
+    }
+}

@@ -1,0 +1,120 @@
+//! Complete small tables: every mode, kind, key, N, PP and WIMG of a page, the same of a block, and
+//! every bit of the register words.
+
+use model::call::{Access, Call, Page};
+use model::search::{group_numbers, GROUP};
+
+use crate::bench::{Bench, Difference, Lending};
+use crate::machine::Machine;
+use crate::random::Random;
+use crate::region::Edge;
+use crate::scenes::groups::matching_word;
+use crate::scenes::registers;
+use crate::tally::Tally;
+
+const SDR1: u32 = 0x0F98_0000;
+const ADDRESS: u32 = 0x00FF_A01B;
+const VSID: u32 = 0x0C_701C;
+
+pub fn run(subject: &dyn Machine, _factor: u32) -> Result<Tally, Difference> {
+    let mut bench = Bench::new(subject, 65_536, 0);
+    for mode in 0..8 {
+        for kind in 0..3 {
+            let access = Call::Access(Access { mode, kind, address: ADDRESS });
+            bench.lend_answer(&access);
+            by_page(&mut bench, &access)?;
+            by_block(&mut bench, &access)?;
+        }
+    }
+    sdr1_words(&mut bench)?;
+    block_lengths(&mut bench)?;
+    single_bits(&mut bench)?;
+    Ok(bench.tally)
+}
+
+/// Ks, Kp and N by WIMG, marks and PP, in either group.
+fn by_page(bench: &mut Bench, access: &Call) -> Result<(), Difference> {
+    let page = Page::of_address(VSID, ADDRESS);
+    let mut words = [0; 33];
+    words[0] = SDR1;
+    for keys in 0..8 {
+        words[1] = keys << 28 | VSID;
+        bench.put_registers(&words);
+        for low in 0..0x400 {
+            let h = low >> 9;
+            let at = GROUP * group_numbers(SDR1, page)[h as usize];
+            let second = 0x1234_5000 | low & 0x1FF;
+            bench.table.write(at, &matching_word(page, h).to_be_bytes());
+            bench.table.write(at + 4, &second.to_be_bytes());
+            bench.compare(access, Lending::Table)?;
+            bench.table.write(at, &[0; 8]);
+        }
+    }
+    Ok(())
+}
+
+/// A block of either side by its V bits, WIMG and PP; some of these are refused.
+fn by_block(bench: &mut Bench, access: &Call) -> Result<(), Difference> {
+    for number in (17..33).step_by(2) {
+        for low in 0..0x100 {
+            let mut words = [0; 33];
+            words[0] = SDR1;
+            words[1] = VSID;
+            words[number] = 0x00FE_0000 | low >> 6;
+            words[number + 1] = 0x1234_0000 | (low & 0x3C) << 1 | low & 3;
+            bench.put_registers(&words);
+            bench.compare(access, Lending::Table)?;
+        }
+    }
+    Ok(())
+}
+
+/// Every lower half of SDR1, and every mask under each single bit of the origin; no table is lent.
+fn sdr1_words(bench: &mut Bench) -> Result<(), Difference> {
+    bench.other.lend(0, Edge::End);
+    let halves = (0..0x1_0000).flat_map(|low| [low, 0xFE00_0000 | low]);
+    let origins = (0..16).flat_map(|bit| (0..0x200).map(move |mask| 0x1_0000 << bit | mask));
+    for sdr1 in halves.chain(origins) {
+        bench.compare(&Call::Clear { sdr1 }, Lending::Other)?;
+    }
+    Ok(())
+}
+
+/// Every BL of an instruction and a data block, alone and with each bit of either start.
+fn block_lengths(bench: &mut Bench) -> Result<(), Difference> {
+    for number in [17, 25] {
+        for length in 0..0x800 {
+            for bit in 0..15 {
+                for (start, physical) in [(0, 0), (0x2_0000 << bit, 0), (0, 0x2_0000 << bit)] {
+                    let mut words = [0; 33];
+                    words[0] = SDR1;
+                    words[number] = start | length << 2 | 0b11;
+                    words[number + 1] = physical;
+                    bench.put_registers(&words);
+                    bench.compare(&Call::Check, Lending::Table)?;
+                }
+            }
+        }
+    }
+    Ok(())
+}
+
+/// Each bit of each register word turned over, in pages that keep every rule.
+fn single_bits(bench: &mut Bench) -> Result<(), Difference> {
+    let mut random = Random::new(0xB175);
+    for _ in 0..20 {
+        let good = registers::well_formed(&mut random, SDR1);
+        for number in 0..33 {
+            for bit in 0..32 {
+                let mut words = good;
+                words[number] ^= 1 << bit;
+                bench.put_registers(&words);
+                bench.compare(&Call::Check, Lending::Table)?;
+                bench.put_registers(&good);
+                let call = Call::SetRegister { number: number as u32, word: words[number] };
+                bench.compare(&call, Lending::Table)?;
+            }
+        }
+    }
+    Ok(())
+}

@@ -1,0 +1,124 @@
+//! Every length of each lent slice around its right one, at both ends of guarded memory and at an
+//! odd address.
+
+use std::ops::RangeInclusive;
+
+use model::call::{Access, Call, Page};
+use model::entry::Fields;
+use model::registers::REGISTER_PAGE;
+
+use crate::bench::{Bench, Difference, Lending};
+use crate::machine::Machine;
+use crate::random::Random;
+use crate::region::Edge;
+use crate::scenes::groups;
+use crate::tally::Tally;
+
+const RIGHT: usize = 65_536;
+const SDR1: u32 = 0x0F98_0000;
+const PAGE: Page = Page { vsid: 0x0C_701C, page_index: 0x0FFA };
+
+/// Lengths of a table: the smallest, those around the right one, and those right for other masks.
+fn table_lengths() -> Vec<usize> {
+    let ranges: [RangeInclusive<usize>; 4] =
+        [0..=80, RIGHT - 80..=RIGHT + 80, RIGHT / 2..=RIGHT / 2, 2 * RIGHT - 1..=2 * RIGHT];
+    ranges.into_iter().flatten().collect()
+}
+
+/// Calls that would be done, or would end another way, if every length were right.
+fn calls() -> Vec<Call> {
+    let (sdr1, page) = (SDR1, PAGE);
+    let elsewhere = Page { vsid: 1, ..PAGE };
+    let access = |mode, kind| Call::Access(Access { mode, kind, address: 0x00FF_A01B });
+    let map = |page, pp| Call::Map { sdr1, page, rpn: 0x12345, wimg: 2, pp };
+    let fields = |pp| Fields { v: 1, pp, ..Fields::default() };
+    vec![
+        Call::Check,
+        Call::SetRegister { number: 32, word: 5 },
+        Call::SetRegister { number: 33, word: 5 },
+        Call::Clear { sdr1 },
+        Call::Clear { sdr1: sdr1 | 5 },
+        map(elsewhere, 2),
+        map(page, 2),
+        map(page, 4),
+        Call::Unmap { sdr1, page },
+        Call::Unmap { sdr1, page: elsewhere },
+        Call::Protect { sdr1, page, pp: 3 },
+        Call::Look { sdr1, page },
+        Call::Look { sdr1: sdr1 | 5, page },
+        access(1, 2),
+        access(0, 0),
+        access(7, 0),
+        access(8, 0),
+        Call::Pack(fields(3)),
+        Call::Pack(fields(4)),
+        Call::Unpack { first: 0x8638_0E03, second: 0x1234_5012 },
+    ]
+}
+
+pub fn run(subject: &dyn Machine, _factor: u32) -> Result<Tally, Difference> {
+    let mut bench = Bench::new(subject, RIGHT, 2 * RIGHT + 4_096);
+    let mut random = Random::new(0x1E46);
+    for edge in [Edge::End, Edge::Start, Edge::Odd] {
+        for call in calls() {
+            let mut stage = Stage { random: &mut random, bench: &mut bench, call, edge };
+            stage.run()?;
+        }
+    }
+    Ok(bench.tally)
+}
+
+struct Stage<'a, 'b> {
+    random: &'a mut Random,
+    bench: &'a mut Bench<'b>,
+    call: Call,
+    edge: Edge,
+}
+
+impl Stage<'_, '_> {
+    fn run(&mut self) -> Result<(), Difference> {
+        let answer = self.call.answer_length().unwrap_or(0);
+        if self.call.is_lent_table() {
+            for table in table_lengths() {
+                self.one(REGISTER_PAGE, table, answer)?;
+            }
+            self.one(REGISTER_PAGE, 7, answer + 1)?;
+        }
+        if self.call.is_lent_registers() {
+            for registers in 0..=REGISTER_PAGE + 12 {
+                self.one(registers, RIGHT, answer)?;
+                self.one(registers, 0, answer + 1)?;
+            }
+        }
+        if self.call.answer_length().is_some() {
+            for answer in 0..=answer + 12 {
+                self.one(REGISTER_PAGE, RIGHT, answer)?;
+                self.one(REGISTER_PAGE, 0, answer)?;
+                self.one(0, 0, answer)?;
+            }
+        }
+        Ok(())
+    }
+
+    /// The call with slices of these lengths, the page's groups planted where the table has them.
+    fn one(&mut self, registers: usize, table: usize, answer: usize) -> Result<(), Difference> {
+        self.put_registers(registers);
+        self.bench.other.lend(table, self.edge);
+        if table >= RIGHT {
+            groups::plant(self.random, &mut self.bench.other, SDR1, PAGE, &groups::MATCHES);
+        }
+        self.bench.answer.lend(answer, self.edge);
+        self.bench.compare(&self.call, Lending::Other)?;
+        Ok(())
+    }
+
+    /// A page under which every access of the list is done, as far as it is lent.
+    fn put_registers(&mut self, length: usize) {
+        let mut words = [0; 36];
+        words[0] = SDR1;
+        words[1] = PAGE.vsid;
+        let bytes: Vec<u8> = words.iter().flat_map(|word| word.to_be_bytes()).collect();
+        self.bench.registers.lend(length, self.edge);
+        self.bench.registers.write(0, &bytes[..length]);
+    }
+}

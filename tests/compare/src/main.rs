@@ -1,0 +1,130 @@
+//! Compares the library with the model on fixed inputs and says what was compared.
+//!
+//! MMU_TEST_FACTOR, 1 where it is not set, multiplies the number of random calls.
+
+mod arrangements;
+mod bench;
+mod cases;
+mod exhaustive;
+mod flaws;
+mod guarded;
+mod lengths;
+mod lists;
+mod machine;
+mod packing;
+mod random;
+mod region;
+mod scenes;
+mod singles;
+mod tally;
+mod vectors;
+mod watch;
+
+use std::process::{Command, ExitCode};
+
+use mmu::{Empty, Mmu};
+use model::bytes::Model;
+use model::call::NAMES;
+
+use bench::Difference;
+use guarded::Guarded;
+use machine::Machine;
+use tally::Tally;
+
+/// A comparison of some machine with the model, its random part so many times as long.
+type Section = fn(&dyn Machine, u32) -> Result<Tally, Difference>;
+
+const SECTIONS: [(&str, Empty, Section); 7] = [
+    ("recorded accesses", Empty::Null, vectors::run),
+    ("packing", Empty::Null, packing::run),
+    ("complete tables", Empty::Null, exhaustive::run),
+    ("lengths, empty as NULL", Empty::Null, lengths::run),
+    ("lengths, empty as lent", Empty::AsLent, lengths::run),
+    ("single calls", Empty::Null, singles::run),
+    ("lists of calls", Empty::Null, lists::run),
+];
+
+/// The argument that makes the program read a byte it must not, to show that the guard works.
+const READ_PAST_END: &str = "--read-past-end";
+
+fn main() -> ExitCode {
+    watch::install();
+    if std::env::args().nth(1).as_deref() == Some(READ_PAST_END) {
+        return ExitCode::from(Guarded::new(1).read_past_end());
+    }
+    match compare_all() {
+        Ok(()) => ExitCode::SUCCESS,
+        Err(difference) => {
+            let Difference { text, calls } = difference;
+            eprintln!("bad, after {calls} calls\n{text}");
+            ExitCode::FAILURE
+        }
+    }
+}
+
+fn factor() -> u32 {
+    match std::env::var("MMU_TEST_FACTOR") {
+        Err(_) => 1,
+        Ok(text) => text.parse().expect("MMU_TEST_FACTOR is a number"),
+    }
+}
+
+fn compare_all() -> Result<(), Difference> {
+    let factor = factor();
+    test_the_tests(factor)?;
+    let empty = Empty::Null;
+    cases::run(&Mmu { empty })?;
+    println!("{:<24}{:>9}", "cases of document 01", 12);
+    let mut total = Tally::default();
+    for (name, empty, section) in SECTIONS {
+        let tally = section(&Mmu { empty }, factor)?;
+        println!("{name:<24}{:>9}", tally.calls);
+        total.add(&tally);
+    }
+    println!("{:<24}{:>9}", "all", total.calls);
+    print_results(&total);
+    Ok(())
+}
+
+/// Guard, model, finite map and comparison, before anything is said of the library.
+fn test_the_tests(factor: u32) -> Result<(), Difference> {
+    test_guard()?;
+    cases::run(&Model::default())?;
+    vectors::run(&Model::default(), factor)?;
+    let [without, with] = arrangements::run()?;
+    println!("arrangements: {with} exist, {without} do not, as by trying all");
+    let found = flaws::run(factor)?;
+    println!(
+        "wrong models found: {}, {} of them by the finite map alone; wrong maps found: {}; \
+         none took more than {} calls",
+        found.models, found.by_map, found.maps, found.most_calls
+    );
+    Ok(())
+}
+
+fn test_guard() -> Result<(), Difference> {
+    let program = std::env::current_exe().expect("the program knows its file");
+    let output = Command::new(program).arg(READ_PAST_END).output();
+    let status = output.expect("the program can be started").status;
+    match status.code() == Some(watch::STOPPED) {
+        true => Ok(()),
+        false => Err(Difference::new("a read past guarded memory was not stopped")),
+    }
+}
+
+fn print_results(total: &Tally) {
+    println!("results by call:");
+    for name in NAMES {
+        let numbers = total.numbers().iter().filter(|((call, _), _)| *call == name);
+        let counts: Vec<_> =
+            numbers.map(|((_, number), count)| format!("{number}: {count}")).collect();
+        println!("  {name:<8} {}", counts.join("  "));
+    }
+    let mut refusals = std::collections::BTreeMap::new();
+    for ((_, number), count) in total.numbers() {
+        *refusals.entry(number).or_insert(0) += count;
+    }
+    let counts: Vec<_> =
+        refusals.iter().map(|(number, count)| format!("{number}: {count}")).collect();
+    println!("  {:<8} {}", "all", counts.join("  "));
+}

@@ -1,0 +1,101 @@
+//! Groups of entries around one page: matches, twins, contradictions, and near misses.
+
+use model::call::Page;
+use model::entry::{Fields, CHANGED, IGNORED_BITS, REFERENCED};
+use model::search::{group_numbers, ENTRY, GROUP};
+
+use crate::random::Random;
+use crate::region::Region;
+
+/// How many matches are planted, one of these at random.
+pub const MATCHES: [u32; 9] = [0, 0, 1, 1, 1, 2, 2, 3, 20];
+/// The same where a match is what stands in the way.
+pub const FEW_MATCHES: [u32; 6] = [0, 0, 0, 0, 1, 2];
+
+/// Fills both groups of a page, and puts entries that would match into groups that are not its own.
+pub fn plant(random: &mut Random, table: &mut Region, sdr1: u32, page: Page, matches: &[u32]) {
+    let groups = group_numbers(sdr1, page);
+    let second = random.word();
+    let matches = random.pick(matches);
+    let free = random.pick(&[0, 0, 1, 8, 15]);
+    for (h, group) in groups.into_iter().enumerate() {
+        for entry in 0..8 {
+            let first = other_entry(random, page, h as u32, free);
+            let any = random.word();
+            put_entry(table, group, entry, [first, random.pick(&[second, any])]);
+        }
+    }
+    for words in matching_entries(random, page, second, matches) {
+        let h = (words[0] >> 6 & 1) as usize;
+        put_entry(table, groups[h], random.index(8), words);
+    }
+    if random.once_in(2) {
+        plant_astray(random, table, sdr1, page, second);
+    }
+}
+
+fn put_entry(table: &mut Region, group: usize, entry: usize, words: [u32; 2]) {
+    let at = GROUP * group + ENTRY * entry;
+    table.write(at, &words[0].to_be_bytes());
+    table.write(at + 4, &words[1].to_be_bytes());
+}
+
+/// The first word by which a page matches.
+pub fn matching_word(page: Page, h: u32) -> u32 {
+    let (vsid, api) = (page.vsid, page.api());
+    let entry = Fields { v: 1, vsid, h, api, ..Fields::default() };
+    entry.words()[0]
+}
+
+/// The first word of an entry that does not match; `free` in sixteen have V = 0.
+fn other_entry(random: &mut Random, page: Page, h: u32, free: u32) -> u32 {
+    let matching = matching_word(page, h);
+    if random.below(16) < free {
+        let anything = random.word();
+        return random.pick(&[0, matching, anything]) & 0x7FFF_FFFF;
+    }
+    match random.below(5) {
+        0 => matching ^ 0x40,
+        1 => matching ^ 0x80 << random.below(24),
+        2 => matching ^ 1 << random.below(6),
+        3 => matching ^ 0x40 ^ 0x80 << random.below(24),
+        _ => 0x8000_0000 | random.word(),
+    }
+}
+
+/// Matches, of one group or of both, equal or differing in a bit.
+fn matching_entries(random: &mut Random, page: Page, second: u32, count: u32) -> Vec<[u32; 2]> {
+    let in_one_group = random.once_in(2);
+    let side = random.below(2);
+    let differing = random.once_in(2);
+    let mut entry = || {
+        let h = if in_one_group { side } else { random.below(2) };
+        let second = match differing && random.once_in(2) {
+            true => second ^ differing_bit(random),
+            false => second,
+        };
+        [matching_word(page, h), second]
+    };
+    (0..count).map(|_| entry()).collect()
+}
+
+/// A bit in which a match may differ from another, often a mark or an ignored one.
+fn differing_bit(random: &mut Random) -> u32 {
+    let any = 1 << random.below(32);
+    let ignored = random.pick(&[0x800, 0x400, 0x200, 0x004]);
+    debug_assert!(IGNORED_BITS & ignored != 0);
+    random.pick(&[any, ignored, REFERENCED, CHANGED])
+}
+
+/// The page's own words in groups near its two, where no search may find them.
+fn plant_astray(random: &mut Random, table: &mut Region, sdr1: u32, page: Page, second: u32) {
+    let groups = group_numbers(sdr1, page);
+    let top = groups[0] + groups[1];
+    for _ in 0..4 {
+        let near = random.pick(&groups) ^ 1 << random.below(top.count_ones());
+        let words = [matching_word(page, random.below(2)), second];
+        if !groups.contains(&near) {
+            put_entry(table, near, random.index(8), words);
+        }
+    }
+}

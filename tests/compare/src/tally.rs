@@ -1,0 +1,229 @@
+//! What the compared calls met, and what they have to have met.
+
+use std::collections::BTreeMap;
+
+use model::bytes::Model;
+use model::call::{Call, Lengths, Page, FETCH, LOAD, STORE};
+use model::registers::{sdr1_is_well_formed, table_length, Registers};
+use model::search::{contradict, first_free, matches, Place};
+use model::translation::{before_search, BeforeSearch, Outcome};
+
+/// Counts of calls by what they met.
+#[derive(Default)]
+pub struct Tally {
+    pub calls: u64,
+    /// By call and result number.
+    numbers: BTreeMap<(&'static str, u32), u64>,
+    /// By call, the refusal given, and one that came after it in the order and held as well.
+    orders: BTreeMap<(&'static str, u32, u32), u64>,
+    /// By the end of an access and its kind.
+    outcomes: BTreeMap<(&'static str, u32), u64>,
+    /// By call and the matches of its page.
+    situations: BTreeMap<(&'static str, &'static str), u64>,
+}
+
+impl Tally {
+    pub fn count(&mut self, call: &Call, number: u32) {
+        self.calls += 1;
+        *self.numbers.entry((call.name(), number)).or_default() += 1;
+    }
+
+    pub fn numbers(&self) -> &BTreeMap<(&'static str, u32), u64> {
+        &self.numbers
+    }
+
+    pub fn add(&mut self, other: &Tally) {
+        self.calls += other.calls;
+        for (&key, count) in &other.numbers {
+            *self.numbers.entry(key).or_default() += count;
+        }
+    }
+
+    /// Notes the state a call comes upon.
+    pub fn note(
+        &mut self,
+        model: &Model,
+        call: &Call,
+        registers: &[u8],
+        table: &[u8],
+        lengths: Lengths,
+    ) {
+        let mut broken = model.broken(call, registers, lengths);
+        let refused = !broken.is_empty();
+        if broken.iter().all(|number| [11, 6, 5, 1].contains(number)) {
+            broken.extend(self.note_search(call, registers, table));
+        }
+        if let Some((&first, later)) = broken.split_first() {
+            for &second in later {
+                *self.orders.entry((call.name(), first, second)).or_default() += 1;
+            }
+        }
+        if let (Call::Access(access), false) = (*call, refused) {
+            let set = Registers::read(registers).expect("the length was tested");
+            let (outcome, _) = model.outcome(&set, access, table);
+            let key = (outcome_name(outcome), access.kind);
+            *self.outcomes.entry(key).or_default() += 1;
+        }
+    }
+
+    /// The refusals of the search, told even where an earlier rule hides them.
+    fn note_search(&mut self, call: &Call, registers: &[u8], table: &[u8]) -> Vec<u32> {
+        let Some((sdr1, page)) = page_of(call, registers, table.len()) else {
+            return Vec::new();
+        };
+        let met = matches(None, sdr1, page, table);
+        *self.situations.entry((call.name(), situation(&met))).or_default() += 1;
+        let causes = match call {
+            Call::Map { .. } => {
+                vec![(7, !met.is_empty()), (9, first_free(sdr1, page, table).is_none())]
+            }
+            Call::Look { .. } => vec![(10, contradict(None, &met)), (8, met.is_empty())],
+            Call::Access(_) => vec![(10, contradict(None, &met))],
+            _ => vec![(8, met.is_empty())],
+        };
+        causes.into_iter().filter_map(|(number, holds)| holds.then_some(number)).collect()
+    }
+
+    /// What of the lists below was never met.
+    pub fn missing(&self) -> Vec<String> {
+        let mut missing = Vec::new();
+        for (call, numbers) in NUMBERS {
+            for &number in numbers {
+                if !self.numbers.contains_key(&(call, number)) {
+                    missing.push(format!("{call} never gave {number}"));
+                }
+            }
+        }
+        for (call, pairs) in ORDERS {
+            for &(first, second) in pairs {
+                if !self.orders.contains_key(&(call, first, second)) {
+                    missing.push(format!("{call} never met {first} and {second} together"));
+                }
+            }
+        }
+        for key in OUTCOMES {
+            if !self.outcomes.contains_key(&key) {
+                missing.push(format!("no access of kind {} ended by {}", key.1, key.0));
+            }
+        }
+        for call in ["map", "unmap", "protect", "look", "access"] {
+            for situation in SITUATIONS {
+                if !self.situations.contains_key(&(call, situation)) {
+                    missing.push(format!("{call} never met {situation}"));
+                }
+            }
+        }
+        missing
+    }
+}
+
+/// SDR1 and the page a call searches for, where a search in a slice of this length is possible.
+pub fn page_of(call: &Call, registers: &[u8], table: usize) -> Option<(u32, Page)> {
+    let (sdr1, page) = match *call {
+        Call::Access(access) => {
+            let set = Registers::read(registers)?;
+            if access.mode > 7 || access.kind > 2 || !set.blocks_are_well_formed() {
+                return None;
+            }
+            match before_search(None, &set, access) {
+                BeforeSearch::Settled(_) => return None,
+                BeforeSearch::Search { page, .. } => (set.sdr1(), page),
+            }
+        }
+        _ => (call.sdr1()?, call.page()?),
+    };
+    let possible = page.in_range() && sdr1_is_well_formed(sdr1) && table >= table_length(sdr1);
+    possible.then_some((sdr1, page))
+}
+
+#[rustfmt::skip]
+const SITUATIONS: [&str; 5] = [
+    "no match", "one match", "twins in one group", "twins in both groups", "contradicting matches",
+];
+
+fn situation(met: &[Place]) -> &'static str {
+    match met {
+        [] => SITUATIONS[0],
+        [_] => SITUATIONS[1],
+        _ if contradict(None, met) => SITUATIONS[4],
+        _ if met.iter().all(|place| place.h == met[0].h) => SITUATIONS[2],
+        _ => SITUATIONS[3],
+    }
+}
+
+fn outcome_name(outcome: Outcome) -> &'static str {
+    match outcome {
+        Outcome::RealMode => "real mode",
+        Outcome::Block { .. } => "a block",
+        Outcome::BlockProtection => "block protection",
+        Outcome::NoExecute => "no execute",
+        Outcome::NoMatch => "no match",
+        Outcome::Guarded => "guarded",
+        Outcome::Protection => "protection",
+        Outcome::Page { .. } => "a page",
+        Outcome::Contradiction => "contradiction",
+    }
+}
+
+/// Every result number a call can give.
+const NUMBERS: [(&str, &[u32]); 10] = [
+    ("check", &[0, 11, 2, 3, 4, 5]),
+    ("set", &[0, 11, 6, 2, 3, 4, 5]),
+    ("clear", &[0, 2, 1]),
+    ("map", &[0, 6, 2, 1, 7, 9]),
+    ("unmap", &[0, 11, 6, 2, 1, 8]),
+    ("protect", &[0, 6, 2, 1, 8]),
+    ("look", &[0, 11, 6, 2, 1, 8, 10]),
+    ("access", &[0, 64, 65, 11, 6, 2, 3, 4, 5, 1, 10]),
+    ("pack", &[0, 11, 6]),
+    ("unpack", &[0, 11]),
+];
+
+/// Two causes that can hold at once, the one to be answered first.
+#[rustfmt::skip]
+const ORDERS: [(&str, &[(u32, u32)]); 9] = [
+    ("check", &[(2, 3), (2, 4), (2, 5), (3, 4), (3, 5), (4, 5)]),
+    ("set", &[
+        (11, 6), (6, 2), (6, 3), (6, 4), (6, 5),
+        (2, 3), (2, 4), (2, 5), (3, 4), (3, 5), (4, 5),
+    ]),
+    ("clear", &[(2, 1)]),
+    ("map", &[(6, 2), (6, 1), (6, 7), (6, 9), (2, 1), (1, 7), (1, 9), (7, 9)]),
+    ("unmap", &[(11, 6), (11, 2), (11, 1), (11, 8), (6, 2), (6, 1), (2, 1), (1, 8)]),
+    ("protect", &[(6, 2), (6, 1), (6, 8), (2, 1), (1, 8)]),
+    ("look", &[
+        (11, 6), (11, 2), (11, 1), (11, 8), (11, 10), (6, 2), (6, 1), (2, 1), (1, 8), (1, 10),
+    ]),
+    ("access", &[
+        (11, 6), (11, 2), (11, 3), (11, 4), (11, 5), (11, 1), (11, 10),
+        (6, 2), (6, 3), (6, 4), (6, 5), (6, 1),
+        (2, 3), (2, 4), (2, 5), (2, 1), (3, 4), (3, 5), (3, 1), (4, 5), (4, 1), (5, 1),
+        (5, 10), (1, 10),
+    ]),
+    ("pack", &[(11, 6)]),
+];
+
+/// Every way an access can end, with each kind that can end so.
+const OUTCOMES: [(&str, u32); 21] = [
+    ("real mode", FETCH),
+    ("real mode", LOAD),
+    ("real mode", STORE),
+    ("a block", FETCH),
+    ("a block", LOAD),
+    ("a block", STORE),
+    ("block protection", FETCH),
+    ("block protection", LOAD),
+    ("block protection", STORE),
+    ("no execute", FETCH),
+    ("no match", FETCH),
+    ("no match", LOAD),
+    ("no match", STORE),
+    ("guarded", FETCH),
+    ("protection", FETCH),
+    ("protection", LOAD),
+    ("protection", STORE),
+    ("a page", FETCH),
+    ("a page", LOAD),
+    ("a page", STORE),
+    ("contradiction", FETCH),
+];

@@ -1,0 +1,219 @@
+//! The calls on bytes: each gives its number and rewrites what is lent, as document 01 says.
+
+use crate::call::{Access, Call, Lengths, Lent, Page};
+use crate::entry::{Fields, CHANGED, IGNORED_BITS, REFERENCED};
+use crate::flaw::Flaw;
+use crate::registers::{put_register, Registers};
+use crate::rules;
+use crate::search::{self, Place};
+use crate::translation::{self, BeforeSearch, Outcome};
+use crate::words::{put_word, put_words};
+
+/// The model, with the mistake it is to make if any.
+#[derive(Clone, Copy, Debug, Default)]
+pub struct Model {
+    flaw: Option<Flaw>,
+}
+
+impl Model {
+    pub fn with(flaw: Flaw) -> Model {
+        Model { flaw: Some(flaw) }
+    }
+
+    fn has(&self, flaw: Flaw) -> bool {
+        self.flaw == Some(flaw)
+    }
+
+    /// One call.
+    pub fn perform(&self, call: &Call, lent: Lent) -> u32 {
+        if let Some(&number) = self.broken(call, lent.registers, lent.lengths()).first() {
+            return self.refuse(call, number, lent.answer);
+        }
+        if self.has(Flaw::RefusesAll) {
+            return self.refuse(call, 6, lent.answer);
+        }
+        match *call {
+            Call::Check => 0,
+            Call::SetRegister { number, word } => {
+                put_register(lent.registers, number, word);
+                0
+            }
+            Call::Clear { .. } => {
+                lent.table.fill(0);
+                0
+            }
+            Call::Map { sdr1, page, rpn, wimg, pp } => {
+                let frame = Fields { rpn, wimg, pp, ..Fields::default() };
+                self.map(sdr1, page, frame, lent.table)
+            }
+            Call::Unmap { sdr1, page } => self.unmap(sdr1, page, lent.table, lent.answer),
+            Call::Protect { sdr1, page, pp } => self.protect(sdr1, page, pp, lent.table),
+            Call::Look { sdr1, page } => self.look(sdr1, page, lent.table, lent.answer),
+            Call::Access(access) => self.access(lent, access),
+            Call::Pack(fields) => {
+                put_words(lent.answer, &fields.words());
+                0
+            }
+            Call::Unpack { first, second } => {
+                put_words(lent.answer, &Fields::of_words(first, second).list());
+                0
+            }
+        }
+    }
+
+    /// The rules on numbers, registers and lengths that a call breaks, in their order.
+    pub fn broken(&self, call: &Call, registers: &[u8], lengths: Lengths) -> Vec<u32> {
+        rules::broken(self.flaw, call, registers, lengths)
+    }
+
+    /// At 11 nothing is written; else an answer is the number and zeros, an entry two zero words.
+    fn refuse(&self, call: &Call, number: u32, answer: &mut [u8]) -> u32 {
+        let rightly_sized = call.answer_length() == Some(answer.len());
+        if !rightly_sized || number == 11 && !self.has(Flaw::AnswerAtEleven) {
+            return number;
+        }
+        if self.has(Flaw::RefusalKeepsAnswer) {
+            put_word(answer, 0, number);
+            return number;
+        }
+        answer.fill(0);
+        if !matches!(call, Call::Pack(_)) {
+            put_word(answer, 0, number);
+        }
+        number
+    }
+
+    fn map(&self, sdr1: u32, page: Page, frame: Fields, table: &mut [u8]) -> u32 {
+        let free = search::first_free(sdr1, page, table);
+        let mut matches = search::matches(self.flaw, sdr1, page, table);
+        if let (true, Some(free)) = (self.has(Flaw::MatchUpToFree), free) {
+            matches.retain(|place| (place.h, place.at) < (free.h, free.at));
+        }
+        if free.is_none() && self.has(Flaw::FullBeforeMatch) {
+            return 9;
+        }
+        if !matches.is_empty() {
+            return 7;
+        }
+        let Some(free) = free else { return 9 };
+        if free.h == 1 && self.has(Flaw::FullAtPrimary) {
+            return 9;
+        }
+        if self.has(Flaw::MapStoresNothing) {
+            return 0;
+        }
+        let entry = Fields { v: 1, vsid: page.vsid, h: free.h, api: page.api(), ..frame };
+        put_words(&mut table[free.at..], &entry.words());
+        0
+    }
+
+    fn unmap(&self, sdr1: u32, page: Page, table: &mut [u8], answer: &mut [u8]) -> u32 {
+        let matches = search::matches(self.flaw, sdr1, page, table);
+        let Some(first) = matches.first() else {
+            return self.answer_number(8, answer);
+        };
+        let mut marks = 0;
+        for place in &matches {
+            marks |= place.second & (REFERENCED | CHANGED);
+            if place.h == 0 || !self.has(Flaw::UnmapPrimaryOnly) {
+                table[place.at..place.at + search::ENTRY].fill(0);
+            }
+        }
+        if self.has(Flaw::UnmapFirstMarks) {
+            marks = 0;
+        }
+        put_words(answer, &[0, first.second | marks, 0, 0]);
+        0
+    }
+
+    fn protect(&self, sdr1: u32, page: Page, pp: u32, table: &mut [u8]) -> u32 {
+        let mut matches = search::matches(self.flaw, sdr1, page, table);
+        if matches.is_empty() {
+            return 8;
+        }
+        if self.has(Flaw::ProtectFirstOnly) {
+            matches.truncate(1);
+        }
+        for place in &matches {
+            let mut second = place.second & !0b11 | pp;
+            if self.has(Flaw::ProtectIgnoredBits) {
+                second &= !IGNORED_BITS;
+            }
+            put_word(table, place.at + 4, second);
+        }
+        0
+    }
+
+    fn look(&self, sdr1: u32, page: Page, table: &[u8], answer: &mut [u8]) -> u32 {
+        let matches = search::matches(self.flaw, sdr1, page, table);
+        if search::contradict(self.flaw, &matches) {
+            return self.answer_number(10, answer);
+        }
+        let Some(first) = matches.first() else {
+            return self.answer_number(8, answer);
+        };
+        let mut second = first.second;
+        if self.has(Flaw::LookIgnoredBits) {
+            second &= !IGNORED_BITS;
+        }
+        put_words(answer, &[0, second, 0, 0]);
+        0
+    }
+
+    fn answer_number(&self, number: u32, answer: &mut [u8]) -> u32 {
+        put_words(answer, &[number, 0, 0, 0]);
+        number
+    }
+
+    fn access(&self, lent: Lent, access: Access) -> u32 {
+        let registers = Registers::read(lent.registers).expect("the length was tested");
+        let (outcome, matches) = self.outcome(&registers, access, lent.table);
+        let marked = if self.has(Flaw::MarksEveryMatch) { 16 } else { 1 };
+        for place in matches.iter().take(marked) {
+            self.mark(outcome, access, place, lent.table);
+        }
+        let words = translation::answer(self.flaw, outcome, access);
+        put_words(lent.answer, &words);
+        words[0]
+    }
+
+    /// How an access under well-formed registers ends, and the matches it met.
+    pub fn outcome(
+        &self,
+        registers: &Registers,
+        access: Access,
+        table: &[u8],
+    ) -> (Outcome, Vec<Place>) {
+        let (page, segment) = match translation::before_search(self.flaw, registers, access) {
+            BeforeSearch::Settled(outcome) => return (outcome, Vec::new()),
+            BeforeSearch::Search { page, segment } => (page, segment),
+        };
+        let mut matches = search::matches(self.flaw, registers.sdr1(), page, table);
+        if self.has(Flaw::NeverMatches) {
+            matches.clear();
+        }
+        let outcome = match matches.first() {
+            None => Outcome::NoMatch,
+            Some(_) if search::contradict(self.flaw, &matches) => Outcome::Contradiction,
+            Some(first) => translation::after_match(self.flaw, segment, first.second, access),
+        };
+        (outcome, matches)
+    }
+
+    /// R is set by a done access, and C too by a store.
+    fn mark(&self, outcome: Outcome, access: Access, place: &Place, table: &mut [u8]) {
+        let done = matches!(outcome, Outcome::Page { .. });
+        let stopped = outcome == Outcome::Protection;
+        let mut second = place.second;
+        if done || stopped && self.has(Flaw::ReferencedByFault) {
+            second |= REFERENCED;
+        }
+        if access.is_store() && (done || stopped && self.has(Flaw::ChangedByFault)) {
+            second |= CHANGED;
+        }
+        if done && self.has(Flaw::MarkIgnoredBits) {
+            second &= !IGNORED_BITS;
+        }
+        put_word(table, place.at + 4, second);
+    }
+}

@@ -1,0 +1,159 @@
+//! A call with its numbers, and what is lent with it.
+
+use crate::entry::Fields;
+
+/// A virtual page.
+#[derive(Clone, Copy, Debug, PartialEq, Eq, PartialOrd, Ord)]
+pub struct Page {
+    pub vsid: u32,
+    pub page_index: u32,
+}
+
+impl Page {
+    /// The page an effective address lies in, by the VSID of its segment.
+    pub fn of_address(vsid: u32, address: u32) -> Page {
+        let page_index = (address >> 12) & 0xFFFF;
+        Page { vsid, page_index }
+    }
+
+    pub fn in_range(self) -> bool {
+        self.vsid < 1 << 24 && self.page_index < 1 << 16
+    }
+
+    /// The top six bits of the page index.
+    pub fn api(self) -> u32 {
+        self.page_index >> 10
+    }
+}
+
+/// The inputs of one access that are numbers.
+#[derive(Clone, Copy, Debug, PartialEq, Eq)]
+pub struct Access {
+    pub mode: u32,
+    pub kind: u32,
+    pub address: u32,
+}
+
+pub const FETCH: u32 = 0;
+pub const LOAD: u32 = 1;
+pub const STORE: u32 = 2;
+
+impl Access {
+    pub fn is_fetch(self) -> bool {
+        self.kind == FETCH
+    }
+
+    pub fn is_store(self) -> bool {
+        self.kind == STORE
+    }
+
+    pub fn in_problem_state(self) -> bool {
+        self.mode & 4 != 0
+    }
+
+    /// Whether IR (for a fetch) or DR (for data) is on.
+    pub fn is_translated(self) -> bool {
+        self.mode & if self.is_fetch() { 2 } else { 1 } != 0
+    }
+}
+
+#[derive(Clone, Copy, Debug, PartialEq, Eq)]
+#[rustfmt::skip]
+pub enum Call {
+    Check,
+    SetRegister { number: u32, word: u32 },
+    Clear { sdr1: u32 },
+    Map { sdr1: u32, page: Page, rpn: u32, wimg: u32, pp: u32 },
+    Unmap { sdr1: u32, page: Page },
+    Protect { sdr1: u32, page: Page, pp: u32 },
+    Look { sdr1: u32, page: Page },
+    Access(Access),
+    Pack(Fields),
+    Unpack { first: u32, second: u32 },
+}
+
+/// The names of the ten calls.
+pub const NAMES: [&str; 10] =
+    ["check", "set", "clear", "map", "unmap", "protect", "look", "access", "pack", "unpack"];
+
+impl Call {
+    pub fn name(&self) -> &'static str {
+        match self {
+            Call::Check => "check",
+            Call::SetRegister { .. } => "set",
+            Call::Clear { .. } => "clear",
+            Call::Map { .. } => "map",
+            Call::Unmap { .. } => "unmap",
+            Call::Protect { .. } => "protect",
+            Call::Look { .. } => "look",
+            Call::Access(_) => "access",
+            Call::Pack(_) => "pack",
+            Call::Unpack { .. } => "unpack",
+        }
+    }
+
+    /// The SDR1 among the call's own numbers; an access has its own in the register page.
+    pub fn sdr1(&self) -> Option<u32> {
+        match *self {
+            Call::Clear { sdr1 }
+            | Call::Map { sdr1, .. }
+            | Call::Unmap { sdr1, .. }
+            | Call::Protect { sdr1, .. }
+            | Call::Look { sdr1, .. } => Some(sdr1),
+            _ => None,
+        }
+    }
+
+    /// The page among the call's own numbers.
+    pub fn page(&self) -> Option<Page> {
+        match *self {
+            Call::Map { page, .. }
+            | Call::Unmap { page, .. }
+            | Call::Protect { page, .. }
+            | Call::Look { page, .. } => Some(page),
+            _ => None,
+        }
+    }
+
+    pub fn is_lent_registers(&self) -> bool {
+        matches!(self, Call::Check | Call::SetRegister { .. } | Call::Access(_))
+    }
+
+    pub fn is_lent_table(&self) -> bool {
+        self.sdr1().is_some() || matches!(self, Call::Access(_))
+    }
+
+    /// The length an answer has to have; pack's entry and unpack's fields are answers too.
+    pub fn answer_length(&self) -> Option<usize> {
+        match self {
+            Call::Unmap { .. } | Call::Look { .. } | Call::Access(_) => Some(16),
+            Call::Pack(_) => Some(8),
+            Call::Unpack { .. } => Some(36),
+            _ => None,
+        }
+    }
+}
+
+/// The slices lent with a call; those it has no use for are not looked at.
+pub struct Lent<'a> {
+    pub registers: &'a mut [u8],
+    pub table: &'a mut [u8],
+    pub answer: &'a mut [u8],
+}
+
+impl Lent<'_> {
+    pub fn lengths(&self) -> Lengths {
+        Lengths {
+            registers: self.registers.len(),
+            table: self.table.len(),
+            answer: self.answer.len(),
+        }
+    }
+}
+
+#[derive(Clone, Copy, Debug, PartialEq, Eq)]
+pub struct Lengths {
+    pub registers: usize,
+    pub table: usize,
+    pub answer: usize,
+}

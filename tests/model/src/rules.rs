@@ -1,0 +1,115 @@
+//! The refusals that follow from numbers, register words and lengths alone, in their order.
+
+use crate::call::{Call, Lengths, Page};
+use crate::flaw::Flaw;
+use crate::registers::{sdr1_is_well_formed, table_length, Block, Registers, REGISTER_PAGE};
+
+/// The numbers a call can be refused with before its table is searched, first tested first.
+fn order(call: &Call) -> &'static [u32] {
+    match call {
+        Call::Check => &[11, 2, 3, 4, 5],
+        Call::SetRegister { .. } => &[11, 6, 2, 3, 4, 5],
+        Call::Clear { .. } => &[2, 1],
+        Call::Map { .. } | Call::Protect { .. } => &[6, 2, 1],
+        Call::Unmap { .. } | Call::Look { .. } => &[11, 6, 2, 1],
+        Call::Access(_) => &[11, 6, 2, 3, 4, 5, 1],
+        Call::Pack(_) => &[11, 6],
+        Call::Unpack { .. } => &[11],
+    }
+}
+
+/// Every rule that a call breaks, in the order of the refusals: the first is answered.
+pub fn broken(flaw: Option<Flaw>, call: &Call, registers: &[u8], lengths: Lengths) -> Vec<u32> {
+    let mut numbers = order(call).to_vec();
+    if let Some(Flaw::Swapped(earlier, later)) = flaw {
+        swap(&mut numbers, earlier, later);
+    }
+    if flaw == Some(Flaw::RealModeUnchecked) && is_untranslated(call) {
+        numbers.truncate(2);
+    }
+    let judged = judged_set(call, registers);
+    let sdr1 = call.sdr1().or(judged.map(|set| set.sdr1()));
+    numbers.retain(|&number| match number {
+        11 => length_is_wrong(call, lengths),
+        6 => !arguments_in_range(flaw, call),
+        2 => sdr1.is_some_and(|sdr1| !sdr1_is_well_formed(sdr1)),
+        1 => sdr1.is_some_and(|sdr1| lengths.table != table_length(sdr1)),
+        _ => judged.is_some_and(|set| breaks_register_rule(flaw, number, call, &set)),
+    });
+    numbers
+}
+
+fn swap(numbers: &mut [u32], earlier: u32, later: u32) {
+    let place = |wanted| numbers.iter().position(|&number| number == wanted);
+    if let (Some(first), Some(second)) = (place(earlier), place(later)) {
+        numbers.swap(first, second);
+    }
+}
+
+fn is_untranslated(call: &Call) -> bool {
+    matches!(call, Call::Access(access) if !access.is_translated())
+}
+
+/// The register set a call is judged by: the new one where a word is replaced.
+fn judged_set(call: &Call, registers: &[u8]) -> Option<Registers> {
+    match *call {
+        Call::SetRegister { number, word } => {
+            Registers::read(registers).map(|set| set.with_word(number, word))
+        }
+        Call::Check | Call::Access(_) => Registers::read(registers),
+        _ => None,
+    }
+}
+
+fn length_is_wrong(call: &Call, lengths: Lengths) -> bool {
+    let answer_is_wrong = call.answer_length().is_some_and(|length| lengths.answer != length);
+    answer_is_wrong || call.is_lent_registers() && lengths.registers != REGISTER_PAGE
+}
+
+fn arguments_in_range(flaw: Option<Flaw>, call: &Call) -> bool {
+    let page_fits = call.page().is_none_or(Page::in_range);
+    page_fits
+        && match *call {
+            Call::SetRegister { number, .. } => number <= 32,
+            Call::Map { rpn, wimg, pp, .. } => {
+                rpn < 1 << 20 && wimg < 16 && !has_w_and_i(wimg) && pp < 4
+            }
+            Call::Protect { pp, .. } => pp < 4,
+            Call::Access(access) => access.mode <= 7 && access.kind <= 2,
+            Call::Pack(fields) if flaw == Some(Flaw::PackRefusesWimg) => {
+                fields.in_range() && !has_w_and_i(fields.wimg)
+            }
+            Call::Pack(fields) => fields.in_range(),
+            _ => true,
+        }
+}
+
+fn has_w_and_i(wimg: u32) -> bool {
+    wimg & 0b1100 == 0b1100
+}
+
+/// Rules 3, 4 and 5.
+fn breaks_register_rule(flaw: Option<Flaw>, number: u32, call: &Call, set: &Registers) -> bool {
+    match number {
+        3 if flaw == Some(Flaw::OffBlockJudged) => !every_block_well_formed(set),
+        3 => !set.blocks_are_well_formed(),
+        4 => set.some_two_blocks(|one: &Block, other: &Block| {
+            one.shares_an_address(other)
+                && (one.shares_a_valid_bit(other) || flaw == Some(Flaw::BlocksOfAnyState))
+        }),
+        _ => match *call {
+            Call::Access(access) if flaw == Some(Flaw::OneSegmentJudged) => {
+                !set.segment(access.address).is_well_formed()
+            }
+            _ => !set.segments().all(|segment| segment.is_well_formed()),
+        },
+    }
+}
+
+fn every_block_well_formed(set: &Registers) -> bool {
+    use crate::registers::Side::{Data, Instruction};
+    [Instruction, Data].into_iter().all(|side| {
+        let mut blocks = set.blocks(side).into_iter();
+        blocks.all(|block| block.is_well_formed(side))
+    })
+}

@@ -1,0 +1,82 @@
+//! The two groups of a page in a table's bytes: matches and free entries.
+
+use crate::call::Page;
+use crate::entry::{Fields, H_BIT, IGNORED_BITS};
+use crate::flaw::Flaw;
+use crate::words::{bits, word_at};
+
+pub const GROUP: usize = 64;
+pub const ENTRY: usize = 8;
+
+/// The primary and the secondary group number of a page.
+pub fn group_numbers(sdr1: u32, page: Page) -> [usize; 2] {
+    let n = 10 + bits(sdr1, 23, 31).count_ones();
+    let hash = (page.vsid % (1 << 19)) ^ page.page_index;
+    let primary = hash % (1 << n);
+    let secondary = (1 << n) - 1 - primary;
+    [primary as usize, secondary as usize]
+}
+
+/// An entry on a page's way through the table.
+#[derive(Clone, Copy, Debug)]
+pub struct Place {
+    /// The entry's first byte.
+    pub at: usize,
+    /// 0 in the primary group, 1 in the secondary.
+    pub h: u32,
+    pub first: u32,
+    pub second: u32,
+}
+
+impl Place {
+    pub fn is_free(&self) -> bool {
+        bits(self.first, 0, 0) == 0
+    }
+
+    fn matches(&self, flaw: Option<Flaw>, page: Page) -> bool {
+        let entry = Fields::of_words(self.first, self.second);
+        entry.v == 1
+            && (entry.vsid == page.vsid || flaw == Some(Flaw::VsidForgotten))
+            && (entry.h == self.h || flaw == Some(Flaw::HForgotten))
+            && entry.api == page.api()
+    }
+}
+
+/// The sixteen entries of a page's two groups in search order.
+pub fn places(sdr1: u32, page: Page, table: &[u8]) -> Vec<Place> {
+    let mut places = Vec::with_capacity(16);
+    for (h, group) in group_numbers(sdr1, page).into_iter().enumerate() {
+        for entry in 0..8 {
+            let at = GROUP * group + ENTRY * entry;
+            places.push(Place {
+                at,
+                h: h as u32,
+                first: word_at(table, at),
+                second: word_at(table, at + 4),
+            });
+        }
+    }
+    places
+}
+
+/// The matches of a page in search order.
+pub fn matches(flaw: Option<Flaw>, sdr1: u32, page: Page, table: &[u8]) -> Vec<Place> {
+    let mut places = places(sdr1, page, table);
+    places.retain(|place| place.matches(flaw, page));
+    places
+}
+
+/// Whether some match differs from the first in a bit other than H.
+pub fn contradict(flaw: Option<Flaw>, matches: &[Place]) -> bool {
+    let ignored = match flaw {
+        Some(Flaw::TwinsByFields) => IGNORED_BITS,
+        _ => 0,
+    };
+    let compared = |place: &Place| (place.first & !H_BIT, place.second & !ignored);
+    matches.iter().any(|place| compared(place) != compared(&matches[0]))
+}
+
+/// The first entry with V = 0.
+pub fn first_free(sdr1: u32, page: Page, table: &[u8]) -> Option<Place> {
+    places(sdr1, page, table).into_iter().find(Place::is_free)
+}

@@ -1,0 +1,120 @@
+//! The steps of one access that need no table, and what their outcome answers.
+
+use crate::call::{Access, Page};
+use crate::entry::Fields;
+use crate::flaw::Flaw;
+use crate::registers::{Block, Registers, Segment, Side};
+
+/// How an access ends.
+#[derive(Clone, Copy, Debug, PartialEq, Eq)]
+pub enum Outcome {
+    RealMode,
+    Block { physical: u32, wimg: u32 },
+    BlockProtection,
+    NoExecute,
+    NoMatch,
+    Guarded,
+    Protection,
+    Page { physical: u32, wimg: u32 },
+    Contradiction,
+}
+
+/// What is known of an access before the search.
+pub enum BeforeSearch {
+    Settled(Outcome),
+    Search { page: Page, segment: Segment },
+}
+
+/// Steps 1 to 3.
+pub fn before_search(flaw: Option<Flaw>, registers: &Registers, access: Access) -> BeforeSearch {
+    if !access.is_translated() {
+        return BeforeSearch::Settled(Outcome::RealMode);
+    }
+    if let Some(block) = block_of(registers, access) {
+        return BeforeSearch::Settled(by_block(&block, access));
+    }
+    let segment = registers.segment(access.address);
+    if access.is_fetch() && segment.no_execute() && flaw != Some(Flaw::NoExecuteLate) {
+        return BeforeSearch::Settled(Outcome::NoExecute);
+    }
+    let page = Page::of_address(segment.vsid(), access.address);
+    BeforeSearch::Search { page, segment }
+}
+
+fn block_of(registers: &Registers, access: Access) -> Option<Block> {
+    let side = if access.is_fetch() { Side::Instruction } else { Side::Data };
+    registers
+        .blocks(side)
+        .into_iter()
+        .find(|block| block.is_valid_in(access.in_problem_state()) && block.holds(access.address))
+}
+
+fn by_block(block: &Block, access: Access) -> Outcome {
+    let allowed = match block.pp() {
+        0b00 => false,
+        0b10 => true,
+        _ => !access.is_store(),
+    };
+    if !allowed {
+        return Outcome::BlockProtection;
+    }
+    Outcome::Block { physical: block.physical(access.address), wimg: block.wimg() }
+}
+
+/// Steps 5 to 7, by the second word of the match.
+pub fn after_match(flaw: Option<Flaw>, segment: Segment, second: u32, access: Access) -> Outcome {
+    let entry = Fields::of_words(0, second);
+    let guarded = access.is_fetch() && entry.wimg & 1 == 1;
+    let allowed = is_allowed(flaw, key(flaw, segment, access), entry.pp, access);
+    if access.is_fetch() && segment.no_execute() {
+        return Outcome::NoExecute;
+    }
+    if guarded && (allowed || flaw != Some(Flaw::GuardedLast)) {
+        return Outcome::Guarded;
+    }
+    if !allowed {
+        return Outcome::Protection;
+    }
+    let rpn = if flaw == Some(Flaw::OneFrame) { 0x12345 } else { entry.rpn };
+    Outcome::Page { physical: rpn << 12 | access.address & 0xFFF, wimg: entry.wimg }
+}
+
+fn key(flaw: Option<Flaw>, segment: Segment, access: Access) -> u32 {
+    if access.in_problem_state() || flaw == Some(Flaw::KpForSupervisor) {
+        segment.problem_key()
+    } else {
+        segment.supervisor_key()
+    }
+}
+
+fn is_allowed(flaw: Option<Flaw>, key: u32, pp: u32, access: Access) -> bool {
+    let (read, write) = match (key, pp) {
+        (0, 0b11) => (true, false),
+        (0, _) => (true, true),
+        (_, 0b00) => (false, false),
+        (_, 0b10) => (true, true),
+        (_, _) => (true, false),
+    };
+    let unprotected = access.is_fetch() && flaw == Some(Flaw::FetchUnprotected);
+    unprotected || if access.is_store() { write } else { read }
+}
+
+/// The four words of an access's answer.
+pub fn answer(flaw: Option<Flaw>, outcome: Outcome, access: Access) -> [u32; 4] {
+    let address = access.address;
+    let cause = match outcome {
+        Outcome::RealMode => return [0, address, 3, address],
+        Outcome::Block { physical, wimg } | Outcome::Page { physical, wimg } => {
+            return [0, physical, wimg, address]
+        }
+        Outcome::Contradiction => return [10, 0, 0, 0],
+        Outcome::NoMatch => 0x4000_0000,
+        Outcome::NoExecute | Outcome::Guarded => 0x1000_0000,
+        Outcome::Protection | Outcome::BlockProtection => 0x0800_0000,
+    };
+    if access.is_fetch() {
+        return [65, cause, 0x400, address];
+    }
+    let store = access.is_store() && flaw != Some(Flaw::StoreFaultBit);
+    [64, cause + if store { 0x0200_0000 } else { 0 }, 0x300, address]
+}

@@ -1,0 +1,180 @@
+#!/usr/bin/env python3
+"""Compares include/mmu.h with the archive's symbols and with the exported functions of the Rattle source.
+
+check_header.py [ARCHIVE]     default target/staticlib/libmmu.a; exit status 1 and a line for each difference
+check_header.py --self-test   feeds wrong headers to the comparison, each of which must be refused
+"""
+import re
+import subprocess
+import sys
+from pathlib import Path
+
+ROOT = Path(__file__).resolve().parent.parent
+HEADER = ROOT / "include" / "mmu.h"
+SOURCES = ROOT / "crates" / "mmu" / "src"
+ARCHIVE = ROOT / "target" / "staticlib" / "libmmu.a"
+
+# A Rattle type and the C parameters that stand for it.
+C_TYPES = {
+    "u32": ["uint32_t"],
+    "u64": ["uint64_t"],
+    "usize": ["size_t"],
+    "&[u8]": ["const uint8_t *", "size_t"],
+    "&mut [u8]": ["uint8_t *", "size_t"],
+}
+
+
+class Unreadable(Exception):
+    """A text whose form the comparison does not know; it is never skipped."""
+
+
+def c_type(rattle_type, where):
+    normal = " ".join(rattle_type.split())
+    if normal not in C_TYPES:
+        raise Unreadable(f"{where}: no C type for the Rattle type {normal}")
+    return C_TYPES[normal]
+
+
+def rattle_parameters(text, where):
+    types = []
+    for parameter in filter(None, (part.strip() for part in text.split(","))):
+        name, colon, rattle_type = parameter.partition(":")
+        if not colon:
+            raise Unreadable(f"{where}: parameter {name} has no type")
+        types += c_type(rattle_type, where)
+    return types
+
+
+def exported_functions(source):
+    """Name to C signature of every exported function of a Rattle text."""
+    text = re.sub(r"//[^\n]*", "", source)
+    found = re.findall(r'pub\s+extern\s+"C"\s+fn\s+(\w+)\s*\(([^)]*)\)\s*(?:->\s*(\w+))?', text)
+    if len(found) != text.count('extern "C"') or len(found) != text.count("#[no_mangle]"):
+        raise Unreadable('Rattle source: an extern "C" or a no_mangle is not of the form #[no_mangle] pub extern "C" fn NAME(..) -> TYPE')
+    return {name: (c_type(result, name)[0] if result else "void", rattle_parameters(parameters, name))
+            for name, parameters, result in found}
+
+
+def c_parameter_type(text):
+    """The type of one C parameter, its name taken away."""
+    words = re.findall(r"\w+|\*", text)
+    if words[-1] != "*" and len(words) > 1:
+        words.pop()
+    return " ".join(words)
+
+
+def declared_functions(header):
+    """Name to C signature of every function that a header declares; static functions are the header's own."""
+    text = re.sub(r"/\*.*?\*/", "", header, flags=re.S)
+    text = re.sub(r"//[^\n]*", "", text)
+    text = re.sub(r"^[ \t]*#(?:\\\n|[^\n])*", "", text, flags=re.M)
+    text = re.sub(r'extern\s+"C"\s*\{', "", text)
+    text = re.sub(r"\bstatic\b[^{;]*\{[^{}]*\}", "", text)
+    functions = {}
+    for result, name, parameters in re.findall(r"(\w[\w\s*]*?)\b(\w+)\s*\(([^)]*)\)\s*;", text):
+        if name in functions:
+            raise Unreadable(f"header: {name} is declared twice")
+        types = [] if parameters.strip() in ("", "void") else [c_parameter_type(p) for p in parameters.split(",")]
+        functions[name] = (" ".join(result.split()), types)
+    return functions
+
+
+def archive_symbols(archive):
+    """The global symbols that an archive defines."""
+    done = subprocess.run(["nm", "-g", "--defined-only", "--format=posix", str(archive)],
+                          capture_output=True, text=True, check=False)
+    if done.returncode != 0:
+        raise Unreadable(f"nm {archive}: {done.stderr.strip()}")
+    lines = [line.split() for line in done.stdout.splitlines() if not line.endswith(":")]
+    return {line[0] for line in lines if len(line) >= 2}
+
+
+def signature(name, function):
+    result, types = function
+    return f"{result} {name}({', '.join(types) or 'void'})"
+
+
+def differences(header, source, symbols):
+    """A line for each difference of a header's text, a Rattle text and a set of symbols."""
+    declared = declared_functions(header)
+    exported = exported_functions(source)
+    lines = [f"{name}: in the archive, not declared in the header" for name in sorted(symbols - set(declared))]
+    lines += [f"{name}: declared in the header, not in the archive" for name in sorted(set(declared) - symbols)]
+    lines += [f"{name}: exported by the Rattle source, not declared in the header" for name in sorted(set(exported) - set(declared))]
+    lines += [f"{name}: declared in the header, not exported by the Rattle source" for name in sorted(set(declared) - set(exported))]
+    for name in sorted(set(declared) & set(exported)):
+        if declared[name] != exported[name]:
+            lines.append(f"{name}: header  {signature(name, declared[name])}")
+            lines.append(f"{' ' * len(name)}  Rattle  {signature(name, exported[name])}")
+    return lines
+
+
+SAMPLE_SOURCE = """
+// mmu_note is only told of here: pub extern fn.
+#[no_mangle]
+pub extern "C" fn mmu_look(sdr1: u32, table: &[u8], answer: &mut [u8]) -> u32
+    ensures { x }
+{ 0 }
+#[no_mangle]
+pub extern "C" fn mmu_clear(
+    sdr1: u32,
+    table: &mut [u8],
+) -> u32
+{ 0 }
+"""
+
+SAMPLE_HEADER = """
+#include <stdint.h>
+#define MMU_SIZE(n) ((size_t)(n))
+/* uint32_t mmu_old(uint32_t number); */
+uint32_t mmu_look(uint32_t sdr1, const uint8_t *table, size_t table_len, uint8_t *answer, size_t answer_len);
+uint32_t mmu_clear(uint32_t sdr1, uint8_t *table, size_t table_len);
+static inline uint32_t mmu_word(const uint8_t *bytes) { return bytes[0]; }
+"""
+
+WRONG_HEADERS = {
+    "a call is not declared": ("uint32_t mmu_clear(uint32_t sdr1, uint8_t *table, size_t table_len);", ""),
+    "a declared call does not exist": ("uint32_t mmu_clear(", "uint32_t mmu_erase(uint32_t sdr1);\nuint32_t mmu_clear("),
+    "a const is missing": ("const uint8_t *table", "uint8_t *table"),
+    "parameters in another order": ("uint32_t sdr1, uint8_t *table, size_t table_len", "uint8_t *table, size_t table_len, uint32_t sdr1"),
+    "a number of another width": ("mmu_clear(uint32_t sdr1", "mmu_clear(uint64_t sdr1"),
+    "a length is missing": ("uint8_t *answer, size_t answer_len", "uint8_t *answer"),
+    "another result": ("uint32_t mmu_look(", "int mmu_look("),
+}
+
+
+def self_test():
+    symbols = {"mmu_look", "mmu_clear"}
+    failed = [f"the right header is refused: {line}" for line in differences(SAMPLE_HEADER, SAMPLE_SOURCE, symbols)]
+    for label, (old, new) in WRONG_HEADERS.items():
+        if SAMPLE_HEADER.count(old) != 1 or not differences(SAMPLE_HEADER.replace(old, new), SAMPLE_SOURCE, symbols):
+            failed.append(f"not refused: {label}")
+    for lost in sorted(symbols):
+        if not differences(SAMPLE_HEADER, SAMPLE_SOURCE, symbols - {lost}):
+            failed.append(f"not refused: {lost} is not in the archive")
+    if not differences(SAMPLE_HEADER, SAMPLE_SOURCE, symbols | {"mmu_extra"}):
+        failed.append("not refused: mmu_extra is in the archive alone")
+    print("\n".join(failed) or f"self test: the right header passes, {len(WRONG_HEADERS)} wrong ones and 3 wrong archives are refused")
+    return 1 if failed else 0
+
+
+def main(arguments):
+    if arguments == ["--self-test"]:
+        return self_test()
+    archive = Path(arguments[0]) if arguments else ARCHIVE
+    try:
+        source = "\n".join(path.read_text() for path in sorted(SOURCES.rglob("*.rt")))
+        symbols = archive_symbols(archive)
+        lines = differences(HEADER.read_text(), source, symbols)
+    except (Unreadable, OSError) as error:
+        lines = [str(error)]
+    if lines:
+        print("include/mmu.h and the library differ:")
+        print("\n".join("  " + line for line in lines))
+        return 1
+    print(f"include/mmu.h: {len(symbols)} calls, as in the archive and in the Rattle source")
+    return 0
+
+
+if __name__ == "__main__":
+    sys.exit(main(sys.argv[1:]))

@@ -104,11 +104,14 @@ pub fn unpack(first: u32, second: u32) -> Fields
 pub fn is_match(first: u32, vsid: u32, h: u32, api: u32) -> bool
     ensures { λ r. ⌜ r ≡ matches vsid h api first ⌝ }
 {
-    // The VSID tells most entries apart, so it is compared first.
-    if (first >> 7) & 0xFFFFFF != vsid {
+    // Free entries and other APIs are told by one byte each, so they are tested first.
+    if first >> 31 == 0 {
         return false;
     }
-    (first >> 31 == 1) & ((first >> 6) & 1 == h) & (first & 0x3F == api)
+    if first & 0x3F != api {
+        return false;
+    }
+    ((first >> 7) & 0xFFFFFF == vsid) & ((first >> 6) & 1 == h)
 }
 
 // Whether the entry of a first word is free: V is 0.

@@ -225,8 +225,7 @@ impl Registers {
     pub fn check(self) -> u32
         ensures { λ r. ⌜ r ≡ checkSet self ⌝ }
     {
-        let words = self.words;
-        check_words(&words)
+        check_words(&self.words)
     }
 
     // The set with one word changed, or the refusal and the old set.
@@ -255,8 +254,7 @@ impl Registers {
     pub fn covering_pair(self, side: bool, user: bool, address: u32) -> usize
         ensures { λ r. ⌜ r ≡ coveringPair 4 11 (self .words) side user address ⌝ }
     {
-        let words = self.words;
-        first_covering(&words, side, user, address)
+        first_covering(&self.words, side, user, address)
     }
 
     // A segment register.

@@ -1,6 +1,6 @@
 -- `entry::is_match` meets its contract. A mask of k ones leaves the remainder by 2 ^ k; above V there is no bit to take away.
 use borrow.Author.Tests.{eq-eqb, ne-eqb}
-use mathlib.Core.Bool.{and-true, and-false}
+use mathlib.Core.Bool.{_&&_, and-true, and-false}
 use mathlib.Core.Path.{_≡_, sym, _∙_}
 use Prim.Native.Nat.{_/_, _%_, _^_}
 use native.Mathlib.Nat.{div-one}
@@ -15,21 +15,30 @@ returns : tie.Need-returns
 unfolding matches
 returns c =
     let x = c .before .args .first in
-    rw (ne-eqb (x / 2 ^ 7 % 2 ^ 24) (c .before .args .vsid) (λ e. c .if1 .taken (and-mask (x / 2 ^ 7) 24 ∙ e)), and-false (eqb (x / 2 ^ 31 % 2 ^ 1) 1))
+    let v : x / 2 ^ 31 % 2 ^ 1 ≡ 0 = omega arith in
+    rw (ne-eqb (x / 2 ^ 31 % 2 ^ 1) 1 (λ e. omega arith))
 
 returns-2 : tie.Need-returns-2
 unfolding matches
 returns-2 c =
-    let x = c .before .args .first in
-    let v : x / 2 ^ 31 % 2 ^ 1 ≡ x / 2 ^ 31 = omega arith in
+    let x = c .before .before .args .first in
+    let api = c .before .before .args .api in
+    let rest = eqb (x / 2 ^ 31 % 2 ^ 1) 1 && eqb (x / 2 ^ 7 % 2 ^ 24) (c .before .before .args .vsid) && eqb (x / 2 ^ 6 % 2 ^ 1) (c .before .before .args .h) in
+    rw (div-one x, ne-eqb (x % 2 ^ 6) api (λ e. c .if2 .taken (and-mask x 6 ∙ e))) (sym (and-false rest))
+
+returns-3 : tie.Need-returns-3
+unfolding matches
+returns-3 c =
+    let x = c .before .before .args .first in
+    let left = c .before .if1 .left in
+    let v : x / 2 ^ 31 % 2 ^ 1 ≡ 1 = omega arith in
     rw (
-      eq-eqb (x / 2 ^ 7 % 2 ^ 24) (c .before .args .vsid) (sym (and-mask (x / 2 ^ 7) 24) ∙ c .if1 .left),
-      and-true (eqb (x / 2 ^ 31 % 2 ^ 1) 1),
-      and-mask (x / 2 ^ 6) 1,
-      and-mask x 6,
-      v,
       div-one x,
-    )
+      eq-eqb (x % 2 ^ 6) (c .before .before .args .api) (sym (and-mask x 6) ∙ c .if2 .left),
+      eq-eqb (x / 2 ^ 31 % 2 ^ 1) 1 v,
+      and-mask (x / 2 ^ 7) 24,
+      and-mask (x / 2 ^ 6) 1,
+    ) (sym (and-true _))
 
 pub is-match-spec : {M : Type 1} → statement M
-is-match-spec = tie.close (tie.spec returns returns-2)
+is-match-spec = tie.close (tie.spec returns returns-2 returns-3)

@@ -28,7 +28,7 @@ use Rattle.groups.specs.declared.Place.{Place}
 use Rattle.groups.specs.declared.Place.the-variants.{Entry, Full}
 use Rattle.groups.specs.declared.Search.{Search}
 use Rattle.groups.proofs.Hash.{own-groups-differ}
-use Rattle.groups.proofs.Summary.{Summarised, summarised, summary-none}
+use Rattle.groups.proofs.Summary.{Summarised, summarised, summary-none, found-none}
 use Rattle.groups.proofs.Edits.{edit-both-each}
 use Rattle.tables.specs.Matches.{Match}
 use Rattle.tables.specs.Layout.{freeEntry, freePlace, matchesOf, overwrite, overwriteEach}
@@ -200,10 +200,6 @@ pub record Matched (ms : List Match) (s : Search) : Type 0 where
   pub xs : List Match
   pub are : ms ≡ x ∷ xs
   pub told : Summarised x xs s
-
-found-none : (ms : List Match) → summary ms .found ≡ false → ms ≡ []
-found-none [] f = refl
-found-none (x ∷ xs) f = absurd (let told = summarised x xs in let z : _≡_ {A = ℕ} 0 1 = cc in omega arith)
 
 found-some : (ms : List Match) → summary ms .found ≡ true → Matched ms (summary ms)
 unfolding nothingFound

@@ -3,6 +3,12 @@ mod access;
 mod located;
 mod pages;
 
+pub use access::mmu_access;
+pub use pages::mmu_clear;
+pub use pages::mmu_look;
+pub use pages::mmu_map;
+pub use pages::mmu_protect;
+pub use pages::mmu_unmap;
 ghost use mathlib.Core.Path.{_≡_};
 ghost use Rattle.calls.specs.Lent.{left};
 ghost use Rattle.calls.specs.WithoutTable.{checkCall, setRegisterCall, packCall, unpackCall};

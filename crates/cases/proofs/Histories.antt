@@ -1,0 +1,54 @@
+-- What calls after a clear answer on a table's bytes, from what the finite map answers: no table is computed.
+use Prim.Native.Nat.{ℕ, _*_, _%_, _^_, _≤_}
+use mathlib.Core.Path.{_≡_, sym, ap, ap₂, _∙_}
+use mathlib.Core.Bool.{Bool, true, _&&_}
+use mathlib.Core.List.{List, [], _∷_, map}
+use mathlib.Core.Logic.{inr}
+use mathlib.Core.Option.{Option·some-ne-none}
+use lib.Dec.{eqb}
+use lib.ListN.{length, replicate}
+use borrow.Author.Tests.{eqb-true}
+use Rattle.words.proofs.Tests.{both}
+use Rattle.registers.specs.Sdr1.{tableLength}
+use Rattle.registers.proofs.Sdr1.{made-length, made-shape}
+use Rattle.tables.specs.Runs.{run, Each}
+use Rattle.calls.specs.Request.{Request, clear, sdr1In, fed}
+use Rattle.calls.specs.Answers.{compared}
+use Rattle.calls.specs.OnBytes.{bytesDo}
+use Rattle.calls.specs.Histories.{bytesStep, mapStep, fedCall, Under}
+use Rattle.calls.specs.Theorem.{sdr1With}
+use Rattle.calls.proofs.OnBytes.{taken}
+use Rattle.calls.proofs.Rules.{clear-taken}
+use Rattle.calls.proofs.Theorem.{table-refines-map}
+use Rattle.cases.specs.Cases.{onTable, result, answered, Holds}
+
+-- each request of a list brings the SDR1
+abbrev pub allBring : ℕ → List (Request (List ℕ)) → Bool
+allBring sdr1 [] = true
+allBring sdr1 (request ∷ requests) = eqb (sdr1In request) sdr1 && allBring sdr1 requests
+
+all-under : (sdr1 size : ℕ) (requests : List (Request (List ℕ))) → allBring sdr1 requests ≡ true → Each (Under sdr1 size) (map onTable requests)
+all-under sdr1 size [] e = tt
+all-under sdr1 size (request ∷ requests) e =
+    let (first, rest) = both (eqb (sdr1In request) sdr1) (allBring sdr1 requests) e in
+    (inr (eqb-true (sdr1In request) sdr1 first, λ other lent. absurd (Option·some-ne-none other (sym lent))), all-under sdr1 size requests rest)
+
+-- what the finite map answers to calls that follow a clear
+abbrev pub mapAnswers : ℕ → List (Request (List ℕ)) → List (ℕ × List ℕ)
+mapAnswers size requests = run mapStep (map (fedCall size) (map onTable requests)) []
+
+module _ (o k : ℕ) (few : k ≤ 9) (whole : o % 2 ^ k ≡ 0) where
+  -- the clear is done and leaves zeros
+  clear-first : (t : List ℕ) → length t ≡ tableLength (sdr1With o k) → bytesStep (onTable (clear (sdr1With o k))) t ≡ (result 0, replicate (length t) 0)
+  unfolding bytesStep bytesDo compared sdr1In fed
+  clear-first t long = rw (taken (clear (sdr1With o k)) t (clear-taken (sdr1With o k) (length t) (made-shape o k few whole) long))
+
+  -- the calls after it answer what the finite map answers
+  pub answered-holds : (requests : List (Request (List ℕ))) (stated : List (ℕ × List ℕ))
+      → allBring (sdr1With o k) requests ≡ true → mapAnswers (65536 * 2 ^ k) requests ≡ stated → Holds (answered (sdr1With o k) requests stated)
+  unfolding bytesStep
+  answered-holds requests stated bring e t long =
+      ap₂ (λ (a : ℕ × List ℕ) (rest : List (ℕ × List ℕ)). a ∷ rest) (ap (λ (x : (ℕ × List ℕ) × List ℕ). x .0) (clear-first t long))
+      (table-refines-map .answers o k t (record { few = few; whole = whole; long = long ∙ made-length o k few whole }) (map onTable requests)
+      (all-under (sdr1With o k) (65536 * 2 ^ k) requests bring)
+      ∙ e)

@@ -1,0 +1,220 @@
+-- The twelve cases of document 01 ("Cases by number") as rows: a case's number, and a claim that sets what the definitions compute beside what the
+-- paper states. The calls of a row are whole calls on a table, of which only the length is known before its clear.
+use Prim.Native.Nat.{ℕ, _+_, _*_}
+use mathlib.Core.Bool.{Bool, true, false}
+use mathlib.Core.List.{List, [], _∷_, _++_, map}
+use mathlib.Core.Option.{none}
+use mathlib.Core.Path.{_≡_}
+use lib.ListN.{length, replicate}
+use Rattle.words.specs.Words.{bytesOf}
+use Rattle.entry.specs.Entry.{pageIndex}
+use Rattle.registers.specs.Sdr1.{tableLength, hashBits}
+use Rattle.groups.specs.Page.{Page}
+use Rattle.groups.specs.Hash.{hashOf, groupNumber, groupAddress}
+use Rattle.groups.specs.Group.{groupOf}
+use Rattle.tables.specs.Runs.{run, after, Each}
+use Rattle.calls.specs.Request.{Request, clear, mapPage, unmap, look, access}
+use Rattle.calls.specs.WithoutTable.{checkCall}
+use Rattle.calls.specs.OnBytes.{onBytes}
+use Rattle.calls.specs.Histories.{Call, bytesStep}
+
+-- ---- rows, and when they hold
+
+-- what a row claims
+pub data Claim : Type 0 where
+  -- a number that is computed, and the one stated
+  computes : ℕ → ℕ → Claim
+  -- a call, and the refusal stated of it whatever slice is lent as the table
+  refused : Request (List ℕ) → ℕ → Claim
+  -- SDR1, the calls that follow a clear, and what is stated of their answers
+  answered : ℕ → List (Request (List ℕ)) → List (ℕ × List ℕ) → Claim
+  -- SDR1, the calls that follow a clear, the number of a group, and the sixteen words stated of it after them
+  stored : ℕ → List (Request (List ℕ)) → ℕ → List ℕ → Claim
+
+-- a clear and the calls that follow it, each on the table as the one before left it
+abbrev pub onTable : Request (List ℕ) → Call
+onTable request = record { request = request; lent = none }
+
+abbrev pub history : ℕ → List (Request (List ℕ)) → List Call
+history sdr1 requests = map onTable (clear sdr1 ∷ requests)
+
+-- what clear, map and protect answer: a result number alone
+abbrev pub result : ℕ → ℕ × List ℕ
+result n = (n, [])
+
+-- what look, unmap and access answer: the result number, and four words of which it is the first
+abbrev pub fourWords : ℕ → ℕ → ℕ → ℕ → ℕ × List ℕ
+fourWords w₀ w₁ w₂ w₃ = (w₀, bytesOf (w₀ ∷ w₁ ∷ w₂ ∷ w₃ ∷ []))
+
+abbrev pub Holds : Claim → Type 0
+Holds (computes computed stated) = computed ≡ stated
+Holds (refused request stated) = (t : List ℕ) → (onBytes request t .number ≡ stated) × (onBytes request t .table ≡ t)
+Holds (answered sdr1 requests stated) = (t : List ℕ) → length t ≡ tableLength sdr1 → run bytesStep (history sdr1 requests) t ≡ result 0 ∷ stated
+Holds (stored sdr1 requests group stated) =
+    (t : List ℕ) → length t ≡ tableLength sdr1 → groupOf (after bytesStep (history sdr1 requests) t) group ≡ bytesOf stated
+
+abbrev pub Row : Type 0
+Row = ℕ × Claim
+
+abbrev pub AllHold : List Row → Type 0
+AllHold rows = Each (λ row. Holds (row .1)) rows
+
+-- ---- the inputs of the cases
+
+-- VSID 0x0C701C and address 00FFA01B, whose page index is 0x0FFA
+abbrev pub thePage : Page
+thePage = record { vsid = 0x0C701C; index = 0x0FFA }
+
+-- its primary (false) or secondary (true) group under an SDR1
+abbrev pub groupUnder : ℕ → Bool → ℕ
+groupUnder sdr1 secondary = groupNumber (hashBits sdr1) secondary thePage
+
+-- a page mapped to RPN 0x12345 with WIMG 2 and PP pp
+abbrev pub mapTo : ℕ → ℕ → Page → Request (List ℕ)
+mapTo sdr1 pp page = mapPage sdr1 page 0x12345 2 pp
+
+-- a lent answer of 16 bytes
+abbrev pub blank : List ℕ
+blank = replicate 16 0
+
+-- a register page: SDR1, segment register 0 and the first data block; every other word is zero
+abbrev pub registerPage : ℕ → ℕ → ℕ → ℕ → List ℕ
+registerPage sdr1 segment upper lower = bytesOf ((sdr1 ∷ segment ∷ replicate 23 0) ++ (upper ∷ lower ∷ replicate 6 0))
+
+-- a store to address 00FFA01B in mode 1, by segment 0 with Ks and Kp zero and all blocks off
+abbrev pub store : ℕ → Request (List ℕ)
+store sdr1 = access (registerPage sdr1 0x000C701C 0 0) 1 2 0x00FFA01B blank
+
+-- eight other pages with the same primary group under both SDR1s: their VSIDs agree in the low 13 bits
+abbrev pub others : List Page
+others = map (λ i. record { vsid = 0x0C701C + 0x2000 * i; index = 0x0FFA }) (1 ∷ 2 ∷ 3 ∷ 4 ∷ 5 ∷ 6 ∷ 7 ∷ 8 ∷ [])
+
+-- a load in mode 1 with a data block
+abbrev pub load : ℕ → ℕ → ℕ → ℕ → Request (List ℕ)
+load sdr1 upper lower address = access (registerPage sdr1 0 upper lower) 1 1 address blank
+
+-- VSIDs 0, 0x400 .. 0x3C00, page 0
+abbrev pub sixteen : List Page
+sixteen = map (λ i. record { vsid = 0x400 * i; index = 0 }) (0 ∷ 1 ∷ 2 ∷ 3 ∷ 4 ∷ 5 ∷ 6 ∷ 7 ∷ 8 ∷ 9 ∷ 10 ∷ 11 ∷ 12 ∷ 13 ∷ 14 ∷ 15 ∷ [])
+
+abbrev pub sixteenMaps : List (Request (List ℕ))
+sixteenMaps = map (mapTo 0 2) sixteen
+
+-- VSID 0x4000 page 0, and VSID 0 page 0x3FF
+abbrev pub oneMore : Page
+oneMore = record { vsid = 0x4000; index = 0 }
+
+abbrev pub exchanged : Page
+exchanged = record { vsid = 0; index = 0x3FF }
+
+-- ---- the rows
+
+-- page index, hash, and the two groups: their numbers and their addresses
+abbrev pub case1 : List Row
+case1 =
+    (1, computes (pageIndex 0x00FFA01B) 0x0FFA)
+    ∷ (1, computes (hashOf 0x0C701C 0x0FFA) 0x47FE6)
+    ∷ (1, computes (groupUnder 0x0F980007 false) 0x1FE6)
+    ∷ (1, computes (groupUnder 0x0F980007 true) 0x0019)
+    ∷ (1, computes (groupAddress 0x0F980007 (groupUnder 0x0F980007 false)) 0x0F9FF980)
+    ∷ (1, computes (groupAddress 0x0F980007 (groupUnder 0x0F980007 true)) 0x0F980640)
+    ∷ []
+
+-- under an SDR1, given the numbers of the page's two groups there: the entry in the primary, and in the secondary where the primary is full; then stores
+abbrev pub cases2to5 : ℕ → ℕ → ℕ → List Row
+cases2to5 sdr1 primary secondary =
+    (2, answered sdr1 (mapTo sdr1 2 thePage ∷ []) (result 0 ∷ []))
+    ∷ (2, stored sdr1 (mapTo sdr1 2 thePage ∷ []) primary (0x86380E03 ∷ 0x12345012 ∷ replicate 14 0))
+    ∷ (2, answered sdr1 (map (mapTo sdr1 2) (others ++ (thePage ∷ []))) (replicate 9 (result 0)))
+    ∷ (2, stored sdr1 (map (mapTo sdr1 2) (others ++ (thePage ∷ []))) secondary (0x86380E43 ∷ 0x12345012 ∷ replicate 14 0))
+    ∷ (
+      3,
+      answered sdr1 (mapTo sdr1 2 thePage ∷ store sdr1 ∷ look sdr1 thePage blank ∷ [])
+          (result 0 ∷ fourWords 0 0x1234501B 2 0x00FFA01B ∷ fourWords 0 0x12345192 0 0 ∷ []),
+    )
+    ∷ (3, stored sdr1 (mapTo sdr1 2 thePage ∷ store sdr1 ∷ []) primary (0x86380E03 ∷ 0x12345192 ∷ replicate 14 0))
+    ∷ (
+      4,
+      answered sdr1 (mapTo sdr1 3 thePage ∷ store sdr1 ∷ look sdr1 thePage blank ∷ [])
+          (result 0 ∷ fourWords 64 0x0A000000 0x300 0x00FFA01B ∷ fourWords 0 0x12345013 0 0 ∷ []),
+    )
+    ∷ (4, stored sdr1 (mapTo sdr1 3 thePage ∷ store sdr1 ∷ []) primary (0x86380E03 ∷ 0x12345013 ∷ replicate 14 0))
+    ∷ (5, answered sdr1 (store sdr1 ∷ []) (fourWords 64 0x42000000 0x300 0x00FFA01B ∷ []))
+    ∷ []
+
+abbrev pub case6 : List Row
+case6 =
+    (6, computes (groupUnder 0x0F980000 false) 0x3E6)
+    ∷ (6, computes (groupUnder 0x0F980000 true) 0x019)
+    ∷ []
+
+-- under an SDR1 of wrong shape: clear, map and access, and the check of a register page with it
+abbrev pub case7 : ℕ → List Row
+case7 sdr1 =
+    (7, refused (clear sdr1) 2)
+    ∷ (7, refused (mapTo sdr1 2 thePage) 2)
+    ∷ (7, refused (store sdr1) 2)
+    ∷ (7, computes (checkCall (registerPage sdr1 0 0 0)) 2)
+    ∷ []
+
+-- an address outside the block goes by its segment, and its page has no match; BL 2 is refused by access and by check
+abbrev pub cases8to10 : ℕ → List Row
+cases8to10 sdr1 =
+    (8, answered sdr1 (load sdr1 0x80001FFE 0x10000002 0x8FFFFFFF ∷ []) (fourWords 0 0x1FFFFFFF 0 0x8FFFFFFF ∷ []))
+    ∷ (8, answered sdr1 (load sdr1 0x80001FFE 0x10000002 0x90000000 ∷ []) (fourWords 64 0x40000000 0x300 0x90000000 ∷ []))
+    ∷ (9, answered sdr1 (load sdr1 0x00000002 0x10000002 0x0001FFFF ∷ []) (fourWords 0 0x1001FFFF 0 0x0001FFFF ∷ []))
+    ∷ (9, answered sdr1 (load sdr1 0x00000002 0x10000002 0x00020000 ∷ []) (fourWords 64 0x40000000 0x300 0x00020000 ∷ []))
+    ∷ (10, refused (load sdr1 0x0000000A 0x10000002 0) 3)
+    ∷ (10, computes (checkCall (registerPage sdr1 0 0x0000000A 0x10000002)) 3)
+    ∷ []
+
+-- the sixteen map, two more do not; and what the two groups then hold, eight entries each with V = 1, in the secondary group with H = 1
+abbrev pub case11 : List Row
+case11 =
+    (11, answered 0 (sixteenMaps ++ (mapTo 0 2 oneMore ∷ mapTo 0 2 exchanged ∷ [])) (replicate 16 (result 0) ++ (result 9 ∷ result 9 ∷ [])))
+    ∷ (
+      11,
+      stored 0 sixteenMaps 0
+          (
+          0x80000000 ∷ 0x12345012 ∷ 0x80020000 ∷ 0x12345012 ∷ 0x80040000 ∷ 0x12345012 ∷ 0x80060000 ∷ 0x12345012
+          ∷ 0x80080000 ∷ 0x12345012 ∷ 0x800A0000 ∷ 0x12345012 ∷ 0x800C0000 ∷ 0x12345012 ∷ 0x800E0000 ∷ 0x12345012
+          ∷ []
+          ),
+    )
+    ∷ (
+      11,
+      stored 0 sixteenMaps 0x3FF
+          (
+          0x80100040 ∷ 0x12345012 ∷ 0x80120040 ∷ 0x12345012 ∷ 0x80140040 ∷ 0x12345012 ∷ 0x80160040 ∷ 0x12345012
+          ∷ 0x80180040 ∷ 0x12345012 ∷ 0x801A0040 ∷ 0x12345012 ∷ 0x801C0040 ∷ 0x12345012 ∷ 0x801E0040 ∷ 0x12345012
+          ∷ []
+          ),
+    )
+    ∷ []
+
+-- after the sixteen maps one of them is unmapped, and then `page` maps: a row for each of the sixteen
+abbrev pub freed : Page → Page → Row
+freed page one = (
+  12,
+  answered 0 (sixteenMaps ++ (unmap 0 one blank ∷ mapTo 0 2 page ∷ [])) (replicate 16 (result 0) ++ (fourWords 0 0x12345012 0 0 ∷ result 0 ∷ [])),
+)
+
+abbrev pub case12 : Page → List Row
+case12 page = map (freed page) sixteen
+
+-- the twelve cases, under each SDR1 that the paper names
+pub record TwelveCases : Type 0 where
+  pub hold : Each AllHold (
+      case1
+      ∷ cases2to5 0x0F980007 0x1FE6 0x0019
+      ∷ cases2to5 0x0F980000 0x3E6 0x019
+      ∷ case6
+      ∷ case7 0x0F980005
+      ∷ case7 0x0F910007
+      ∷ cases8to10 0x0F980007
+      ∷ cases8to10 0x0F980000
+      ∷ case11
+      ∷ case12 oneMore
+      ∷ case12 exchanged
+      ∷ []
+      )

@@ -1,0 +1,2 @@
+-- The twelve cases of document 01.
+pub mod Cases

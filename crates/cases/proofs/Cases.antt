@@ -42,39 +42,16 @@ first = record { few = omega arith; whole = refl; mirror = refl }
 
 pub twelve-cases : TwelveCases
 unfolding mapStep compared onMap mapDoes arranged? fed sdr1In refusal rules pageInRange writeThroughInhibited sdr1Shape tableLength maskOnes hashBits lowOnes bitLength samePage hashOf primaryGroup secondaryGroup groupNumber groupAddress wordAnswer accessAnswer doneByPage foundIn mapMarked fieldsWord outcomeOf blockOutcome beforeSearch afterSearch pageOutcome answerOf userMode fetching storing relocated sideOf keyOf pageReadable pageWritable pageAllows guarded blockAllows causeWord storeWord faultOf checkCall checkSet pageSet checkWords segmentsShape segmentShape sideShape pairShape blockShape off upperShape lowerShape sideApart pairApart clash commonV shareAddress everyBelow coveringPair pairCovers covers validFor inBlock blockAttributes blockPP blockPhysical firstBelow firstFrom supervisorKey userKey noExecute segmentVsid pageIndex physicalAddress secondWord registerWords wordsAt wordAt bytesOf wordBytes pairDo pairMarked matchesOf matchesIn matchesBelow freePlace freeEntry free matches apiOf entryWord firstWord firstAt secondAt putEntry withWord searched contradict agree overwrite withMarks
-twelve-cases = record {
-  hold = (
-    rows-hold 0x0F98 3 0x1FE6 0x0019 large case1 (refl, (refl, (refl, (refl, (refl, (refl, tt)))))),
-    (
-      rows-hold 0x0F98 3 0x1FE6 0x0019 large (cases2to5 0x0F980007 0x1FE6 0x0019) (refl, (refl, (refl, (refl, (refl, (refl, (refl, (refl, (refl, tt))))))))),
-      (
-        rows-hold 0x0F98 0 0x3E6 0x019 small (cases2to5 0x0F980000 0x3E6 0x019) (refl, (refl, (refl, (refl, (refl, (refl, (refl, (refl, (refl, tt))))))))),
-        (
-          rows-hold 0x0F98 0 0x3E6 0x019 small case6 (refl, (refl, tt)),
-          (
-            rows-hold 0x0F98 0 0x3E6 0x019 small (case7 0x0F980005) ((λ lent. refl), ((λ lent. refl), ((λ lent. refl), (refl, tt)))),
-            (
-              rows-hold 0x0F98 3 0x1FE6 0x0019 large (case7 0x0F910007) ((λ lent. refl), ((λ lent. refl), ((λ lent. refl), (refl, tt)))),
-              (
-                rows-hold 0x0F98 3 0x1FE6 0x0019 large (cases8to10 0x0F980007) (refl, (refl, (refl, (refl, ((λ lent. refl), (refl, tt)))))),
-                (
-                  rows-hold 0x0F98 0 0x3E6 0x019 small (cases8to10 0x0F980000) (refl, (refl, (refl, (refl, ((λ lent. refl), (refl, tt)))))),
-                  (
-                    rows-hold 0 0 0 0x3FF first case11 (refl, (refl, (refl, tt))),
-                    (
-                      rows-hold 0 0 0 0x3FF first (case12 oneMore) (refl, (refl, (refl, (refl, (refl, (refl, (refl, (refl, (refl, (refl, (refl, (refl, (refl, (refl, (refl, (refl, tt)))))))))))))))),
-                      (
-                        rows-hold 0 0 0 0x3FF first (case12 exchanged) (refl, (refl, (refl, (refl, (refl, (refl, (refl, (refl, (refl, (refl, (refl, (refl, (refl, (refl, (refl, (refl, tt)))))))))))))))),
-                        tt,
-                      ),
-                    ),
-                  ),
-                ),
-              ),
-            ),
-          ),
-        ),
-      ),
-    ),
-  );
-}
+twelve-cases =
+    let hash = rows-hold 0x0F98 3 0x1FE6 0x0019 large case1 (refl, (refl, (refl, (refl, (refl, (refl, tt)))))) in
+    let page-8192 = rows-hold 0x0F98 3 0x1FE6 0x0019 large (cases2to5 0x0F980007 0x1FE6 0x0019) (refl, (refl, (refl, (refl, (refl, (refl, (refl, (refl, (refl, tt))))))))) in
+    let page-1024 = rows-hold 0x0F98 0 0x3E6 0x019 small (cases2to5 0x0F980000 0x3E6 0x019) (refl, (refl, (refl, (refl, (refl, (refl, (refl, (refl, (refl, tt))))))))) in
+    let groups-1024 = rows-hold 0x0F98 0 0x3E6 0x019 small case6 (refl, (refl, tt)) in
+    let mask = rows-hold 0x0F98 0 0x3E6 0x019 small (case7 0x0F980005) ((λ lent. refl), ((λ lent. refl), ((λ lent. refl), (refl, tt)))) in
+    let origin = rows-hold 0x0F98 3 0x1FE6 0x0019 large (case7 0x0F910007) ((λ lent. refl), ((λ lent. refl), ((λ lent. refl), (refl, tt)))) in
+    let blocks-8192 = rows-hold 0x0F98 3 0x1FE6 0x0019 large (cases8to10 0x0F980007) (refl, (refl, (refl, (refl, ((λ lent. refl), (refl, tt)))))) in
+    let blocks-1024 = rows-hold 0x0F98 0 0x3E6 0x019 small (cases8to10 0x0F980000) (refl, (refl, (refl, (refl, ((λ lent. refl), (refl, tt)))))) in
+    let full = rows-hold 0 0 0 0x3FF first case11 (refl, (refl, (refl, tt))) in
+    let freed-one-more = rows-hold 0 0 0 0x3FF first (case12 oneMore) (refl, (refl, (refl, (refl, (refl, (refl, (refl, (refl, (refl, (refl, (refl, (refl, (refl, (refl, (refl, (refl, tt)))))))))))))))) in
+    let freed-exchanged = rows-hold 0 0 0 0x3FF first (case12 exchanged) (refl, (refl, (refl, (refl, (refl, (refl, (refl, (refl, (refl, (refl, (refl, (refl, (refl, (refl, (refl, (refl, tt)))))))))))))))) in
+    record { hold = (hash, (page-8192, (page-1024, (groups-1024, (mask, (origin, (blocks-8192, (blocks-1024, (full, (freed-one-more, (freed-exchanged, tt))))))))))) }

@@ -1,5 +1,4 @@
--- What maps and accesses leave in the two groups of a table that their pages have, from those two groups' bytes alone: 128 bytes compute at once,
--- where a table does not.
+-- What calls leave in the two groups that their pages have, from those two groups' bytes alone: 128 bytes compute at once, where a table does not.
 use Prim.Native.Nat.{ℕ, suc, _+_, _-_, _*_, _%_, _^_, _≤_}
 use mathlib.Core.Path.{_≡_, refl, sym, ap, ap₂, _∙_, subst}
 use mathlib.Core.Bool.{Bool, true, false, cond, _&&_}
@@ -62,6 +61,7 @@ pairLayout = record {
 abbrev pub zeros : Pair
 zeros = (replicate 64 0, replicate 64 0)
 
+-- step 7 of an access on them
 unfoldable pub pairMarked : ℕ → Early → Outcome → Pair → Pair
 pairMarked kind (Decided decided) outcome x = x
 pairMarked kind (Search wanted) outcome x =
@@ -108,8 +108,8 @@ zero-group n g h =
 
 -- ---- it is the table's step, for pages whose groups have the numbers p and s
 
--- what a page's groups are, or those of the page that an access searches
 module _ (k p s : ℕ) where
+  -- a page has these groups; so has the page that an access searches; so has the page of a call
   abbrev pub ownPage : Page → Bool
   ownPage page = eqb (groupNumber (10 + k) false page) p && eqb (groupNumber (10 + k) true page) s
 
@@ -139,6 +139,7 @@ module _ (k p s : ℕ) where
     pub long : length t ≡ 65536 * 2 ^ k
     pub groups : pairOf t ≡ x
 
+  -- the two numbers are complements in 10 + k bits
   module _ (mirror : s + suc p ≡ 2 ^ (9 + k) + 2 ^ (9 + k)) where
     twice : 2 ^ (10 + k) ≡ 2 ^ (9 + k) + 2 ^ (9 + k)
     twice = let e : 10 + k ≡ suc (9 + k) = omega arith in rw (e, pow-suc) (omega arith)

@@ -3,6 +3,7 @@
 use libc::STDOUT_FILENO;
 ghost use Prim.Native.Nat.{_+_, _^_, _≤_, _<_};
 
+// SDR1 of the cases, VSID and page index of their page, and the address that is accessed.
 const SDR1: u32 = 0x0F980000;
 
 const VSID: u32 = 0x0C701C;
@@ -10,6 +11,7 @@ const VSID: u32 = 0x0C701C;
 const INDEX: u32 = 0x0FFA;
 
 const ADDRESS: u32 = 0x00FFA01B;
+
 // RPN 0x12345, WIMG 2, PP 2, as a second entry word.
 const SECOND: u32 = 0x12345012;
 

@@ -1,7 +1,7 @@
 -- `cases::map_pages` is safe and ends: the table keeps its length, and no VSID wraps.
 use borrow.Author.Needs.{needs}
-use mathlib.Core.Path.{_≡_, refl}
-use Prim.Native.Nat.{ℕ, _-_, _≤_}
+use mathlib.Core.Path.{_≡_}
+use Prim.Native.Nat.{_-_, _≤_}
 use native.Mathlib.Omega.{arith}
 use lib.ListN.{length}
 use Rattle.cases.proofs.map_pages.Statement.{statement}

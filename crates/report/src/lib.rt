@@ -1,0 +1,26 @@
+// What the programs of cases share: the line of a case, and an entry in a lent table.
+use libc::STDOUT_FILENO;
+
+// Writes a case's number, a space and `ok` or `bad`.
+pub fn line(number: u64, good: bool) {
+    io::print_decimal(STDOUT_FILENO, number);
+    if good {
+        io::write_all(STDOUT_FILENO, b" ok\n");
+    } else {
+        io::write_all(STDOUT_FILENO, b" bad\n");
+    }
+}
+
+// Writes an entry into a group of a table; a place outside the table is left out, and the case then fails.
+pub fn put(table: &mut [u8], group: usize, entry: usize, first: u32, second: u32) {
+    if group >= 1024 {
+        return;
+    }
+    if entry >= 8 {
+        return;
+    }
+    if table.len() < 65536 {
+        return;
+    }
+    groups::put_entry(table, group, entry, first, second);
+}

@@ -1,0 +1,236 @@
+// Each refusal of an access, and each two that can hold together, in document 01's order. A refusal leaves the whole table and, of the
+// answer, the number and three zero words (11: the answer too).
+use super::lent::BAD_BLOCK;
+use super::lent::BAD_SDR1;
+use super::lent::BAD_SEGMENT;
+use super::lent::OFF;
+use super::lent::SDR1;
+use super::lent::SEGMENT;
+use super::lent::SHARED;
+use super::lent::Scene;
+use super::lent::answer_refused;
+use super::lent::kept;
+use super::lent::page_of;
+use super::lent::table_of;
+use report::line;
+
+// The lengths that an access is lent: of the register page, the answer and the table.
+struct Lengths {
+    page: isize,
+    answer: isize,
+    table: isize,
+}
+
+const RIGHT: Lengths = Lengths {
+    page: 132,
+    answer: 16,
+    table: 65536,
+};
+
+const SHORT_PAGE: Lengths = Lengths {
+    page: 131,
+    answer: 16,
+    table: 65536,
+};
+
+const LONG_PAGE: Lengths = Lengths {
+    page: 136,
+    answer: 16,
+    table: 65536,
+};
+
+const SHORT_ANSWER: Lengths = Lengths {
+    page: 132,
+    answer: 15,
+    table: 65536,
+};
+
+const LONG_ANSWER: Lengths = Lengths {
+    page: 132,
+    answer: 17,
+    table: 65536,
+};
+
+const SHORT_TABLE: Lengths = Lengths {
+    page: 132,
+    answer: 16,
+    table: 65535,
+};
+
+const LONG_TABLE: Lengths = Lengths {
+    page: 132,
+    answer: 16,
+    table: 131072,
+};
+
+const SHORT_PAGE_AND_TABLE: Lengths = Lengths {
+    page: 131,
+    answer: 16,
+    table: 65535,
+};
+
+// An access at 00FFA01B lent parts of these lengths.
+fn access_part(
+    page: &[u8],
+    lengths: Lengths,
+    mode: u32,
+    kind: u32,
+    table: &mut [u8],
+    answer: &mut [u8],
+) -> u32 {
+    let k = io::count(lengths.page, page);
+    let m = io::count(lengths.answer, answer);
+    let n = io::count(lengths.table, table);
+    mmu::mmu_access(
+        &page[..k],
+        mode,
+        kind,
+        0x00FFA01B,
+        &mut table[..n],
+        &mut answer[..m],
+    )
+}
+
+// The number of a refused access.
+fn access(scene: Scene, lengths: Lengths, mode: u32, kind: u32, page: [u8; 136]) -> u32 {
+    let table = table_of(scene);
+    let mut lent = table;
+    let mut answer = [0xAAu8; 20];
+    let result = access_part(&page, lengths, mode, kind, &mut lent, &mut answer);
+    kept(
+        result,
+        check::same(&lent, &table) & answer_refused(&answer, result),
+    )
+}
+
+// A load with data translation by this register page.
+fn load(sdr1: u32, segment: u32, first: u32, second: u32) -> u32 {
+    access(
+        Scene::Mapped,
+        RIGHT,
+        1,
+        1,
+        page_of(sdr1, segment, first, second),
+    )
+}
+
+// An access of this kind in real mode by this register page.
+fn real(kind: u32, sdr1: u32, segment: u32, first: u32, second: u32) -> u32 {
+    access(
+        Scene::Mapped,
+        RIGHT,
+        0,
+        kind,
+        page_of(sdr1, segment, first, second),
+    )
+}
+
+// The refusals alone.
+pub fn alone() {
+    let good = page_of(SDR1, SEGMENT, OFF, OFF);
+    // Access: each refusal alone: 11 (short and long page, short and long answer), 6 (mode, kind), 2, 3, 4, 5, 1 (short and long table), 10 (load, store, fetch). Source: document 01, table of causes.
+    line(415, access(Scene::Mapped, SHORT_PAGE, 1, 1, good) == 11);
+    line(416, access(Scene::Mapped, LONG_PAGE, 1, 1, good) == 11);
+    line(417, access(Scene::Mapped, SHORT_ANSWER, 1, 1, good) == 11);
+    line(418, access(Scene::Mapped, LONG_ANSWER, 1, 1, good) == 11);
+    line(419, access(Scene::Mapped, RIGHT, 8, 1, good) == 6);
+    line(420, access(Scene::Mapped, RIGHT, 0xFFFFFFFF, 1, good) == 6);
+    line(421, access(Scene::Mapped, RIGHT, 1, 3, good) == 6);
+    line(422, access(Scene::Mapped, RIGHT, 1, 0xFFFFFFFF, good) == 6);
+    line(423, load(BAD_SDR1, SEGMENT, OFF, OFF) == 2);
+    line(424, load(SDR1, SEGMENT, BAD_BLOCK, OFF) == 3);
+    line(425, load(SDR1, SEGMENT, OFF, SHARED) == 4);
+    line(426, load(SDR1, BAD_SEGMENT, OFF, OFF) == 5);
+    line(427, access(Scene::Mapped, SHORT_TABLE, 1, 1, good) == 1);
+    line(428, access(Scene::Mapped, LONG_TABLE, 1, 1, good) == 1);
+    line(429, access(Scene::Contradicting, RIGHT, 1, 1, good) == 10);
+    line(430, access(Scene::Contradicting, RIGHT, 1, 2, good) == 10);
+    line(431, access(Scene::Contradicting, RIGHT, 2, 0, good) == 10);
+}
+
+// 11 and 6 before the others.
+pub fn numbers_first() {
+    let good = page_of(SDR1, SEGMENT, OFF, OFF);
+    let two = page_of(BAD_SDR1, SEGMENT, OFF, OFF);
+    let three = page_of(SDR1, SEGMENT, BAD_BLOCK, OFF);
+    let four = page_of(SDR1, SEGMENT, OFF, SHARED);
+    let five = page_of(SDR1, BAD_SEGMENT, OFF, OFF);
+    // Access: 11 before 6, 2, 3, 4, 5, 1, 10. Source: document 01, order of refusals.
+    line(432, access(Scene::Mapped, SHORT_PAGE, 8, 1, good) == 11);
+    line(433, access(Scene::Mapped, SHORT_ANSWER, 1, 1, two) == 11);
+    line(434, access(Scene::Mapped, SHORT_PAGE, 1, 1, three) == 11);
+    line(435, access(Scene::Mapped, LONG_ANSWER, 1, 1, four) == 11);
+    line(436, access(Scene::Mapped, LONG_PAGE, 1, 1, five) == 11);
+    line(
+        437,
+        access(Scene::Mapped, SHORT_PAGE_AND_TABLE, 1, 1, good) == 11,
+    );
+    line(
+        438,
+        access(Scene::Contradicting, SHORT_ANSWER, 1, 1, good) == 11,
+    );
+    // Access: 6 before 2, 3, 4, 5, 1, 10. Source: document 01, order of refusals.
+    line(439, access(Scene::Mapped, RIGHT, 8, 1, two) == 6);
+    line(440, access(Scene::Mapped, RIGHT, 1, 3, three) == 6);
+    line(441, access(Scene::Mapped, RIGHT, 8, 1, four) == 6);
+    line(442, access(Scene::Mapped, RIGHT, 1, 3, five) == 6);
+    line(443, access(Scene::Mapped, SHORT_TABLE, 8, 1, good) == 6);
+    line(444, access(Scene::Contradicting, RIGHT, 9, 1, good) == 6);
+}
+
+// 2, 3, 4, 5 and 1 before those after them.
+pub fn registers_next() {
+    let two = page_of(BAD_SDR1, SEGMENT, OFF, OFF);
+    let three = page_of(SDR1, SEGMENT, BAD_BLOCK, OFF);
+    let four = page_of(SDR1, SEGMENT, OFF, SHARED);
+    let five = page_of(SDR1, BAD_SEGMENT, OFF, OFF);
+    // Access: 2 before 3, 4, 5, 1, 10. Source: document 01, order of refusals.
+    line(445, load(BAD_SDR1, SEGMENT, BAD_BLOCK, OFF) == 2);
+    line(446, load(BAD_SDR1, SEGMENT, OFF, SHARED) == 2);
+    line(447, load(BAD_SDR1, BAD_SEGMENT, OFF, OFF) == 2);
+    line(448, access(Scene::Mapped, SHORT_TABLE, 1, 1, two) == 2);
+    line(449, access(Scene::Contradicting, RIGHT, 1, 1, two) == 2);
+    // Access: 3 before 4, 5, 1, 10. Source: document 01, order of refusals.
+    line(450, load(SDR1, SEGMENT, BAD_BLOCK, SHARED) == 3);
+    line(451, load(SDR1, BAD_SEGMENT, BAD_BLOCK, OFF) == 3);
+    line(452, access(Scene::Mapped, SHORT_TABLE, 1, 1, three) == 3);
+    line(453, access(Scene::Contradicting, RIGHT, 1, 1, three) == 3);
+    // Access: 4 before 5, 1, 10; 5 before 1, 10; 1 before 10. Source: document 01, order of refusals.
+    line(454, load(SDR1, BAD_SEGMENT, OFF, SHARED) == 4);
+    line(455, access(Scene::Mapped, SHORT_TABLE, 1, 1, four) == 4);
+    line(456, access(Scene::Contradicting, RIGHT, 1, 1, four) == 4);
+    line(457, access(Scene::Mapped, SHORT_TABLE, 1, 1, five) == 5);
+    line(458, access(Scene::Contradicting, RIGHT, 1, 1, five) == 5);
+    line(
+        459,
+        access(
+            Scene::Contradicting,
+            LONG_TABLE,
+            1,
+            1,
+            page_of(SDR1, SEGMENT, OFF, OFF),
+        )
+            == 1,
+    );
+}
+
+// The register page and the table's length are judged in every mode and also where a block would do the access.
+pub fn every_mode() {
+    let five = page_of(SDR1, BAD_SEGMENT, OFF, OFF);
+    // Access: refusals 2, 3, 4, 5 and 1 also in real mode. Source: document 01, order of refusals.
+    line(460, real(1, BAD_SDR1, SEGMENT, OFF, OFF) == 2);
+    line(461, real(2, SDR1, SEGMENT, BAD_BLOCK, OFF) == 3);
+    line(462, real(0, SDR1, SEGMENT, OFF, SHARED) == 4);
+    line(463, access(Scene::Mapped, RIGHT, 4, 1, five) == 5);
+    line(
+        464,
+        access(
+            Scene::Mapped,
+            SHORT_TABLE,
+            0,
+            1,
+            page_of(SDR1, SEGMENT, OFF, OFF),
+        )
+            == 1,
+    );
+}

@@ -11,7 +11,7 @@ pub fn line(number: u64, good: bool) {
     }
 }
 
-// Writes an entry into a group of a table; a place outside the table is left out, and the case then fails.
+// Writes an entry into a group of a table of 1024 groups; a place outside it is left out.
 pub fn put(table: &mut [u8], group: usize, entry: usize, first: u32, second: u32) {
     if group >= 1024 {
         return;

@@ -116,7 +116,8 @@ fn compare_answer(text: &[u8], at: usize, returned: u32, answer: &[u8; 16]) -> C
     }
 }
 
-// The library's access on arrays: their types tell the checker what it can no longer see of a table that a loop has filled, its length.
+// The library's access. It and the comparison of tables are functions of their own since their parameters' types give the arrays' lengths,
+// which the checker does not keep of an array that another call has filled.
 fn access(
     page: &[u8; 132],
     mode: u32,

@@ -13,13 +13,13 @@ use Rattle.registers.specs.Sdr1.{sdr1Shape, tableLength, maskOnes}
 use Rattle.registers.specs.Set.{sdr1Of, segmentsShape, sideShape, sideApart, registerRules, checkWords}
 use Rattle.registers.proofs.Set.{checked}
 use Rattle.groups.specs.Hash.{groupNumber}
-use Rattle.groups.specs.Group.{putAt}
+use Rattle.groups.specs.Group.{firstOf, putAt}
 use Rattle.groups.specs.Search as groups
 use Rattle.groups.specs.declared.Search.{Search as Summary}
-use Rattle.groups.proofs.Summary.{Summarised, summary-none, summarised}
+use Rattle.groups.proofs.Summary.{Summarised, summarised, summary-none, place-found, place-secondary, place-entry}
 use Rattle.tables.specs.Matches.{Match}
 use Rattle.tables.specs.Layout.{matchesOf, overwrite}
-use Rattle.tables.proofs.Groups.{members-of}
+use Rattle.tables.proofs.Groups.{MatchOf, members-of}
 use Rattle.translation.specs.Access.{storing}
 use Rattle.translation.specs.Steps.{beforeSearch, afterSearch, outcomeOf, answerOf, refusedAnswer}
 use Rattle.translation.specs.declared.Early.{Early}
@@ -33,7 +33,7 @@ use Rattle.calls.specs.Request.{Request, access, registerWords, sdr1In, 
 use Rattle.calls.specs.Rules.{argumentOutOfRange, tableLengthWrong, rules, refusal}
 use Rattle.calls.specs.Answers as answers
 use Rattle.calls.specs.Answers.{accessAnswer, answerRefused, doneByPage}
-use Rattle.calls.specs.OnBytes.{layout, ended, byMatches, contradict, wantedPage, searched, markedBy, bytesDo, onBytes}
+use Rattle.calls.specs.OnBytes.{layout, ended, byMatches, wantedPage, searched, markedBy, bytesDo, onBytes}
 use Rattle.calls.proofs.OnBytes.{taken, refused}
 
 -- ---- the rules after 11
@@ -99,37 +99,37 @@ module _ (words : List ℕ) (mode kind lent : ℕ) where
 module _ (s : Summary) where
   -- by the list that was passed over: none, or the first match and the others
   by-list : (P : List Match → Type 0) (ms : List Match) → s ≡ groups.summary ms
-      → (s ≡ groups.nothingFound → P []) → ((x : Match) (xs : List Match) → Summarised x xs s → P (x ∷ xs)) → P ms
-  by-list P [] e none found = none (e ∙ summary-none)
+      → (s ≡ groups.summary [] → P []) → ((x : Match) (xs : List Match) → Summarised x xs s → P (x ∷ xs)) → P ms
+  by-list P [] e none found = none e
   by-list P (x ∷ xs) e none found = found x xs (rw e (summarised x xs))
 
   module _ (ms : List Match) (e : s ≡ groups.summary ms) where
-    pub searched-nothing : s .found ≡ false → searched ms ≡ Nothing
+    pub searched-nothing : groups.found s ≡ false → searched ms ≡ Nothing
     unfolding searched
-    searched-nothing f = by-list (λ l. searched l ≡ Nothing) ms e (λ z. refl) (λ x xs m. absurd (true≢false (sym (m .found) ∙ f)))
+    searched-nothing f = by-list (λ l. searched l ≡ Nothing) ms e (λ z. refl) (λ x xs m. absurd (true≢false (sym (place-found s x (m .place)) ∙ f)))
 
-    pub searched-contradicting : s .found ≡ true → s .differs ≡ true → searched ms ≡ Contradicting
-    unfolding searched contradict groups.nothingFound
+    pub searched-contradicting : groups.found s ≡ true → s .differs ≡ true → searched ms ≡ Contradicting
+    unfolding searched
     searched-contradicting f d =
-        by-list (λ l. searched l ≡ Contradicting) ms e (λ z. absurd (true≢false (sym f ∙ ap (λ (r : Summary). r .found) z)))
+        by-list (λ l. searched l ≡ Contradicting) ms e (λ z. absurd (true≢false (sym f ∙ ap groups.found z ∙ summary-none)))
         (λ x xs m. rw (← m .differs, d))
 
-    pub searched-at : s .found ≡ true → s .differs ≡ false → searched ms ≡ At (s .second)
-    unfolding searched contradict groups.nothingFound
+    pub searched-at : groups.found s ≡ true → s .differs ≡ false → searched ms ≡ At (s .second)
+    unfolding searched
     searched-at f d =
-        by-list (λ l. searched l ≡ At (s .second)) ms e (λ z. absurd (true≢false (sym f ∙ ap (λ (r : Summary). r .found) z)))
+        by-list (λ l. searched l ≡ At (s .second)) ms e (λ z. absurd (true≢false (sym f ∙ ap groups.found z ∙ summary-none)))
         (λ x xs m. rw (← m .differs, d) (ap At (sym (m .second))))
 
     -- an access is done only by the first match
     pub record ByFirst (second : ℕ) : Type 0 where
-      pub found : s .found ≡ true
+      pub found : groups.found s ≡ true
       pub word : s .second ≡ second
 
     pub done-by-first : (kind : ℕ) (key : Bool) (second : ℕ) → afterSearch kind key (searched ms) ≡ Done second → ByFirst second
     done-by-first kind key second done =
-        go (s .found) (s .differs) refl refl (done-passes kind key (searched ms) second done .found)
+        go (groups.found s) (s .differs) refl refl (done-passes kind key (searched ms) second done .found)
       where
-        go : (t d : Bool) → s .found ≡ t → s .differs ≡ d → searched ms ≡ At second → ByFirst second
+        go : (t d : Bool) → groups.found s ≡ t → s .differs ≡ d → searched ms ≡ At second → ByFirst second
         go true false f g a = record { found = f; word = let same = sym (searched-at f g) ∙ a in cc }
         go true true f g a = let other = sym (searched-contradicting f g) ∙ a in absurd (true≢false (cc))
         go false d f g a = let other = sym (searched-nothing f) ∙ a in absurd (true≢false (cc))
@@ -147,26 +147,27 @@ unfolding markedBy
 unmarked-decided k kind decided outcome t = refl
 
 module _ (k : ℕ) (wanted : Wanted) (t : List ℕ) (s : Summary) (e : s ≡ groups.summary (matchesOf (layout k) t (wantedPage wanted))) where
-  -- the entry told is one of eight
-  pub first-entry-lt : s .entry < 8
-  unfolding groups.nothingFound
-  first-entry-lt =
-      by-list s (λ l. ((x : Match) → List·Memᴰ x l → x .entry < 8) → s .entry < 8) (matchesOf (layout k) t (wantedPage wanted)) e
-      (λ z h. rw z (omega arith))
-      (λ x xs m h. rw (m .entry) (h x (List·Memᴰ·head refl)))
-      (λ x h. members-of (layout k) t (wantedPage wanted) x h .in-range)
-
   -- an access done by the page marks the first match, where the search told
-  pub marked-done : (kind second : ℕ) → s .found ≡ true
-      → markedBy k kind (Search wanted) (Done second) t
-      ≡ putAt t (groupNumber (10 + k) (s .secondary) (wantedPage wanted)) (s .entry) (s .first) (withMarks true (storing kind) (s .second))
-  unfolding markedBy doneByPage overwrite groups.nothingFound
+  pub marked-done : (kind second : ℕ) → groups.found s ≡ true
+      → let g = groupNumber (10 + k) (groups.inSecondary s) (wantedPage wanted) in
+      markedBy k kind (Search wanted) (Done second) t
+      ≡ putAt t g (groups.entryOf s) (firstOf t g (groups.entryOf s)) (withMarks true (storing kind) (s .second))
+  unfolding markedBy doneByPage overwrite
   marked-done kind second f =
-      by-list s (λ l. byMatches l t (λ x xs. overwrite (layout k) (wantedPage wanted) x (x .first) (withMarks true (storing kind) (x .second)) t)
-      ≡ putAt t (groupNumber (10 + k) (s .secondary) (wantedPage wanted)) (s .entry) (s .first) (withMarks true (storing kind) (s .second)))
+      by-list s (λ l. ((x : Match) → List·Memᴰ x l → MatchOf (layout k) t (wantedPage wanted) x)
+      → byMatches l t (λ x xs. overwrite (layout k) (wantedPage wanted) x (x .first) (withMarks true (storing kind) (x .second)) t) ≡ marked (groups.inSecondary s) (groups.entryOf s))
       (matchesOf (layout k) t (wantedPage wanted)) e
-      (λ z. absurd (true≢false (sym f ∙ ap (λ (r : Summary). r .found) z)))
-      (λ x xs m. rw (m .secondary, m .entry, m .first, m .second))
+      (λ z h. absurd (true≢false (sym f ∙ ap groups.found z ∙ summary-none)))
+      (λ x xs m h.
+      let own = h x (List·Memᴰ·head refl) in
+      rw (place-secondary s x (m .place) (own .in-range), place-entry s x (m .place) (own .in-range), m .second)
+      (ap (λ (first : ℕ). putAt t (groupNumber (10 + k) (x .secondary) (wantedPage wanted)) (x .entry) first (withMarks true (storing kind) (x .second))) (own .first-word)))
+      (members-of (layout k) t (wantedPage wanted))
+    where
+      marked : Bool → ℕ → List ℕ
+      marked b i =
+          let g = groupNumber (10 + k) b (wantedPage wanted) in
+          putAt t g i (firstOf t g i) (withMarks true (storing kind) (s .second))
 
 -- ---- the call
 

@@ -1,7 +1,7 @@
 -- The cases of the calls on one page, as the code meets them: what their three common rules refuse, what one search of a page's two groups
 -- says of the table's matches, and what its edit and its free entry are in the table.
 use mathlib.Core.Path.{_≡_, refl, sym, ap, ap₂, _∙_}
-use mathlib.Core.Bool.{Bool, true, false, cond, not, _&&_, _||_}
+use mathlib.Core.Bool.{Bool, true, false, cond, not, _&&_, _||_, true≢false}
 use mathlib.Core.List.{List, [], _∷_}
 use mathlib.Core.Option.{Option, none, some}
 use Prim.Native.Nat.{ℕ, _+_, _*_, _^_, _≤_, _<_}
@@ -19,7 +19,7 @@ use Rattle.groups.specs.Hash.{groupNumber}
 use Rattle.groups.specs.Group as groups
 use Rattle.groups.specs.Group.{groupOf, onGroup, firstOf, putAt}
 use Rattle.groups.specs.Search as search
-use Rattle.groups.specs.Search.{agree, anyMatch, summary, nothingFound}
+use Rattle.groups.specs.Search.{summary, found, contradict, merged}
 use Rattle.groups.specs.Edit as edits
 use Rattle.groups.specs.Edit.{edited, editMatches}
 use Rattle.groups.specs.declared.Edit.{Edit}
@@ -35,7 +35,7 @@ use Rattle.tables.specs.Layout.{freeEntry, freePlace, matchesOf, overwrite, ove
 use Rattle.calls.specs.Request.{Request, clear, mapPage, unmap, protect, look, sdr1In, fed}
 use Rattle.calls.specs.Rules.{pageInRange, writeThroughInhibited, argumentOutOfRange, sdr1Wrong, tableLengthWrong, rules, refusal}
 use Rattle.calls.specs.Answers.{wordAnswer, refusedAnswer, answerRefused}
-use Rattle.calls.specs.OnBytes.{layout, Ended, ended, contradict, merged, entryWord, bytesDo, onBytes}
+use Rattle.calls.specs.OnBytes.{layout, Ended, ended, entryWord, bytesDo, onBytes}
 use Rattle.calls.proofs.OnBytes.{taken, refused, matches-by-groups}
 
 -- ---- the rules
@@ -100,8 +100,11 @@ map-ranges page rpn wimg pp inRange same holds =
       pp-lt = ltb-true pp (2 ^ 2) pp-lt;
     }
 
-pub protect-range : (inRange : Bool) (pp : ℕ) → (inRange && ltb pp (2 ^ 2)) ≡ true → pp < 2 ^ 2
-protect-range inRange pp e = ltb-true pp (2 ^ 2) (both inRange (ltb pp (2 ^ 2)) e .1)
+pub page-ranges : (page : Page) (inRange : Bool) → inRange ≡ pageInRange page → inRange ≡ true → (page .vsid < 2 ^ 24) × (page .index < 2 ^ 16)
+unfolding pageInRange
+page-ranges page inRange same holds =
+    let (vsid-lt, index-lt) = both _ _ (sym same ∙ holds) in
+    (ltb-true (page .vsid) (2 ^ 24) vsid-lt, ltb-true (page .index) (2 ^ 16) index-lt)
 
 -- a call whose refusal is by these rules, and the number that they give, by a test equal to its test of the ranges
 module _ (request : Request (List ℕ)) (t : List ℕ) (inRange fits : Bool) (sdr1 number : ℕ) (same : inRange ≡ fits)
@@ -201,20 +204,17 @@ pub record Matched (ms : List Match) (s : Search) : Type 0 where
   pub are : ms ≡ x ∷ xs
   pub told : Summarised x xs s
 
-found-some : (ms : List Match) → summary ms .found ≡ true → Matched ms (summary ms)
-unfolding nothingFound
-found-some [] f = absurd (let told = summary-none in let z : _≡_ {A = ℕ} 0 1 = cc in omega arith)
+found-some : (ms : List Match) → found (summary ms) ≡ true → Matched ms (summary ms)
+found-some [] f = absurd (true≢false (sym f ∙ summary-none))
 found-some (x ∷ xs) f = record { x = x; xs = xs; are = refl; told = summarised x xs }
 
 -- what the calls ask of the matches, by what the search told
 module _ (x : Match) (xs : List Match) (s : Search) (told : Summarised x xs s) where
   pub contradict-is : contradict x xs ≡ s .differs
-  unfolding contradict
   contradict-is = sym (told .differs)
 
-  pub merged-is : merged x xs ≡ withMarks (s .referenced) (s .changed) (s .second)
-  unfolding merged
-  merged-is = rw (told .referenced, told .changed, told .second)
+  pub merged-is : merged x xs ≡ s .merged
+  merged-is = sym (told .merged)
 
 -- the place of a free entry, as the definition on tables gives it
 abbrev pub placeOption : Place → Option (Bool × ℕ)
@@ -262,57 +262,57 @@ module _ (k : ℕ) (t : List ℕ) (page : Page) where
       ∙ ap (λ (ms : List Match). overwriteEach (layout k) page (edited edit) ms t) (sym (matches-by-groups k t page))
 
   module _ (s : Search) (e : s ≡ pageSearch) where
-    pub unmatched : s .found ≡ false → matchesOf (layout k) t page ≡ []
-    unmatched f = matches-by-groups k t page ∙ found-none _ (ap (λ (r : Search). r .found) (sym e) ∙ f)
+    pub unmatched : found s ≡ false → matchesOf (layout k) t page ≡ []
+    unmatched f = matches-by-groups k t page ∙ found-none _ (ap found (sym e) ∙ f)
 
-    pub matched : s .found ≡ true → Matched (matchesOf (layout k) t page) s
-    matched f = rw (matches-by-groups k t page, e) (found-some _ (ap (λ (r : Search). r .found) (sym e) ∙ f))
+    pub matched : found s ≡ true → Matched (matchesOf (layout k) t page) s
+    matched f = rw (matches-by-groups k t page, e) (found-some _ (ap found (sym e) ∙ f))
 
     -- map
     module _ (sdr1 rpn wimg pp : ℕ) where
-      pub map-matched : s .found ≡ true → bytesDo k (mapPage sdr1 page rpn wimg pp) t ≡ ended 7 t []
+      pub map-matched : found s ≡ true → bytesDo k (mapPage sdr1 page rpn wimg pp) t ≡ ended 7 t []
       unfolding bytesDo
       map-matched f = rw (matched f .are)
 
-      pub map-full : s .found ≡ false → groups.freePlace (ownGroup false) (ownGroup true) ≡ Full → bytesDo k (mapPage sdr1 page rpn wimg pp) t ≡ ended 9 t []
+      pub map-full : found s ≡ false → groups.freePlace (ownGroup false) (ownGroup true) ≡ Full → bytesDo k (mapPage sdr1 page rpn wimg pp) t ≡ ended 9 t []
       unfolding bytesDo
       map-full f full = rw (unmatched f, free-place-is, full)
 
-      pub map-placed : s .found ≡ false → (secondary : Bool) (i : ℕ) → groups.freePlace (ownGroup false) (ownGroup true) ≡ Entry secondary i
+      pub map-placed : found s ≡ false → (secondary : Bool) (i : ℕ) → groups.freePlace (ownGroup false) (ownGroup true) ≡ Entry secondary i
           → bytesDo k (mapPage sdr1 page rpn wimg pp) t
           ≡ ended 0 (putAt t (groupNumber (10 + k) secondary page) i (entryWord secondary page) (secondWord rpn 0 0 wimg pp)) []
       unfolding bytesDo
       map-placed f secondary i place = rw (unmatched f, free-place-is, place)
 
     -- unmap and look of a page with no match
-    pub unmap-missing : (sdr1 : ℕ) (answer : List ℕ) → s .found ≡ false → bytesDo k (unmap sdr1 page answer) t ≡ ended 8 t (wordAnswer 8 0)
+    pub unmap-missing : (sdr1 : ℕ) (answer : List ℕ) → found s ≡ false → bytesDo k (unmap sdr1 page answer) t ≡ ended 8 t (wordAnswer 8 0)
     unfolding bytesDo
     unmap-missing sdr1 answer f = rw (unmatched f)
 
-    pub protect-missing : (sdr1 pp : ℕ) → s .found ≡ false → bytesDo k (protect sdr1 page pp) t ≡ ended 8 t []
+    pub protect-missing : (sdr1 pp : ℕ) → found s ≡ false → bytesDo k (protect sdr1 page pp) t ≡ ended 8 t []
     unfolding bytesDo
     protect-missing sdr1 pp f = rw (unmatched f)
 
-    pub look-missing : (sdr1 : ℕ) (answer : List ℕ) → s .found ≡ false → bytesDo k (look sdr1 page answer) t ≡ ended 8 t (wordAnswer 8 0)
+    pub look-missing : (sdr1 : ℕ) (answer : List ℕ) → found s ≡ false → bytesDo k (look sdr1 page answer) t ≡ ended 8 t (wordAnswer 8 0)
     unfolding bytesDo
     look-missing sdr1 answer f = rw (unmatched f)
 
-    pub look-contradicted : (sdr1 : ℕ) (answer : List ℕ) → s .found ≡ true → s .differs ≡ true → bytesDo k (look sdr1 page answer) t ≡ ended 10 t (wordAnswer 10 0)
+    pub look-contradicted : (sdr1 : ℕ) (answer : List ℕ) → found s ≡ true → s .differs ≡ true → bytesDo k (look sdr1 page answer) t ≡ ended 10 t (wordAnswer 10 0)
     unfolding bytesDo
     look-contradicted sdr1 answer f d =
         let m = matched f in
         rw (m .are, contradict-is (m .x) (m .xs) s (m .told) ∙ d)
 
-    pub look-done : (sdr1 : ℕ) (answer : List ℕ) → s .found ≡ true → s .differs ≡ false → bytesDo k (look sdr1 page answer) t ≡ ended 0 t (wordAnswer 0 (s .second))
+    pub look-done : (sdr1 : ℕ) (answer : List ℕ) → found s ≡ true → s .differs ≡ false → bytesDo k (look sdr1 page answer) t ≡ ended 0 t (wordAnswer 0 (s .second))
     unfolding bytesDo
     look-done sdr1 answer f d =
         let m = matched f in
         rw (m .are, contradict-is (m .x) (m .xs) s (m .told) ∙ d) (ap (λ (w : ℕ). ended 0 t (wordAnswer 0 w)) (sym (m .told .second)))
 
     -- unmap and protect of a page that has a match, whose groups lie in the table
-    module _ (inside : (b : Bool) → 64 * groupNumber (10 + k) b page + 64 ≤ length t) (f : s .found ≡ true) where
+    module _ (inside : (b : Bool) → 64 * groupNumber (10 + k) b page + 64 ≤ length t) (f : found s ≡ true) where
       pub unmap-done : (sdr1 : ℕ) (answer : List ℕ)
-          → bytesDo k (unmap sdr1 page answer) t ≡ ended 0 (editedBoth Clear) (wordAnswer 0 (withMarks (s .referenced) (s .changed) (s .second)))
+          → bytesDo k (unmap sdr1 page answer) t ≡ ended 0 (editedBoth Clear) (wordAnswer 0 (s .merged))
       unfolding bytesDo edited
       unmap-done sdr1 answer =
           let m = matched f in

@@ -11,13 +11,14 @@ use lib.ListN.{length, replicate}
 use Rattle.placement.specs.FiniteMap.{fieldsAt, putIn, takeOut, revise, mappedPages}
 use Rattle.placement.proofs.FiniteMap.{revise-unmapped}
 use Rattle.groups.proofs.Hash.{samePage-refl, samePage-eq}
+use Rattle.groups.proofs.Summary.{merged-one}
 use Rattle.entry.specs.Entry.{firstWord, secondWord, apiOf, referenced, changed, withMarks, withPP}
 use Rattle.entry.proofs.Addresses.{api-lt}
 use Rattle.entry.proofs.Marks.{marks-own}
 use Rattle.entry.proofs.Matches.{match-own, free-zero}
 use Rattle.entry.proofs.Packing.{first-lt}
 use Rattle.groups.specs.Page.{Page, InRange, samePage}
-use Rattle.groups.specs.Search.{hOf, anyMatch}
+use Rattle.groups.specs.Search.{hOf, contradict, merged}
 use Rattle.tables.specs.Matches.{Match}
 use Rattle.tables.specs.Layout.{matchesOf, freePlace, overwrite, overwriteEach}
 use Rattle.tables.specs.Represents.{Represents}
@@ -35,7 +36,7 @@ use Rattle.translation.proofs.Steps.{wanted-in-range}
 use Rattle.calls.specs.Request.{Request, clear, mapPage, unmap, protect, look, access, registerWords, fed}
 use Rattle.calls.specs.Rules.{refusal}
 use Rattle.calls.specs.Answers.{wordAnswer, accessAnswer, doneByPage}
-use Rattle.calls.specs.OnBytes.{layout, Ended, ended, byMatches, byOption, contradict, merged, entryWord, wantedPage, searched, markedBy, bytesDo}
+use Rattle.calls.specs.OnBytes.{layout, Ended, ended, byMatches, byOption, entryWord, wantedPage, searched, markedBy, bytesDo}
 use Rattle.calls.specs.OnMap.{PageFields, Map, fieldsWord, markFields, protectFields, Told, told, arranged?, foundIn, mapMarked, mapDoes}
 use Rattle.calls.specs.Represents.{GoodTable, FieldsInRange, represents}
 use Rattle.calls.proofs.TableLaws.{Word, layout-laws, represents-zeros}
@@ -74,12 +75,6 @@ module _ (b : Bool) (page : Page) (valid : InRange page) where
   own-fits : Word (entryWord b page)
   unfolding entryWord
   own-fits = first-lt 1 (page .vsid) (hOf b) (apiOf (page .index)) (lit< tt) (valid .vsid-lt) (hOf-lt b) (api-lt (page .index) (valid .index-lt))
-
--- the marks of one match merged are its own
-merged-one : (x : Match) → merged x [] ≡ x .second
-unfolding merged
-merged-one x =
-    ap₂ (λ (r c : Bool). withMarks r c (x .second)) (or-false (referenced (x .second))) (or-false (changed (x .second))) ∙ marks-own (x .second)
 
 module _ (k : ℕ) (t : List ℕ) (m : Map) (r : represents k t m) where
   clear-step : (sdr1 : ℕ) → Alike k (bytesDo k (clear sdr1) t) (mapDoes k (clear sdr1) m)

@@ -10,7 +10,7 @@ use Rattle.registers.specs.Sdr1.{maskOnes}
 use Rattle.groups.specs.Page.{Page}
 use Rattle.groups.specs.Hash.{groupNumber}
 use Rattle.groups.specs.Group.{firstOf, secondOf, putAt}
-use Rattle.groups.specs.Search.{hOf, disagrees, isReferenced, isChanged, anyMatch}
+use Rattle.groups.specs.Search.{hOf, contradict, merged}
 use Rattle.tables.specs.Matches.{Match}
 use Rattle.tables.specs.Layout.{Layout, matchesOf, freePlace, overwrite, overwriteEach}
 use Rattle.translation.specs.Access.{storing}
@@ -57,14 +57,6 @@ byMatches (x ∷ xs) missing found = found x xs
 abbrev pub byOption : {A X : Type 0} → Option A → X → (A → X) → X
 byOption none missing found = missing
 byOption (some a) missing found = found a
-
--- the matches contradict: some other one's second word does not agree with the first's
-unfoldable pub contradict : Match → List Match → Bool
-contradict x xs = anyMatch (disagrees (x .second)) xs
-
--- the first match's second word, with R and C each set if any match had it
-unfoldable pub merged : Match → List Match → ℕ
-merged x xs = withMarks (anyMatch isReferenced (x ∷ xs)) (anyMatch isChanged (x ∷ xs)) (x .second)
 
 -- the first word of a page's entry in its primary or its secondary group
 unfoldable pub entryWord : Bool → Page → ℕ

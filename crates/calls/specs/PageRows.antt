@@ -17,7 +17,7 @@ use Rattle.registers.specs.Set.{segmentsShape, pairShape, sideShape, pairApart,
 use Rattle.groups.specs.Page.{Page}
 use Rattle.groups.specs.Hash.{hashOf, primaryGroup, secondaryGroup, groupNumber}
 use Rattle.groups.specs.Group.{groupOf, putGroup, onGroup, firstAt, secondAt, putEntry, firstOf, secondOf, putAt}
-use Rattle.groups.specs.Search.{agree}
+use Rattle.groups.specs.Search.{agree, contradict, merged}
 use Rattle.tables.specs.Matches.{matchesBelow}
 use Rattle.tables.specs.Layout.{matchesIn, matchesOf, freeEntry, freePlace, overwrite, overwriteEach}
 use Rattle.translation.specs.Access.{userMode, fetching, storing, relocated, sideOf, keyOf}
@@ -27,7 +27,7 @@ use Rattle.translation.specs.Steps.{beforeSearch, pageOutcome, afterSearch, out
 use Rattle.calls.specs.Request.{Request, clear, mapPage, unmap, protect, look, access, registerWords, sdr1In, fed}
 use Rattle.calls.specs.Rules.{pageInRange, writeThroughInhibited, rules, refusal}
 use Rattle.calls.specs.Answers.{wordAnswer, accessAnswer, refusedAnswer, answerRefused, doneByPage}
-use Rattle.calls.specs.OnBytes.{Ended, ended, contradict, merged, entryWord, searched, markedBy, bytesDo, onBytes}
+use Rattle.calls.specs.OnBytes.{Ended, ended, entryWord, searched, markedBy, bytesDo, onBytes}
 
 abbrev pageOf : ℕ → ℕ → Page
 pageOf vsid index = record { vsid = vsid; index = index }

@@ -11,7 +11,7 @@ use Rattle.registers.specs.Block.{off, validFor, commonV, upperShape, lowerShap
 use Rattle.registers.specs.Set.{segmentsShape, pairShape, sideShape, pairApart, sideApart, pairCovers, coveringPair, checkWords, checkSet, pageSet}
 use Rattle.groups.specs.Page.{samePage}
 use Rattle.groups.specs.Hash.{hashOf, primaryGroup, secondaryGroup, groupNumber, groupAddress}
-use Rattle.groups.specs.Search.{agree}
+use Rattle.groups.specs.Search.{agree, contradict}
 use Rattle.groups.specs.Group.{firstAt, secondAt, putEntry}
 use Rattle.tables.specs.Matches.{matchesBelow}
 use Rattle.tables.specs.Layout.{matchesIn, matchesOf, freeEntry, freePlace, overwrite}
@@ -23,7 +23,7 @@ use Rattle.calls.specs.Request.{registerWords, sdr1In, fed}
 use Rattle.calls.specs.Rules.{pageInRange, writeThroughInhibited, rules, refusal}
 use Rattle.calls.specs.Answers.{wordAnswer, accessAnswer, doneByPage, compared}
 use Rattle.calls.specs.WithoutTable.{checkCall}
-use Rattle.calls.specs.OnBytes.{entryWord, searched, contradict}
+use Rattle.calls.specs.OnBytes.{entryWord, searched}
 use Rattle.calls.specs.OnMap.{fieldsWord, arranged?, foundIn, mapMarked, mapDoes, onMap}
 use Rattle.calls.specs.Histories.{mapStep}
 use Rattle.cases.specs.Cases.{case1, cases2to5, case6, case7, cases8to10, case11, case12, oneMore, exchanged, TwelveCases}

@@ -19,7 +19,7 @@ use Rattle.registers.proofs.Sdr1.{made-ones, made-length}
 use Rattle.groups.specs.Page.{Page}
 use Rattle.groups.specs.Hash.{groupNumber}
 use Rattle.groups.specs.Group.{groupOf, firstAt, secondAt, firstOf, secondOf, putEntry, putAt}
-use Rattle.groups.specs.Search.{hOf}
+use Rattle.groups.specs.Search.{hOf, contradict, merged}
 use Rattle.groups.proofs.Hash.{within-bytes}
 use Rattle.groups.proofs.Stored.{stored-length, stored-group, stored-other-group}
 use Rattle.tables.specs.Matches.{Match}
@@ -33,7 +33,7 @@ use Rattle.translation.specs.declared.Outcome.{Outcome}
 use Rattle.calls.specs.Request.{Request, clear, mapPage, unmap, protect, look, access, registerWords, sdr1In, fed}
 use Rattle.calls.specs.Rules.{refusal}
 use Rattle.calls.specs.Answers.{wordAnswer, doneByPage}
-use Rattle.calls.specs.OnBytes.{layout, Ended, ended, byMatches, byOption, contradict, merged, entryWord, wantedPage, searched, markedBy, bytesDo, onBytes}
+use Rattle.calls.specs.OnBytes.{layout, Ended, ended, byMatches, byOption, entryWord, wantedPage, searched, markedBy, bytesDo, onBytes}
 use Rattle.calls.specs.Histories.{bytesStep}
 use Rattle.calls.specs.Theorem.{sdr1With}
 use Rattle.calls.proofs.OnBytes.{taken}

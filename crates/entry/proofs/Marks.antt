@@ -2,7 +2,7 @@
 use mathlib.Core.Bool.{Bool, true, false, cond, _||_}
 use mathlib.Core.List.{[], _∷_}
 use mathlib.Core.Path.{_≡_, refl, sym, ap, _∙_}
-use Prim.Native.Nat.{ℕ, _+_, _-_, _^_, _≤_, _<_}
+use Prim.Native.Nat.{ℕ, _+_, _-_, _*_, _/_, _%_, _^_, _≤_, _<_}
 use native.Mathlib.Nat.{le-refl}
 use native.Mathlib.Omega.{arith}
 use lib.Dec.{eqb, lit≤, lit<}
@@ -103,19 +103,30 @@ unfolding withMarks referenced changed
 marks-own w = ap (setIf (eqb (bits 24 24 w) 1) 24) (set-own 23 w (lit< tt)) ∙ set-own 24 w (lit< tt)
 
 -- marks set twice are the marks of both
-pub marks-again : (r c s d : Bool) (w : ℕ) → w < 2 ^ 32 → withMarks r c (withMarks s d w) ≡ withMarks (r || s) (c || d) w
-marks-again r c s d w h =
-    let u = withMarks s d w in
-    let own = second-own w in
-    second-same
-    (rw (either r s (bits 23 23 w), either c d (bits 24 24 w)) at (marks-fields r c u (marks-fields s d w own)))
-    (marks-fields (r || s) (c || d) w own)
-    (marks-lt r c u (marks-lt s d w h)) (marks-lt (r || s) (c || d) w h)
-    (marks-ignored r c u ∙ marks-ignored s d w ∙ sym (marks-ignored (r || s) (c || d) w))
+set-twice : (p q : Bool) (w : ℕ) → (setIf p 23 (setIf q 23 w) ≡ setIf (p || q) 23 w) × (setIf p 24 (setIf q 24 w) ≡ setIf (p || q) 24 w)
+set-twice true true w = (omega arith, omega arith)
+set-twice true false w = (refl, refl)
+set-twice false q w = (refl, refl)
+
+set-swap : (p q : Bool) (w : ℕ) → setIf p 23 (setIf q 24 w) ≡ setIf q 24 (setIf p 23 w)
+set-swap true true w =
+    let u = withBits 24 24 1 w in
+    let v = withBits 23 23 1 w in
+    let above : u / 2 ^ 9 ≡ w / 2 ^ 9 = omega arith in
+    let below : u % 2 ^ 8 ≡ 2 ^ 7 + w % 2 ^ 7 = omega arith in
+    let above′ : v / 2 ^ 8 ≡ w / 2 ^ 9 * 2 + 1 = omega arith in
+    let below′ : v % 2 ^ 7 ≡ w % 2 ^ 7 = omega arith in
+    sum (u / 2 ^ 9) (u % 2 ^ 8) (v / 2 ^ 8) (v % 2 ^ 7) (w / 2 ^ 9) (w % 2 ^ 7) above below above′ below′
   where
-    either : (p q : Bool) (x : ℕ) → cond p 1 (cond q 1 x) ≡ cond (p || q) 1 x
-    either true q x = refl
-    either false q x = refl
+    sum : (a b c d x y : ℕ) → a ≡ x → b ≡ 2 ^ 7 + y → c ≡ x * 2 + 1 → d ≡ y → a * 2 ^ 9 + 2 ^ 8 + b ≡ c * 2 ^ 8 + 2 ^ 7 + d
+    sum a b c d x y e f g h = omega arith
+set-swap true false w = refl
+set-swap false q w = refl
+
+pub marks-again : (r c s d : Bool) (w : ℕ) → withMarks r c (withMarks s d w) ≡ withMarks (r || s) (c || d) w
+unfolding withMarks
+marks-again r c s d w =
+    ap (setIf c 24) (set-swap r d (setIf s 23 w)) ∙ set-twice c d (setIf r 23 (setIf s 23 w)) .1 ∙ ap (setIf (c || d) 24) (set-twice r s w .0)
 
 -- ---- PP
 

@@ -100,18 +100,12 @@ pub fn unpack(first: u32, second: u32) -> Fields
     }
 }
 
-// Whether the entry of a first word matches: V is 1, and VSID, H and API agree.
+// Whether the entry of a first word matches: V is 1, and VSID, H and API agree. These four are the whole word, so one comparison tells.
 pub fn is_match(first: u32, vsid: u32, h: u32, api: u32) -> bool
+    requires { ⌜ (vsid < 2 ^ 24) × (h < 2 ^ 1) × (api < 2 ^ 6) ⌝ }
     ensures { λ r. ⌜ r ≡ matches vsid h api first ⌝ }
 {
-    // Free entries and other APIs are told by one byte each, so they are tested first.
-    if first >> 31 == 0 {
-        return false;
-    }
-    if first & 0x3F != api {
-        return false;
-    }
-    ((first >> 7) & 0xFFFFFF == vsid) & ((first >> 6) & 1 == h)
+    first == first_word(1, vsid, h, api)
 }
 
 // Whether the entry of a first word is free: V is 0.

@@ -1,5 +1,5 @@
 -- Laws of the matches in a group: one entry more, what each match is, and that a group and a first word name one page.
-use mathlib.Core.Path.{_≡_, refl, sym, _∙_}
+use mathlib.Core.Path.{_≡_, refl, sym, ap, _∙_}
 use mathlib.Core.Logic.{⊎-elim}
 use mathlib.Core.Bool.{Bool, true, false, cond}
 use mathlib.Core.List.{List, [], _∷_, _++_, append-nil, List·Memᴰ, List·Memᴰ·append-cases, List·Memᴰ·eq-of-singleton, List·Memᴰ·not-nil}
@@ -24,6 +24,10 @@ entryAt secondary group i = record { secondary = secondary; entry = i; first = f
 pub h-is : (secondary : Bool) → boolByte secondary ≡ hOf secondary
 h-is true = refl
 h-is false = refl
+
+pub h-lt : (secondary : Bool) → boolByte secondary < 2
+h-lt true = omega arith
+h-lt false = omega arith
 
 -- a match is an entry of the group that matches
 pub record IsMatch (secondary : Bool) (vsid api : ℕ) (group : List ℕ) (n : ℕ) (m : Match) : Type 0 where
@@ -65,12 +69,19 @@ pub match-in : (secondary : Bool) (vsid api : ℕ) (group : List ℕ) (m : Match
 unfolding matchesIn
 match-in secondary vsid api group m h = match-is secondary vsid api group 8 m h
 
--- each match of both groups has one of the eight entries
-pub match-of : (vsid api : ℕ) (primary secondary : List ℕ) (m : Match) → List·Memᴰ m (matchesOf vsid api primary secondary) → m .entry < 8
+-- each match of both groups is one of the eight entries of its group
+pub match-words : (vsid api : ℕ) (primary secondary : List ℕ) (m : Match) → List·Memᴰ m (matchesOf vsid api primary secondary)
+    → (m .entry < 8) × (m .first ≡ firstAt (cond (m .secondary) secondary primary) (m .entry))
 unfolding matchesOf
-match-of vsid api primary secondary m h =
-    ⊎-elim (λ k. match-in false vsid api primary m k .entry-lt) (λ k. match-in true vsid api secondary m k .entry-lt)
+match-words vsid api primary secondary m h =
+    ⊎-elim (λ k. of false primary refl (match-in false vsid api primary m k)) (λ k. of true secondary refl (match-in true vsid api secondary m k))
     (List·Memᴰ·append-cases (matchesIn false vsid api primary) h)
+  where
+    of : (b : Bool) (group : List ℕ) → group ≡ cond b secondary primary → IsMatch b vsid api group 8 m
+        → (m .entry < 8) × (m .first ≡ firstAt (cond (m .secondary) secondary primary) (m .entry))
+    of b group e i =
+        let side : m .secondary ≡ b = ap (λ (x : Match). x .secondary) (i .is-entry) in
+        (i .entry-lt, ap (λ (x : Match). x .first) (i .is-entry) ∙ rw (side, e))
 
 h-same : (b c : Bool) → hOf b ≡ hOf c → b ≡ c
 h-same true true e = refl

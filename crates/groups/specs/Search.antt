@@ -1,9 +1,9 @@
 -- The search for a page's matches (document 01, "Entries and groups"), and what one pass over them tells.
-use Prim.Native.Nat.{ℕ}
+use Prim.Native.Nat.{ℕ, _+_, _%_}
 use mathlib.Core.Bool.{Bool, true, false, cond, not, _||_}
-use mathlib.Core.List.{List, [], _∷_, _++_, foldl}
-use lib.Dec.{eqb}
-use Rattle.entry.specs.Entry.{matches, referenced, changed}
+use mathlib.Core.List.{List, [], _∷_, _++_}
+use lib.Dec.{eqb, leb}
+use Rattle.entry.specs.Entry.{matches, referenced, changed, withMarks}
 use Rattle.tables.specs.Matches.{Match, matchesBelow}
 use Rattle.groups.specs.Group.{firstAt, secondAt}
 use Rattle.groups.specs.declared.Search.{Search}
@@ -39,51 +39,40 @@ abbrev pub anyMatch : (Match → Bool) → List Match → Bool
 anyMatch test [] = false
 anyMatch test (m ∷ ms) = test m || anyMatch test ms
 
--- before any match is met
-unfoldable pub nothingFound : Search
-nothingFound = record {
-  found = false;
-  secondary = false;
-  entry = 0;
-  first = 0;
-  second = 0;
-  several = false;
-  differs = false;
-  referenced = false;
-  changed = false;
+-- the matches contradict: some other one's second word does not agree with the first's
+unfoldable pub contradict : Match → List Match → Bool
+contradict m ms = anyMatch (disagrees (m .second)) ms
+
+-- the first match's second word, with R and C each set if any match had it
+unfoldable pub merged : Match → List Match → ℕ
+merged m ms = withMarks (anyMatch isReferenced (m ∷ ms)) (anyMatch isChanged (m ∷ ms)) (m .second)
+
+-- every match passes
+abbrev pub each : Match → Bool
+each m = true
+
+-- the place of a match as one number that is not 0: the entry's number and 16 in the primary group, and 24 in the secondary
+abbrev pub placeOf : Match → ℕ
+placeOf m = cond (m .secondary) 24 16 + m .entry
+
+-- what the search tells of the matches of a list: the first one's place and second word, that word merged with the others' marks, whether there
+-- are others, and whether they contradict
+unfoldable pub summary : List Match → Search
+summary [] = record { place = 0; second = 0; merged = 0; several = false; differs = false }
+summary (m ∷ ms) = record {
+  place = placeOf m;
+  second = m .second;
+  merged = merged m ms;
+  several = anyMatch each ms;
+  differs = contradict m ms;
 }
 
--- one match more: the first keeps its place and words; that there is a further one, whether its second word does not agree, and any R and C, are noted
-unfoldable pub noted : Search → Match → Search
-noted s m =
-    cond (s .found)
-    (record {
-      found = true;
-      secondary = s .secondary;
-      entry = s .entry;
-      first = s .first;
-      second = s .second;
-      several = true;
-      differs = s .differs || disagrees (s .second) m;
-      referenced = s .referenced || isReferenced m;
-      changed = s .changed || isChanged m;
-    })
-    (record {
-      found = true;
-      secondary = m .secondary;
-      entry = m .entry;
-      first = m .first;
-      second = m .second;
-      several = false;
-      differs = false;
-      referenced = isReferenced m;
-      changed = isChanged m;
-    })
+-- whether a search found a match, whether the first is in the secondary group, and its entry's number
+unfoldable pub found : Search → Bool
+found s = not (eqb (s .place) 0)
 
--- the matches of a list, one after the other
-unfoldable pub notedAll : Search → List Match → Search
-notedAll start ms = foldl noted start ms
+unfoldable pub inSecondary : Search → Bool
+inSecondary s = leb 24 (s .place)
 
--- what one pass over a list of matches tells
-unfoldable pub summary : List Match → Search
-summary ms = notedAll nothingFound ms
+unfoldable pub entryOf : Search → ℕ
+entryOf s = s .place % 8

@@ -12,7 +12,7 @@ use Rattle.tables.specs.Matches.{Match}
 use Rattle.groups.specs.Page.{Page, samePage}
 use Rattle.groups.specs.Hash.{hashOf, groupNumber, groupAddress}
 use Rattle.groups.specs.Group.{groupOf, firstOf, secondOf, putAt, freePlace}
-use Rattle.groups.specs.Search.{matchesIn, matchesOf, summary, nothingFound}
+use Rattle.groups.specs.Search.{matchesIn, matchesOf, summary}
 use Rattle.groups.specs.Edit.{editMatches}
 use Rattle.groups.specs.declared.Place.the-variants.{Entry, Full}
 use Rattle.groups.specs.declared.Edit.the-variants.{Clear, Protect}
@@ -24,19 +24,9 @@ page vsid index = record { vsid = vsid; index = index }
 abbrev pub matched : Bool → ℕ → ℕ → ℕ → Match
 matched secondary entry first second = record { secondary = secondary; entry = entry; first = first; second = second }
 
--- a search that found a match: its place and words, then whether there is a further one, whether one contradicts, and R and C of any
-abbrev pub told : Bool → ℕ → ℕ → ℕ → Bool → Bool → Bool → Bool → Search
-told secondary entry first second several differs referenced changed = record {
-  found = true;
-  secondary = secondary;
-  entry = entry;
-  first = first;
-  second = second;
-  several = several;
-  differs = differs;
-  referenced = referenced;
-  changed = changed;
-}
+-- what a search tells: place and second word of the first match, that word merged, whether there is a further match, whether one contradicts
+abbrev pub told : ℕ → ℕ → ℕ → Bool → Bool → Search
+told place second merged several differs = record { place = place; second = second; merged = merged; several = several; differs = differs }
 
 -- VSID 0x0C701C and API 3 match in entries 1, 3 and 6 with H = 0 and in entry 0 with H = 1; entries 2 and 5 are free
 abbrev pub mixed : ℕ → ℕ → ℕ → ℕ → ℕ → ℕ → List ℕ
@@ -115,23 +105,18 @@ pub record GroupsTables : Type 0 where
       ∷ (matchesIn false 0x0C701C 2 example, [])
       ∷ []
       )
-  -- the first match in search order, a further one that contradicts, and R and C of any; twins do not contradict
+  -- the first match in search order, its second word with R and C of any, a further one, and one that contradicts; twins do not contradict
   pub summaries : Hold (
-      (summary (matchesOf 0x0C701C 3 example example), told false 1 0x86380E03 0x12345E96 true true true true)
-      ∷ (summary (matchesOf 0x0C701C 3 full example), told true 0 0x86380E43 0x12345012 false false false false)
-      ∷ (
-        summary (matched false 1 0x86380E03 0x12345E96 ∷ matched false 3 0x86380E03 0x12345E96 ∷ []),
-        told false 1 0x86380E03 0x12345E96 true false false true,
-      )
-      ∷ (
-        summary (matched false 6 0x86380E03 0x12345112 ∷ matched true 0 0x86380E43 0x12345012 ∷ []),
-        told false 6 0x86380E03 0x12345112 true true true false,
-      )
+      (summary (matchesOf 0x0C701C 3 example example), told 17 0x12345E96 0x12345F96 true true)
+      ∷ (summary (matchesOf 0x0C701C 3 full example), told 24 0x12345012 0x12345012 false false)
+      ∷ (summary (matched false 1 0x86380E03 0x12345E96 ∷ matched false 3 0x86380E03 0x12345E96 ∷ []), told 17 0x12345E96 0x12345E96 true false)
+      ∷ (summary (matched false 6 0x86380E03 0x12345112 ∷ matched true 0 0x86380E43 0x12345012 ∷ []), told 22 0x12345112 0x12345112 true true)
+      ∷ (summary (matched true 0 0x86380E43 0x12345012 ∷ matched true 6 0x86380E43 0x12345E96 ∷ []), told 24 0x12345012 0x12345092 true true)
       ∷ (
         summary (matched false 1 0x86380E03 0x12345012 ∷ matched false 2 0x86380E03 0x12345016 ∷ matched true 0 0x86380E43 0x12345012 ∷ []),
-        told false 1 0x86380E03 0x12345012 true true false false,
+        told 17 0x12345012 0x12345012 true true,
       )
-      ∷ (summary (matchesOf 0x0C701C 2 example example), nothingFound)
+      ∷ (summary (matchesOf 0x0C701C 2 example example), told 0 0 0 false false)
       ∷ []
       )
   -- the first free entry: of the primary group, of the secondary where the primary is full, or none

@@ -1,12 +1,14 @@
 // Hash, groups and entries in groups: a page's two groups, the search of a group for matches and for a free entry, the entry writer, edits of every match, and the clear of a table.
 ghost use mathlib.Core.Path.{_≡_};
 ghost use mathlib.Core.Bool.{true, false};
+ghost use mathlib.Core.List.{List, [], _∷_, _++_};
 ghost use Prim.Native.Nat.{ℕ, _+_, _-_, _*_, _<_, _≤_, _^_};
 ghost use lib.ListN.{length, replicate};
 ghost use Rattle.registers.specs.Sdr1.{sdr1Shape, hashBits};
 ghost use Rattle.groups.specs.Hash.{hashOf, groupsOf, groupAddress};
-ghost use Rattle.groups.specs.Group.{groupOf, onGroup, putEntry, putAt, freePlace};
-ghost use Rattle.groups.specs.Search.{matchesIn, matchesOf, agree, nothingFound, noted, notedAll, summary};
+ghost use Rattle.groups.specs.Group.{groupOf, onGroup, firstOf, putEntry, putAt, freePlace};
+ghost use Rattle.tables.specs.Matches.{Match};
+ghost use Rattle.groups.specs.Search.{matchesIn, matchesOf, agree, placeOf, summary, found, inSecondary, entryOf};
 ghost use Rattle.groups.specs.Edit.{EditFits, editedWords, editMatches};
 
 // The numbers of the two groups of a hash.
@@ -47,99 +49,114 @@ pub fn words_agree(second: u32, other: u32) -> bool
     second == other
 }
 
-// What one pass over the matches tells: the first match's place and words, whether there is a further match, whether a further match's
-// second word does not agree with the first's, and whether R and C are set in any.
+// What a search tells of a page's matches: the first one's place (0 for none, else its entry's number and 16, or 24 in the secondary group) and
+// second word, that word merged with the marks of the others, whether there are others, and whether an other's second word does not agree.
 pub struct Search {
-    pub found: bool,
-    pub secondary: bool,
-    pub entry: usize,
-    pub first: u32,
+    pub place: usize,
     pub second: u32,
+    pub merged: u32,
     pub several: bool,
     pub differs: bool,
-    pub referenced: bool,
-    pub changed: bool,
 }
 
 impl Search {
     // Before any match is met.
     pub fn nothing() -> Self
-        ensures { λ r. ⌜ r ≡ nothingFound ⌝ }
+        ensures { λ r. ⌜ r ≡ summary [] ⌝ }
     {
         Self {
-            found: false,
-            secondary: false,
-            entry: 0,
-            first: 0,
+            place: 0,
             second: 0,
+            merged: 0,
             several: false,
             differs: false,
-            referenced: false,
-            changed: false,
         }
     }
 
-    // One match more.
-    pub fn note(self, secondary: bool, entry: usize, first: u32, second: u32) -> Self
-        ensures { λ r. ⌜ r ≡ noted self (record { secondary = secondary; entry = entry; first = first; second = second }) ⌝ }
+    // One match, by its place and second word.
+    pub fn one(place: usize, second: u32) -> Self
+        ensures { λ r. ⌜ ((m : Match) → place ≡ placeOf m → second ≡ m .second → r ≡ summary (m ∷ [])) ⌝ }
     {
-        let r = entry::is_referenced(second);
-        let c = entry::is_changed(second);
-        if self.found {
-            Self {
-                found: true,
-                secondary: self.secondary,
-                entry: self.entry,
-                first: self.first,
-                second: self.second,
-                several: true,
-                differs: self.differs | !words_agree(self.second, second),
-                referenced: self.referenced | r,
-                changed: self.changed | c,
-            }
-        } else {
-            Self {
-                found: true,
-                secondary,
-                entry,
-                first,
-                second,
-                several: false,
-                differs: false,
-                referenced: r,
-                changed: c,
-            }
+        Self {
+            place,
+            second,
+            merged: second,
+            several: false,
+            differs: false,
+        }
+    }
+
+    // Whether there is a match.
+    pub fn found(self) -> bool
+        ensures { λ r. ⌜ r ≡ found self ⌝ }
+    {
+        self.place != 0
+    }
+
+    // Whether the first match is in the secondary group.
+    pub fn in_secondary(self) -> bool
+        ensures { λ r. ⌜ r ≡ inSecondary self ⌝ }
+    {
+        self.place >= 24
+    }
+
+    // The number of the first match's entry.
+    pub fn entry(self) -> usize
+        ensures { λ r. ⌜ r ≡ entryOf self ⌝ }
+    {
+        self.place % 8
+    }
+
+    // The matches of this search, then those of a further one.
+    pub fn then(self, further: Search) -> Self
+        ensures { λ r. ⌜ ((ms ns : List Match) → self ≡ summary ms → further ≡ summary ns → r ≡ summary (ms ++ ns)) ⌝ }
+    {
+        if self.place == 0 {
+            return further;
+        }
+        if further.place == 0 {
+            return self;
+        }
+        let r = entry::is_referenced(further.merged);
+        let c = entry::is_changed(further.merged);
+        Self {
+            place: self.place,
+            second: self.second,
+            merged: entry::with_marks(self.merged, r, c),
+            several: true,
+            differs: self.differs | further.differs | !words_agree(self.second, further.second),
         }
     }
 }
 
-// Notes each match of one group: the primary with H = 0, the secondary with H = 1.
-pub fn search_group(group: &[u8], secondary: bool, vsid: u32, api: u32, before: Search) -> Search
-    requires { ⌜ length (now group) ≡ 64 ⌝ }
-    ensures { λ r. ⌜ r ≡ notedAll before (matchesIn secondary vsid api (now (group .entry))) ⌝ }
+// The matches of one group: the primary with H = 0, the secondary with H = 1.
+pub fn search_group(group: &[u8], secondary: bool, vsid: u32, api: u32) -> Search
+    requires { ⌜ (length (now group) ≡ 64) × (vsid < 2 ^ 24) × (api < 2 ^ 6) ⌝ }
+    ensures { λ r. ⌜ r ≡ summary (matchesIn secondary vsid api (now (group .entry))) ⌝ }
 {
     let h = secondary as u32;
-    let mut search = before;
+    let start = if secondary { 24 } else { 16 };
+    let mut search = Search::nothing();
     for i in 0..8 {
-        let first = words::read_word(group, 8 * i);
-        if entry::is_match(first, vsid, h, api) {
-            search = search.note(secondary, i, first, words::read_word(group, 8 * i + 4));
+        if entry::is_match(words::read_word(group, 8 * i), vsid, h, api) {
+            let second = words::read_word(group, 8 * i + 4);
+            search = search.then(Search::one(start + i, second));
         }
     }
     search
 }
 
-// Notes each match of both groups, in search order.
+// The matches of both groups, in search order.
 pub fn search_both(table: &[u8], primary: usize, secondary: usize, vsid: u32, api: u32) -> Search
-    requires { ⌜ (64 * primary + 64 ≤ length (now table)) × (64 * secondary + 64 ≤ length (now table)) ⌝ }
+    requires { ⌜ (64 * primary + 64 ≤ length (now table)) × (64 * secondary + 64 ≤ length (now table)) × (vsid < 2 ^ 24) × (api < 2 ^ 6) ⌝ }
     ensures { λ r. ⌜ r ≡ summary (matchesOf vsid api (groupOf (now (table .entry)) primary) (groupOf (now (table .entry)) secondary)) ⌝ }
 {
     let from = primary * 64;
     let to = from + 64;
-    let first = search_group(&table[from..to], false, vsid, api, Search::nothing());
+    let first = search_group(&table[from..to], false, vsid, api);
     let next = secondary * 64;
     let end = next + 64;
-    search_group(&table[next..end], true, vsid, api, first)
+    first.then(search_group(&table[next..end], true, vsid, api))
 }
 
 // The place of a free entry: whether it is in the secondary group, and its number there.
@@ -186,6 +203,15 @@ pub fn put_entry(table: &mut [u8], group: usize, entry: usize, first: u32, secon
     write_entry(&mut table[from..to], entry, first, second);
 }
 
+// Writes a second word into an entry of a group of the table. The first word is written back as it stands.
+pub fn put_second(table: &mut [u8], group: usize, entry: usize, second: u32)
+    requires { ⌜ (entry < 8) × (64 * group + 64 ≤ length (now table)) ⌝ }
+    ensures { λ _. ⌜ now (table .exit) ≡ putAt (now (table .entry)) group entry (firstOf (now (table .entry)) group entry) second ⌝ }
+{
+    let first = words::read_word(table, group * 64 + 8 * entry);
+    put_entry(table, group, entry, first, second);
+}
+
 // What is done to each match: eight zero bytes, or another PP.
 pub enum Edit {
     Clear,
@@ -211,7 +237,7 @@ pub fn edited_words(edit: Edit, first: u32, second: u32) -> entry::Words
 
 // Edits each match of one group.
 pub fn edit_group(group: &mut [u8], secondary: bool, vsid: u32, api: u32, edit: Edit)
-    requires { ⌜ (EditFits edit) × (length (now group) ≡ 64) ⌝ }
+    requires { ⌜ (EditFits edit) × (length (now group) ≡ 64) × (vsid < 2 ^ 24) × (api < 2 ^ 6) ⌝ }
     ensures { λ _. ⌜ now (group .exit) ≡ editMatches edit secondary vsid api (now (group .entry)) ⌝ }
 {
     let h = secondary as u32;
@@ -233,7 +259,8 @@ pub fn edit_both(
     api: u32,
     edit: Edit,
 )
-    requires { ⌜ (EditFits edit) × (64 * primary + 64 ≤ length (now table)) × (64 * secondary + 64 ≤ length (now table)) ⌝ }
+    requires { ⌜ (EditFits edit) × (64 * primary + 64 ≤ length (now table)) × (64 * secondary + 64 ≤ length (now table))
+        × (vsid < 2 ^ 24) × (api < 2 ^ 6) ⌝ }
     ensures { λ _. ⌜ now (table .exit) ≡ onGroup (onGroup (now (table .entry)) primary (editMatches edit false vsid api)) secondary (editMatches edit true vsid api) ⌝ }
 {
     let from = primary * 64;
@@ -255,7 +282,7 @@ pub fn edit_found(
     edit: Edit,
 )
     requires { ⌜ (EditFits edit) × (64 * primary + 64 ≤ length (now table)) × (64 * secondary + 64 ≤ length (now table))
-        × (primary ≡ secondary → ⊥) × (search .found ≡ true)
+        × (vsid < 2 ^ 24) × (api < 2 ^ 6) × (primary ≡ secondary → ⊥) × (found search ≡ true)
         × (search ≡ summary (matchesOf vsid api (groupOf (now table) primary) (groupOf (now table) secondary))) ⌝ }
     ensures { λ _. ⌜ now (table .exit) ≡ onGroup (onGroup (now (table .entry)) primary (editMatches edit false vsid api)) secondary (editMatches edit true vsid api) ⌝ }
 {
@@ -263,9 +290,16 @@ pub fn edit_found(
         edit_both(table, primary, secondary, vsid, api, edit);
         return;
     }
-    let group = if search.secondary { secondary } else { primary };
-    let made = edited_words(edit, search.first, search.second);
-    put_entry(table, group, search.entry, made.first, made.second);
+    let group = if search.in_secondary() {
+        secondary
+    } else {
+        primary
+    };
+    let entry = search.entry();
+    match edit {
+        Edit::Clear => put_entry(table, group, entry, 0, 0),
+        Edit::Protect(pp) => put_second(table, group, entry, entry::with_pp(search.second, pp)),
+    }
 }
 
 // Zeroes the table.

@@ -3,7 +3,7 @@ use super::located::locate;
 ghost use mathlib.Core.Path.{_≡_};
 ghost use mathlib.Core.Bool.{true, _&&_};
 ghost use mathlib.Core.List.{List, [], _∷_, _++_};
-ghost use Prim.Native.Nat.{ℕ};
+ghost use Prim.Native.Nat.{ℕ, _<_, _^_};
 ghost use lib.Dec.{ltb};
 ghost use lib.ListN.{length};
 ghost use Rattle.registers.specs.Rules.{firstBroken};
@@ -14,24 +14,25 @@ ghost use Rattle.tables.specs.Matches.{Match};
 ghost use Rattle.tables.specs.Layout.{matchesOf};
 ghost use Rattle.translation.specs.Steps.{afterSearch, outcomeOf};
 ghost use Rattle.translation.specs.declared.Early.the-variants.{Search};
+ghost use Rattle.translation.specs.declared.Wanted.{Wanted};
 ghost use Rattle.calls.specs.Request.{access};
 ghost use Rattle.calls.specs.Rules.{argumentOutOfRange, tableLengthWrong};
 ghost use Rattle.calls.specs.Answers.{accessAnswer};
 ghost use Rattle.calls.specs.OnBytes.{layout, ended, wantedPage, searched, markedBy, onBytes};
 
 // The first broken rule after 11, or 0: the arguments' ranges, then the register set, then the table's length.
-fn refusal(set: registers::Registers, mode: u32, kind: u32, lent: usize) -> u32
+fn refusal(words: &[u32; 33], mode: u32, kind: u32, lent: usize) -> u32
     ensures { λ r. ⌜ r ≡ firstBroken (argumentOutOfRange (ltb mode 8 && ltb kind 3)
-        ∷ registerRules 4 11 (set .words) ++ (tableLengthWrong (sdr1Of (set .words)) lent ∷ [])) ⌝ }
+        ∷ registerRules 4 11 (now (words .entry)) ++ (tableLengthWrong (sdr1Of (now (words .entry))) lent ∷ [])) ⌝ }
 {
     if !((mode < 8) & (kind < 3)) {
         return 6;
     }
-    let broken = set.check();
+    let broken = registers::check_words(words);
     if broken != 0 {
         return broken;
     }
-    if lent != registers::table_length(set.words[0]) {
+    if lent != registers::table_length(words[0]) {
         return 1;
     }
     0
@@ -41,7 +42,7 @@ fn refusal(set: registers::Registers, mode: u32, kind: u32, lent: usize) -> u32
 fn searched_of(search: groups::Search) -> translation::Searched
     ensures { λ r. ⌜ ((ms : List Match) → search ≡ summary ms → r ≡ searched ms) ⌝ }
 {
-    if !search.found {
+    if !search.found() {
         return translation::Searched::Nothing;
     }
     if search.differs {
@@ -57,7 +58,7 @@ fn by_page(
     kind: u32,
     wanted: translation::Wanted,
 ) -> translation::Outcome
-    requires { ⌜ (sdr1Shape sdr1 ≡ true) × (length (now table) ≡ tableLength sdr1) ⌝ }
+    requires { ⌜ (sdr1Shape sdr1 ≡ true) × (length (now table) ≡ tableLength sdr1) × (wanted .vsid < 2 ^ 24) × (wanted .index < 2 ^ 16) ⌝ }
     ensures { λ r. ⌜ (r ≡ afterSearch kind (wanted .key) (searched (matchesOf (layout (maskOnes sdr1)) (now (table .entry)) (wantedPage wanted))))
         × (now (table .exit) ≡ markedBy (maskOnes sdr1) kind (Search wanted) r (now (table .entry))) ⌝ }
 {
@@ -65,9 +66,9 @@ fn by_page(
     let search = groups::search_both(table, at.primary, at.secondary, wanted.vsid, at.api);
     let outcome = translation::after_search(kind, wanted.key, searched_of(search));
     if let translation::Outcome::Done(second) = outcome {
-        let group = at.group(search.secondary);
+        let group = at.group(search.in_secondary());
         let marked = entry::with_marks(second, true, kind == translation::STORE);
-        groups::put_entry(table, group, search.entry, search.first, marked);
+        groups::put_second(table, group, search.entry(), marked);
     }
     outcome
 }
@@ -79,7 +80,8 @@ fn decided(
     kind: u32,
     early: translation::Early,
 ) -> translation::Outcome
-    requires { ⌜ (sdr1Shape sdr1 ≡ true) × (length (now table) ≡ tableLength sdr1) ⌝ }
+    requires { ⌜ (sdr1Shape sdr1 ≡ true) × (length (now table) ≡ tableLength sdr1)
+        × ((wanted : Wanted) → early ≡ Search wanted → (wanted .vsid < 2 ^ 24) × (wanted .index < 2 ^ 16)) ⌝ }
     ensures { λ r. ⌜ (r ≡ outcomeOf kind (λ wanted. searched (matchesOf (layout (maskOnes sdr1)) (now (table .entry)) (wantedPage wanted))) early)
         × (now (table .exit) ≡ markedBy (maskOnes sdr1) kind early r (now (table .entry))) ⌝ }
 {
@@ -101,13 +103,14 @@ fn translate(
     ensures { λ r. ⌜ ((answer : List ℕ) → length answer ≡ 16
         → ended (r .result) (now (table .exit)) (accessAnswer r) ≡ onBytes (access (now (page .entry)) mode kind address answer) (now (table .entry))) ⌝ }
 {
-    let set = registers::read_set(page);
-    let number = refusal(set, mode, kind, table.len());
+    let mut words = [0u32; 33];
+    registers::read_words(page, &mut words);
+    let number = refusal(&words, mode, kind, table.len());
     if number != 0 {
         return translation::answer_of(kind, address, translation::Outcome::Refused(number));
     }
-    let early = translation::before_search(set, mode, kind, address);
-    let outcome = decided(table, set.words[0], kind, early);
+    let early = translation::before_search(&words, mode, kind, address);
+    let outcome = decided(table, words[0], kind, early);
     translation::answer_of(kind, address, outcome)
 }
 

@@ -21,8 +21,9 @@ pub extern "C" fn mmu_check(page: &[u8]) -> u32
     if page.len() != 132 {
         return 11;
     }
-    let set = registers::read_set(page);
-    set.check()
+    let mut words = [0u32; 33];
+    registers::read_words(page, &mut words);
+    registers::check_words(&words)
 }
 
 // Replaces one register word of a page.

@@ -71,7 +71,7 @@ fn map_page(sdr1: u32, vsid: u32, index: u32, rpn: u32, wimg: u32, pp: u32, tabl
 {
     let at = locate(sdr1, vsid, index);
     let search = groups::search_both(table, at.primary, at.secondary, vsid, at.api);
-    if search.found {
+    if search.found() {
         return 7;
     }
     match groups::find_free(table, at.primary, at.secondary) {
@@ -87,13 +87,13 @@ fn map_page(sdr1: u32, vsid: u32, index: u32, rpn: u32, wimg: u32, pp: u32, tabl
 
 // Unmaps a page: each match becomes eight zero bytes.
 fn unmap_page(sdr1: u32, vsid: u32, index: u32, table: &mut [u8]) -> WordAnswer
-    requires { ⌜ (sdr1Shape sdr1 ≡ true) × (length (now table) ≡ tableLength sdr1) ⌝ }
+    requires { ⌜ (sdr1Shape sdr1 ≡ true) × (length (now table) ≡ tableLength sdr1) × (vsid < 2 ^ 24) × (index < 2 ^ 16) ⌝ }
     ensures { λ r. ⌜ ended (r .result) (now (table .exit)) (wordAnswer (r .result) (r .word))
         ≡ bytesDo (maskOnes sdr1) (unmap sdr1 (record { vsid = vsid; index = index }) []) (now (table .entry)) ⌝ }
 {
     let at = locate(sdr1, vsid, index);
     let search = groups::search_both(table, at.primary, at.secondary, vsid, at.api);
-    if !search.found {
+    if !search.found() {
         return WordAnswer { result: 8, word: 0 };
     }
     groups::edit_found(
@@ -107,19 +107,19 @@ fn unmap_page(sdr1: u32, vsid: u32, index: u32, table: &mut [u8]) -> WordAnswer
     );
     WordAnswer {
         result: 0,
-        word: entry::with_marks(search.second, search.referenced, search.changed),
+        word: search.merged,
     }
 }
 
 // Puts another PP into each match of a page.
 fn protect_page(sdr1: u32, vsid: u32, index: u32, pp: u32, table: &mut [u8]) -> u32
-    requires { ⌜ (sdr1Shape sdr1 ≡ true) × (length (now table) ≡ tableLength sdr1) × (pp < 2 ^ 2) ⌝ }
+    requires { ⌜ (sdr1Shape sdr1 ≡ true) × (length (now table) ≡ tableLength sdr1) × (vsid < 2 ^ 24) × (index < 2 ^ 16) × (pp < 2 ^ 2) ⌝ }
     ensures { λ r. ⌜ ended r (now (table .exit)) []
         ≡ bytesDo (maskOnes sdr1) (protect sdr1 (record { vsid = vsid; index = index }) pp) (now (table .entry)) ⌝ }
 {
     let at = locate(sdr1, vsid, index);
     let search = groups::search_both(table, at.primary, at.secondary, vsid, at.api);
-    if !search.found {
+    if !search.found() {
         return 8;
     }
     groups::edit_found(
@@ -136,13 +136,13 @@ fn protect_page(sdr1: u32, vsid: u32, index: u32, pp: u32, table: &mut [u8]) -> 
 
 // Looks a page up.
 fn look_page(sdr1: u32, vsid: u32, index: u32, table: &[u8]) -> WordAnswer
-    requires { ⌜ (sdr1Shape sdr1 ≡ true) × (length (now table) ≡ tableLength sdr1) ⌝ }
+    requires { ⌜ (sdr1Shape sdr1 ≡ true) × (length (now table) ≡ tableLength sdr1) × (vsid < 2 ^ 24) × (index < 2 ^ 16) ⌝ }
     ensures { λ r. ⌜ ended (r .result) (now (table .entry)) (wordAnswer (r .result) (r .word))
         ≡ bytesDo (maskOnes sdr1) (look sdr1 (record { vsid = vsid; index = index }) []) (now (table .entry)) ⌝ }
 {
     let at = locate(sdr1, vsid, index);
     let search = groups::search_both(table, at.primary, at.secondary, vsid, at.api);
-    if !search.found {
+    if !search.found() {
         return WordAnswer { result: 8, word: 0 };
     }
     if search.differs {

@@ -3,6 +3,7 @@ ghost use mathlib.Core.Path.{_≡_};
 ghost use mathlib.Core.Bool.{true};
 ghost use Prim.Native.Nat.{_-_, _<_, _^_};
 ghost use lib.ListN.{length};
+ghost use Rattle.words.specs.Words.{wordsAt};
 ghost use Rattle.registers.specs.Sdr1.{sdr1Shape, tableLength, hashBits};
 ghost use Rattle.registers.specs.Segment.{segmentShape};
 ghost use Rattle.registers.specs.Set.{segmentOf, segmentsShape, sideStart, upperOf, lowerOf, sideShape, pairApart, sideApart, checkWords, checkSet, replaced, pageSet, coveringPair};
@@ -60,12 +61,14 @@ pub fn block_shape(side: bool, upper: u32, lower: u32) -> bool
     if !words::low_ones(bl) {
         return false;
     }
+    // W and G, which are zero in an instruction block; a mask by the side, since one mask serves all blocks of a side.
+    let side_zeros = if side { 0 } else { 0x48 };
     let upper_good = ((upper >> 13) & 0xF == 0) & ((upper >> 17) & bl == 0);
     let lower_good = ((lower >> 17) & bl == 0)
         & ((lower >> 7) & 0x3FF == 0)
         & ((lower >> 2) & 1 == 0)
         & ((lower >> 5) & 3 != 3)
-        & (side | (((lower >> 6) & 1 == 0) & ((lower >> 3) & 1 == 0)));
+        & (lower & side_zeros == 0);
     upper_good & lower_good
 }
 
@@ -187,8 +190,34 @@ pub fn check_words(words: &[u32; 33]) -> u32
     0
 }
 
+// The upper word of a pair.
+pub fn upper(words: &[u32; 33], side: bool, i: usize) -> u32
+    requires { ⌜ i < 4 ⌝ }
+    ensures { λ r. ⌜ r ≡ upperOf 4 (now (words .entry)) side i ⌝ }
+{
+    let start = side_start(side);
+    words[start + 2 * i]
+}
+
+// The lower word of a pair.
+pub fn lower(words: &[u32; 33], side: bool, i: usize) -> u32
+    requires { ⌜ i < 4 ⌝ }
+    ensures { λ r. ⌜ r ≡ lowerOf 4 (now (words .entry)) side i ⌝ }
+{
+    let start = side_start(side);
+    words[start + 2 * i + 1]
+}
+
+// A segment register.
+pub fn segment(words: &[u32; 33], i: usize) -> u32
+    requires { ⌜ i < 16 ⌝ }
+    ensures { λ r. ⌜ r ≡ segmentOf (now (words .entry)) i ⌝ }
+{
+    words[1 + i]
+}
+
 // The first pair of a side that covers the address for the user or the supervisor, or 4 where none does.
-pub fn first_covering(words: &[u32; 33], side: bool, user: bool, address: u32) -> usize
+pub fn covering_pair(words: &[u32; 33], side: bool, user: bool, address: u32) -> usize
     ensures { λ r. ⌜ r ≡ coveringPair 4 11 (now (words .entry)) side user address ⌝ }
 {
     let start = side_start(side);
@@ -203,24 +232,6 @@ pub fn first_covering(words: &[u32; 33], side: bool, user: bool, address: u32) -
 }
 
 impl Registers {
-    // The upper word of a pair.
-    pub fn upper(self, side: bool, i: usize) -> u32
-        requires { ⌜ i < 4 ⌝ }
-        ensures { λ r. ⌜ r ≡ upperOf 4 (self .words) side i ⌝ }
-    {
-        let start = side_start(side);
-        self.words[start + 2 * i]
-    }
-
-    // The lower word of a pair.
-    pub fn lower(self, side: bool, i: usize) -> u32
-        requires { ⌜ i < 4 ⌝ }
-        ensures { λ r. ⌜ r ≡ lowerOf 4 (self .words) side i ⌝ }
-    {
-        let start = side_start(side);
-        self.words[start + 2 * i + 1]
-    }
-
     // 0, or the number of the first rule that the set breaks.
     pub fn check(self) -> u32
         ensures { λ r. ⌜ r ≡ checkSet self ⌝ }
@@ -249,29 +260,13 @@ impl Registers {
             set: next,
         }
     }
-
-    // The first pair of a side that covers the address for the user or the supervisor, or 4 where none does.
-    pub fn covering_pair(self, side: bool, user: bool, address: u32) -> usize
-        ensures { λ r. ⌜ r ≡ coveringPair 4 11 (self .words) side user address ⌝ }
-    {
-        first_covering(&self.words, side, user, address)
-    }
-
-    // A segment register.
-    pub fn segment(self, i: usize) -> u32
-        requires { ⌜ i < 16 ⌝ }
-        ensures { λ r. ⌜ r ≡ segmentOf (self .words) i ⌝ }
-    {
-        self.words[1 + i]
-    }
 }
 
-// The register set of a page.
-pub fn read_set(page: &[u8]) -> Registers
-    requires { ⌜ length (now page) ≡ 132 ⌝ }
-    ensures { λ r. ⌜ r ≡ pageSet (now (page .entry)) ⌝ }
+// Reads the words of a register page.
+pub fn read_words(page: &[u8], words: &mut [u32])
+    requires { ⌜ (length (now page) ≡ 132) × (length (now words) ≡ 33) ⌝ }
+    ensures { λ _. ⌜ now (words .exit) ≡ wordsAt (now (page .entry)) 0 33 ⌝ }
 {
-    let mut words = [0u32; 33];
     let mut i: usize = 0;
     // Two short loops of known length, which the compiler unrolls.
     while i < 17 {
@@ -282,5 +277,14 @@ pub fn read_set(page: &[u8]) -> Registers
         words[i] = words::read_word(page, 4 * i);
         i += 1;
     }
+}
+
+// The register set of a page.
+pub fn read_set(page: &[u8]) -> Registers
+    requires { ⌜ length (now page) ≡ 132 ⌝ }
+    ensures { λ r. ⌜ r ≡ pageSet (now (page .entry)) ⌝ }
+{
+    let mut words = [0u32; 33];
+    read_words(page, &mut words);
     Registers { words }
 }

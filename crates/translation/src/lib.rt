@@ -145,12 +145,12 @@ pub fn fault_of(cause: u32, kind: u32) -> Fault
 }
 
 // Step 2 by the block of a pair that covers the address.
-fn block_outcome(set: registers::Registers, kind: u32, address: u32, pair: usize) -> Outcome
+fn block_outcome(words: &[u32; 33], kind: u32, address: u32, pair: usize) -> Outcome
     requires { ⌜ pair < 4 ⌝ }
-    ensures { λ r. ⌜ r ≡ blockOutcome 4 11 (set .words) kind address pair ⌝ }
+    ensures { λ r. ⌜ r ≡ blockOutcome 4 11 (now (words .entry)) kind address pair ⌝ }
 {
-    let upper = set.upper(kind != FETCH, pair);
-    let lower = set.lower(kind != FETCH, pair);
+    let upper = registers::upper(words, kind != FETCH, pair);
+    let lower = registers::lower(words, kind != FETCH, pair);
     if block_allows(lower & 3, kind) {
         Outcome::Block(
             pair as u32,
@@ -173,19 +173,19 @@ fn wanted_of(user: bool, segment: u32, address: u32) -> Wanted
     }
 }
 
-// Steps 1 to 3: real mode, a block, a fetch with N = 1, or else the page to search for.
-pub fn before_search(set: registers::Registers, mode: u32, kind: u32, address: u32) -> Early
-    ensures { λ r. ⌜ r ≡ beforeSearch 4 11 (set .words) mode kind address ⌝ }
+// Steps 1 to 3, by the words of the register set: real mode, a block, a fetch with N = 1, or else the page to search for.
+pub fn before_search(words: &[u32; 33], mode: u32, kind: u32, address: u32) -> Early
+    ensures { λ r. ⌜ r ≡ beforeSearch 4 11 (now (words .entry)) mode kind address ⌝ }
 {
     if !is_relocated(mode, kind) {
         return Early::Decided(Outcome::Real);
     }
     let user = (mode >> 2) & 1 == 1;
-    let pair = set.covering_pair(kind != FETCH, user, address);
+    let pair = registers::covering_pair(words, kind != FETCH, user, address);
     if pair < 4 {
-        return Early::Decided(block_outcome(set, kind, address, pair));
+        return Early::Decided(block_outcome(words, kind, address, pair));
     }
-    let segment = set.segment((address >> 28) as usize);
+    let segment = registers::segment(words, (address >> 28) as usize);
     if (kind == FETCH) & ((segment >> 28) & 1 == 1) {
         return Early::Decided(Outcome::NoExecute);
     }

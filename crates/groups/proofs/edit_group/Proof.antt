@@ -11,7 +11,7 @@ use Rattle.tables.specs.Matches.{matchesBelow}
 use Rattle.groups.specs.Group.{firstAt, secondAt, putEntry}
 use Rattle.groups.specs.Search.{hOf, matchesIn}
 use Rattle.groups.specs.Edit.{editedWords, edited, editEach, editMatches}
-use Rattle.groups.proofs.Matches.{h-is, entryAt, matchesTo, matches-more, matches-same}
+use Rattle.groups.proofs.Matches.{h-is, h-lt, entryAt, matchesTo, matches-more, matches-same}
 use Rattle.groups.proofs.Edits.{edit-more, edit-later, length-edit}
 use Rattle.groups.proofs.edit_group.Statement.{statement}
 use Rattle.groups.proofs.edit_group.Tie as tie
@@ -39,7 +39,9 @@ read-word-requires : tie.Need-read-word-requires Inv-loop μ-loop
 read-word-requires c κs = omega (arith, len (c .before .before))
 
 is-match-requires : tie.Need-is-match-requires Inv-loop μ-loop
-is-match-requires c κs = tt
+is-match-requires c κs =
+    let start = c .before .before .before .before .before in
+    (start .pre .2, h-lt (start .args .secondary), start .pre .3)
 
 mul-read-word-2 : tie.Need-mul-read-word-2 Inv-loop μ-loop
 mul-read-word-2 c = omega arith

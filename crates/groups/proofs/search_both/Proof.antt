@@ -1,8 +1,11 @@
 -- `groups::search_both` meets its contract: the parts that are lent are the two groups, searched one after the other.
-use mathlib.Core.Path.{sym}
-use Rattle.groups.specs.Search.{matchesOf, summary}
+use Prim.Native.Nat.{ℕ}
+use mathlib.Core.Path.{ap, _∙_}
+use mathlib.Core.Bool.{true, false}
+use mathlib.Core.List.{List}
+use Rattle.groups.specs.Group.{groupOf}
+use Rattle.groups.specs.Search.{matchesIn, matchesOf, summary}
 use Rattle.groups.proofs.Lent.{lent-group}
-use Rattle.groups.proofs.Summary.{noted-append}
 use borrow.Author.Needs.{needs}
 use Rattle.groups.proofs.search_both.Statement.{statement}
 use Rattle.groups.proofs.search_both.Tie as tie
@@ -21,9 +24,6 @@ part-search-group-start c = search needs
 
 part-search-group-end : tie.Need-part-search-group-end
 part-search-group-end c = search needs
-
-nothing-requires : tie.Need-nothing-requires
-nothing-requires c κs = search needs
 
 search-group-requires : tie.Need-search-group-requires
 search-group-requires c κs = search needs
@@ -46,19 +46,19 @@ part-search-group-end-2 c = search needs
 search-group-requires-2 : tie.Need-search-group-requires-2
 search-group-requires-2 c κs = search needs
 
+then-requires : tie.Need-then-requires
+then-requires c κs = search needs
+
 returns : tie.Need-returns
-unfolding summary matchesOf
+unfolding matchesOf
 returns c =
-    let a = c .before .before .before .before .before .before .args in
+    let second = c .before in
+    let first = second .before .before in
+    let a = first .before .before .before .args in
     let t = a .table .now in
-    rw (
-      c .search-group2 .ensures,
-      c .before .before .search-group .ensures,
-      c .before .before .before .nothing .ensures,
-      lent-group t (a .primary),
-      lent-group t (a .secondary),
-    )
-    (sym (noted-append _ _ _))
+    c .then .ensures (matchesIn false (a .vsid) (a .api) (groupOf t (a .primary))) (matchesIn true (a .vsid) (a .api) (groupOf t (a .secondary)))
+    (first .search-group .ensures ∙ ap (λ (group : List ℕ). summary (matchesIn false (a .vsid) (a .api) group)) (lent-group t (a .primary)))
+    (second .search-group2 .ensures ∙ ap (λ (group : List ℕ). summary (matchesIn true (a .vsid) (a .api) group)) (lent-group t (a .secondary)))
 
 pub search-both-spec : {M : Type 1} → statement M
 search-both-spec =
@@ -69,7 +69,6 @@ search-both-spec =
     sub-search-group
     part-search-group-start
     part-search-group-end
-    nothing-requires
     search-group-requires
     mul-next
     add-end
@@ -77,4 +76,5 @@ search-both-spec =
     part-search-group-start-2
     part-search-group-end-2
     search-group-requires-2
+    then-requires
     returns)

@@ -1,34 +1,42 @@
--- `groups::search_group` meets its contract. The loop's invariant: the matches among the first i entries are noted.
-use Prim.Native.Nat.{ℕ, _-_, _≤_}
-use mathlib.Core.Path.{_≡_, refl, sym, ap, ap₂, _∙_}
-use mathlib.Core.Bool.{Bool}
+-- `groups::search_group` meets its contract. The loop's invariant: the search tells of the matches among the first i entries.
+use Prim.Native.Nat.{ℕ, _+_, _-_, _≤_}
+use mathlib.Core.Path.{_≡_, sym, ap, ap₂, _∙_}
+use mathlib.Core.Bool.{Bool, true, false, cond}
+use mathlib.Core.List.{[], _∷_}
 use mathlib.Core.Logic.{⊎-elim}
 use native.Mathlib.Omega.{arith}
 use borrow.Author.Needs.{needs}
 use Rattle.entry.specs.Entry.{matches}
-use Rattle.tables.specs.Matches.{Match, matchesBelow}
+use Rattle.tables.specs.Matches.{matchesBelow}
 use Rattle.groups.specs.Group.{firstAt, secondAt}
-use Rattle.groups.specs.Search.{hOf, matchesIn, noted, notedAll}
-use Rattle.groups.proofs.Matches.{h-is, matchesTo, matches-more, matches-same}
-use Rattle.groups.proofs.Summary.{noted-more}
+use Rattle.groups.specs.Search.{hOf, matchesIn, summary}
+use Rattle.groups.proofs.Matches.{h-is, h-lt, entryAt, matchesTo, matches-more, matches-same}
 use Rattle.groups.proofs.search_group.Statement.{statement}
 use Rattle.groups.proofs.search_group.Tie as tie
 
-abbrev matchOf : Bool → ℕ → ℕ → ℕ → Match
-matchOf secondary entry first second = record { secondary = secondary; entry = entry; first = first; second = second }
-
 abbrev Inv-loop : tie.InvT-loop
-Inv-loop group secondary vsid api h search₀ i₀ search i = (i ≤ 8) × (search ≡ notedAll search₀ (matchesTo secondary vsid api group i))
+Inv-loop group secondary vsid api h start search₀ i₀ search i = (i ≤ 8) × (search ≡ summary (matchesTo secondary vsid api group i))
 
 abbrev μ-loop : tie.MeasureT-loop
-μ-loop group secondary vsid api h search₀ i₀ search i = 8 - i
+μ-loop group secondary vsid api h start search₀ i₀ search i = 8 - i
+
+-- where the places of the group begin
+start-is : (c : tie.Joined1 Inv-loop μ-loop) → c .if1 .start ≡ cond (c .before .before .args .secondary) 24 16
+start-is c = ⊎-elim (λ w. w .1 ∙ (rw (w .0 .taken))) (λ w. w .1 ∙ (rw (w .0 .left))) (c .if1 .came)
+
+start-le : (b : Bool) → cond b 24 16 ≤ 24
+start-le true = omega arith
+start-le false = omega arith
 
 cast-h : tie.Need-cast-h Inv-loop μ-loop
 cast-h c = search needs
 
+nothing-requires : tie.Need-nothing-requires Inv-loop μ-loop
+nothing-requires c κs = search needs
+
 loop-holds : tie.Need-loop-holds Inv-loop μ-loop
-unfolding notedAll matchesBelow
-loop-holds c = (omega arith, refl)
+unfolding matchesBelow
+loop-holds c = (omega arith, c .nothing .ensures)
 
 mul-read-word : tie.Need-mul-read-word Inv-loop μ-loop
 mul-read-word c = omega arith
@@ -37,7 +45,9 @@ read-word-requires : tie.Need-read-word-requires Inv-loop μ-loop
 read-word-requires c κs = omega arith
 
 is-match-requires : tie.Need-is-match-requires Inv-loop μ-loop
-is-match-requires c κs = tt
+is-match-requires c κs =
+    let start = c .before .before .before .before .before .before in
+    (start .pre .1, h-lt (start .args .secondary), start .pre .2)
 
 mul-read-word-2 : tie.Need-mul-read-word-2 Inv-loop μ-loop
 mul-read-word-2 c = omega arith
@@ -48,8 +58,16 @@ add-read-word c = omega arith
 read-word-requires-2 : tie.Need-read-word-requires-2 Inv-loop μ-loop
 read-word-requires-2 c κs = omega arith
 
-note-requires : tie.Need-note-requires Inv-loop μ-loop
-note-requires c κs = tt
+add-one : tie.Need-add-one Inv-loop μ-loop
+add-one c =
+    let j = c .before .before .before .before .before .before .before .before in
+    omega (arith, start-is j, start-le (j .before .before .args .secondary))
+
+one-requires : tie.Need-one-requires Inv-loop μ-loop
+one-requires c κs = search needs
+
+then-requires : tie.Need-then-requires Inv-loop μ-loop
+then-requires c κs = search needs
 
 add-i : tie.Need-add-i Inv-loop μ-loop
 add-i c = omega arith
@@ -57,39 +75,43 @@ add-i c = omega arith
 loop-less : tie.Need-loop-less Inv-loop μ-loop
 loop-less c = omega arith
 
-module _ (c : tie.Joined1 Inv-loop μ-loop) where
+module _ (c : tie.Joined2 Inv-loop μ-loop) where
   abbrev at-loop : tie.At-loop Inv-loop μ-loop
   at-loop = c .before .before .before .before
 
+  abbrev joined : tie.Joined1 Inv-loop μ-loop
+  joined = at-loop .before .before
+
   -- the test is whether entry i matches
   tested : c .before .is-match .result
-      ≡ matches (at-loop .before .before .args .vsid) (hOf (at-loop .before .before .args .secondary)) (at-loop .before .before .args .api)
-      (firstAt (at-loop .before .before .args .group .now) (at-loop .loop .i))
+      ≡ matches (joined .before .before .args .vsid) (hOf (joined .before .before .args .secondary)) (joined .before .before .args .api)
+      (firstAt (joined .before .before .args .group .now) (at-loop .loop .i))
   unfolding firstAt
   tested =
-      let a = at-loop .before .before .args in
+      let a = joined .before .before .args in
       c .before .is-match .ensures ∙ ap₂ (λ (h w : ℕ). matches (a .vsid) h (a .api) w) (h-is (a .secondary)) (c .before .before .read-word .ensures)
 
 loop-again : tie.Need-loop-again Inv-loop μ-loop
-unfolding firstAt secondAt
+unfolding secondAt
 loop-again c =
     let l = at-loop c in
-    let a = l .before .before .args in
+    let a = joined c .before .before .args in
     let b = a .secondary in
     let g = a .group .now in
     let i = l .loop .i in
     ⊎-elim
     (λ w. (
       omega arith,
-      w .3 ∙ w .2 .ensures
-          ∙ ap₂ noted (l .loop .inv .1) (ap₂ (λ (u v : ℕ). matchOf b i u v) (c .before .before .read-word .ensures) (w .1 .ensures))
-          ∙ sym (ap (notedAll (a .before)) (matches-more b (a .vsid) (a .api) g i (sym (tested c) ∙ w .0 .taken)) ∙ noted-more _ _ _),
+      w .5
+          ∙ w .4 .ensures (matchesTo b (a .vsid) (a .api) g i) (entryAt b g i ∷ []) (l .loop .inv .1)
+          (w .3 .ensures (entryAt b g i) (ap (λ (n : ℕ). n + i) (start-is (joined c))) (w .1 .ensures))
+          ∙ sym (ap summary (matches-more b (a .vsid) (a .api) g i (sym (tested c) ∙ w .0 .taken))),
     ))
     (λ w. (
       omega arith,
-      w .1 ∙ l .loop .inv .1 ∙ sym (ap (notedAll (a .before)) (matches-same b (a .vsid) (a .api) g i (sym (tested c) ∙ w .0 .left))),
+      w .1 ∙ l .loop .inv .1 ∙ sym (ap summary (matches-same b (a .vsid) (a .api) g i (sym (tested c) ∙ w .0 .left))),
     ))
-    (c .if1 .came)
+    (c .if2 .came)
 
 returns : tie.Need-returns Inv-loop μ-loop
 unfolding matchesIn
@@ -102,6 +124,7 @@ search-group-spec =
     Inv-loop
     μ-loop
     cast-h
+    nothing-requires
     loop-holds
     mul-read-word
     read-word-requires
@@ -109,7 +132,9 @@ search-group-spec =
     mul-read-word-2
     add-read-word
     read-word-requires-2
-    note-requires
+    add-one
+    one-requires
+    then-requires
     add-i
     loop-less
     loop-again

@@ -10,7 +10,7 @@ use Rattle.registers.specs.Sdr1.{sdr1Shape, tableLength, maskOnes, hashBits}
 use Rattle.groups.specs.Page.{Page}
 use Rattle.groups.specs.Hash.{groupNumber}
 use Rattle.groups.specs.Group.{groupOf, onGroup, putAt, freePlace}
-use Rattle.groups.specs.Search.{hOf, matchesOf, summary}
+use Rattle.groups.specs.Search.{matchesOf, summary}
 use Rattle.groups.specs.Edit.{editMatches}
 use Rattle.groups.specs.declared.Edit.{Edit}
 use Rattle.groups.specs.declared.Place.{Place}
@@ -38,16 +38,21 @@ module _ (sdr1 : ℕ) (page : Page) where
   inside lent shape right b = rw right (within-table sdr1 (groupNumber (10 + maskOnes sdr1) b page) shape (group-lt (10 + maskOnes sdr1) page b))
 
   module _ (at : Located) (e : at ≡ located sdr1 page) where
+    pub api-lt : page .index < 2 ^ 16 → at .api < 2 ^ 6
+    unfolding apiOf
+    api-lt h = rw e (omega arith)
+
     pub both-inside : (lent : ℕ) → sdr1Shape sdr1 ≡ true → lent ≡ tableLength sdr1 → (64 * at .primary + 64 ≤ lent) × (64 * at .secondary + 64 ≤ lent)
     both-inside lent shape right = rw e (inside lent shape right false, inside lent shape right true)
+
+    -- what a search of the page's groups asks
+    pub searchable : (lent : ℕ) → sdr1Shape sdr1 ≡ true → lent ≡ tableLength sdr1 → page .vsid < 2 ^ 24 → page .index < 2 ^ 16
+        → (64 * at .primary + 64 ≤ lent) × (64 * at .secondary + 64 ≤ lent) × (page .vsid < 2 ^ 24) × (at .api < 2 ^ 6)
+    searchable lent shape right v i = let (p, s) = both-inside lent shape right in (p, s, v, api-lt i)
 
     pub groups-apart : at .primary ≡ at .secondary → ⊥
     groups-apart q =
         own-groups-differ (10 + maskOnes sdr1) page (omega arith) (sym (ap (λ (l : Located). l .secondary) e) ∙ sym q ∙ ap (λ (l : Located). l .primary) e)
-
-    pub api-lt : page .index < 2 ^ 16 → at .api < 2 ^ 6
-    unfolding apiOf
-    api-lt h = rw e (omega arith)
 
     pub group-is : (b : Bool) (g : ℕ) → g ≡ cond b (at .secondary) (at .primary) → g ≡ groupNumber (10 + maskOnes sdr1) b page
     group-is true g q = q ∙ ap (λ (l : Located). l .secondary) e
@@ -88,11 +93,3 @@ place-lt p s place b i q f = go (freePlace p s) (place-case p s) (sym q ∙ f)
     go found (in-primary j n l) e = let z : i ≡ j = cc in omega arith
     go found (in-secondary j m n l) e = let z : i ≡ j = cc in omega arith
     go found (nowhere m n) e = absurd (let z : _≡_ {A = ℕ} 0 1 = cc in omega arith)
-
--- H as the code makes it of a side
-pub h-lt : (b : Bool) → boolByte b < 2
-h-lt b = rw (h-is b) (go b)
-  where
-    go : (b : Bool) → hOf b < 2
-    go true = omega arith
-    go false = omega arith

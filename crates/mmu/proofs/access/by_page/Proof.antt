@@ -8,11 +8,13 @@ use mathlib.Core.List.{List, [], _∷_}
 use Prim.Native.Nat.{ℕ, _+_, _*_, _≤_}
 use lib.ListN.{length}
 use Rattle.entry.specs.Entry.{withMarks}
+use Rattle.entry.proofs.Addresses.{api-lt}
 use Rattle.registers.specs.Sdr1.{maskOnes, hashBits}
-use Rattle.groups.specs.Group.{putAt}
+use Rattle.groups.specs.Group.{firstOf, putAt}
 use Rattle.groups.specs.Hash.{groupNumber}
-use Rattle.groups.specs.Search.{summary}
+use Rattle.groups.specs.Search.{summary, inSecondary, entryOf}
 use Rattle.groups.proofs.Hash.{group-lt, within-table}
+use Rattle.groups.proofs.Summary.{summary-entry-lt}
 use Rattle.tables.specs.Layout.{matchesOf}
 use Rattle.translation.specs.Access.{storing}
 use Rattle.translation.specs.Steps.{afterSearch}
@@ -22,7 +24,7 @@ use Rattle.translation.proofs.Outcome.{the-type}
 use Rattle.calls.specs.Answers.{doneByPage}
 use Rattle.calls.specs.OnBytes.{layout, wantedPage, searched}
 use Rattle.calls.proofs.OnBytes.{matches-by-groups}
-use Rattle.calls.proofs.Access.{done-by-first, unmarked, first-entry-lt, marked-done}
+use Rattle.calls.proofs.Access.{done-by-first, unmarked, marked-done}
 use Rattle.mmu.proofs.access.by_page.Statement.{statement}
 use Rattle.mmu.proofs.access.by_page.Tie as tie
 
@@ -71,11 +73,13 @@ outcome-is c =
 
 -- the group that is written is the one of the first match
 group-is : (c : tie.After-group) →
-    let at-both = c .before .before .before .before .before .before in
+    let at-both = c .before .before .before .before .before .before .before in
     let a = at-both .before .before .before .before .args in
-    c .group .result ≡ groupNumber (10 + maskOnes (a .sdr1)) (at-both .search-both .result .secondary) (wantedPage (a .wanted))
+    c .group .result ≡ groupNumber (10 + maskOnes (a .sdr1)) (inSecondary (at-both .search-both .result)) (wantedPage (a .wanted))
 unfolding groupNumber
-group-is c = rw (c .before .before .before .before .before .before .before .before .locate .ensures) at (c .group .ensures)
+group-is c =
+    let at-both = c .before .before .before .before .before .before .before in
+    rw (at-both .before .before .locate .ensures, c .before .in-secondary .ensures) at (c .group .ensures)
 
 locate-requires : tie.Need-locate-requires
 locate-requires c κs = search needs
@@ -84,7 +88,7 @@ search-both-requires : tie.Need-search-both-requires
 search-both-requires c κs =
     let at-locate = c .before in
     let start = at-locate .before .before in
-    rw (at-locate .locate .ensures) (within start false, within start true)
+    rw (at-locate .locate .ensures) (within start false, within start true, start .pre .2, api-lt (start .args .wanted .index) (start .pre .3))
 
 searched-of-requires : tie.Need-searched-of-requires
 searched-of-requires c κs = search needs
@@ -95,19 +99,25 @@ after-search-requires c κs = search needs
 enum-known-outcome : tie.Need-enum-known-outcome
 enum-known-outcome c = search needs
 
+in-secondary-requires : tie.Need-in-secondary-requires
+in-secondary-requires c κs = search needs
+
 group-requires : tie.Need-group-requires
 group-requires c κs = search needs
 
 with-marks-requires : tie.Need-with-marks-requires
 with-marks-requires c κs = search needs
 
-put-entry-requires : tie.Need-put-entry-requires
-put-entry-requires c κs =
-    let at-group = c .before .before in
-    let at-both = at-group .before .before .before .before .before .before in
+entry-requires : tie.Need-entry-requires
+entry-requires c κs = search needs
+
+put-second-requires : tie.Need-put-second-requires
+put-second-requires c κs =
+    let at-group = c .before .before .before in
+    let at-both = at-group .before .before .before .before .before .before .before in
     let start = at-both .before .before .before .before in
     let s = at-both .search-both .result in
-    (first-entry-lt (maskOnes (start .args .sdr1)) (start .args .wanted) (start .args .table .now) s (noted-are at-both), rw (group-is at-group) (within start (s .secondary)))
+    (rw (c .entry .ensures) (summary-entry-lt s), rw (group-is at-group) (within start (inSecondary s)))
 
 same-length : tie.Need-same-length
 same-length c = search needs
@@ -115,19 +125,23 @@ same-length c = search needs
 returns : tie.Need-returns
 unfolding storing
 returns c =
-    let at-marks = c .before .before .before .before in
+    let at-put = c .before .before in
+    let at-entry = at-put .before in
+    let at-marks = at-entry .before .before in
     let at-group = at-marks .before in
-    let at-outcome = at-group .before .before in
+    let at-outcome = at-group .before .before .before in
     let at-after = at-outcome .before .before in
     let at-both = at-after .before .before in
     let s = at-both .search-both .result in
     let a = at-both .before .before .before .before .args in
     let second = at-outcome .outcome .given .0 .0 in
     let done = sym (at-outcome .outcome .given .1) ∙ outcome-is at-after in
-    let first = done-by-first s _ (noted-are at-both) (a .kind) (a .wanted .key) second (sym done) in (
+    let first = done-by-first s _ (noted-are at-both) (a .kind) (a .wanted .key) second (sym done) in
+    let put : ℕ → ℕ → ℕ → List ℕ = λ g i w. putAt (a .table .now) g i (firstOf (a .table .now) g i) w in (
       done,
-      c .before .before .put-entry .ensures
-          ∙ ap₂ (λ (g w : ℕ). putAt (a .table .now) g (s .entry) (s .first) w) (group-is at-group)
+      at-put .put-second .ensures
+          ∙ ap₂ (λ (g i : ℕ). put g i (at-marks .with-marks .result)) (group-is at-group) (at-entry .entry .ensures)
+          ∙ ap (put (groupNumber (10 + maskOnes (a .sdr1)) (inSecondary s) (wantedPage (a .wanted))) (entryOf s))
           (at-marks .with-marks .ensures ∙ ap (withMarks true (storing (a .kind))) (sym (first .word)))
           ∙ sym (marked-done (maskOnes (a .sdr1)) (a .wanted) (a .table .now) s (noted-are at-both) (a .kind) second (first .found)),
     )
@@ -147,9 +161,11 @@ by-page-spec =
     searched-of-requires
     after-search-requires
     enum-known-outcome
+    in-secondary-requires
     group-requires
     with-marks-requires
-    put-entry-requires
+    entry-requires
+    put-second-requires
     same-length
     returns
     same-length-2

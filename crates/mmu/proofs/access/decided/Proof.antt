@@ -13,7 +13,11 @@ enum-known-early-2 : tie.Need-enum-known-early-2
 enum-known-early-2 c = search needs
 
 by-page-requires : tie.Need-by-page-requires
-by-page-requires c κs = search needs
+by-page-requires c κs =
+    let known = c .before .before in
+    let start = known .before .before .before in
+    let range = start .pre .2 (known .early2 .given .0 .0) (known .early2 .given .1) in
+    (start .pre .0, start .pre .1, range .0, range .1)
 
 returns : tie.Need-returns
 returns c = rw (c .before .early .given .1) (sym (outcome-decided _ _ _), sym (unmarked-decided _ _ _ _ _))

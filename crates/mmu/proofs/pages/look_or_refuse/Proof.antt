@@ -1,6 +1,6 @@
 -- `mmu::pages::look_or_refuse` meets its contract: the work is done on a table of right length.
 use mathlib.Core.Path.{sym, _∙_}
-use Rattle.calls.proofs.PageCalls.{kept, look-refused, look-taken}
+use Rattle.calls.proofs.PageCalls.{kept, page-ranges, look-refused, look-taken}
 use borrow.Author.Needs.{needs}
 use Rattle.mmu.proofs.pages.look_or_refuse.Statement.{statement}
 use Rattle.mmu.proofs.pages.look_or_refuse.Tie as tie
@@ -17,7 +17,8 @@ returns c answer sixteen = sym (look-refused _ _ _ _ (c .before .before .page-in
 look-page-requires : tie.Need-look-page-requires
 look-page-requires c κs =
     let k = kept (c .before .before .page-in-range .result) _ _ (sym (c .before .page-refusal .ensures) ∙ c .if1 .left) in
-    (k .shape, k .right-length)
+    let (vsid, index) = page-ranges _ _ (c .before .before .page-in-range .ensures) (k .in-range) in
+    (k .shape, k .right-length, vsid, index)
 
 returns-2 : tie.Need-returns-2
 returns-2 c answer sixteen =

@@ -7,7 +7,8 @@ use Rattle.entry.specs.Entry.{secondWord}
 use Rattle.registers.specs.Sdr1.{maskOnes}
 use Rattle.calls.specs.OnBytes.{ended}
 use Rattle.calls.proofs.PageCalls.{pageSearch, map-matched, map-full, map-placed}
-use Rattle.mmu.proofs.located.AtPage.{both-inside, api-lt, group-inside, search-is, free-is, placed-is, place-lt, h-lt}
+use Rattle.groups.proofs.Matches.{h-lt}
+use Rattle.mmu.proofs.located.AtPage.{both-inside, searchable, api-lt, group-inside, search-is, free-is, placed-is, place-lt}
 use borrow.Author.Needs.{needs}
 use Rattle.mmu.proofs.pages.map_page.Statement.{statement}
 use Rattle.mmu.proofs.pages.map_page.Tie as tie
@@ -18,7 +19,7 @@ locate-requires c κs = search needs
 search-both-requires : tie.Need-search-both-requires
 search-both-requires c κs =
     let start = c .before .before .before in
-    both-inside _ _ _ (c .before .locate .ensures) _ (start .pre .0) (start .pre .1)
+    searchable _ _ _ (c .before .locate .ensures) _ (start .pre .0) (start .pre .1) (start .pre .2) (start .pre .3)
 
 -- the search is the page's
 told : (c : tie.After-search-both) →
@@ -26,15 +27,18 @@ told : (c : tie.After-search-both) →
     c .search-both .result ≡ pageSearch (maskOnes (a .sdr1)) (a .table .now) (record { vsid = a .vsid; index = a .index })
 told c = search-is _ _ _ (c .before .before .locate .ensures) _ _ (c .search-both .ensures)
 
+found-requires : tie.Need-found-requires
+found-requires c κs = search needs
+
 same-length : tie.Need-same-length
 same-length c = search needs
 
 returns : tie.Need-returns
-returns c = sym (map-matched _ _ _ _ (told (c .before)) _ _ _ _ (c .if1 .taken))
+returns c = sym (map-matched _ _ _ _ (told (c .before .before)) _ _ _ _ (sym (c .before .found .ensures) ∙ c .if1 .taken))
 
 find-free-requires : tie.Need-find-free-requires
 find-free-requires c κs =
-    let l = c .before .before .before .before in
+    let l = c .before .before .before .before .before in
     let start = l .before .before in
     both-inside _ _ _ (l .locate .ensures) _ (start .pre .0) (start .pre .1)
 
@@ -46,7 +50,7 @@ cast-first-word c = search needs
 
 first-word-requires : tie.Need-first-word-requires
 first-word-requires c κs =
-    let l = c .before .before .before .before .before .before .before .before in
+    let l = c .before .before .before .before .before .before .before .before .before in
     let start = l .before .before in
     (omega arith, start .pre .2, h-lt (c .before .secondary .given .0 .0), api-lt _ _ _ (l .locate .ensures) (start .pre .3))
 
@@ -60,7 +64,7 @@ put-entry-requires : tie.Need-put-entry-requires
 put-entry-requires c κs =
     let place = c .before .before .before .before .before in
     let free = place .before .before in
-    let l = free .before .before .before .before .before in
+    let l = free .before .before .before .before .before .before in
     let start = l .before .before in (
       place-lt _ _ _ _ _ (free .find-free .ensures) (place .secondary .given .1),
       group-inside _ _ _ (l .locate .ensures) _ (start .pre .0) (start .pre .1) (place .secondary .given .0 .0) _ (c .group .ensures),
@@ -81,7 +85,7 @@ returns-2 c =
     let place = first .before .before in
     let free = place .before .before in
     let none = free .before .before in
-    let s = none .before in
+    let s = none .before .before in
     let l = s .before .before in
     let a = l .before .before .args in
     let secondary = place .secondary .given .0 .0 in
@@ -89,7 +93,7 @@ returns-2 c =
     ap (λ (t : List ℕ). ended 0 t [])
     (placed-is _ _ _ (l .locate .ensures) _ secondary entry (g .group .result) (first .first-word .result) (second .second-word .result)
     (secondWord (a .rpn) 0 0 (a .wimg) (a .pp)) _ (g .group .ensures) (first .first-word .ensures) (second .second-word .ensures) (put .put-entry .ensures))
-    ∙ sym (map-placed _ _ _ _ (told s) _ _ _ _ (none .if1 .left) secondary entry (free-is _ _ _ (l .locate .ensures) _ _ _ (free .find-free .ensures) (place .secondary .given .1)))
+    ∙ sym (map-placed _ _ _ _ (told s) _ _ _ _ (sym (none .before .found .ensures) ∙ none .if1 .left) secondary entry (free-is _ _ _ (l .locate .ensures) _ _ _ (free .find-free .ensures) (place .secondary .given .1)))
 
 same-length-3 : tie.Need-same-length-3
 same-length-3 c = search needs
@@ -98,9 +102,9 @@ returns-3 : tie.Need-returns-3
 returns-3 c =
     let free = c .before .before in
     let none = free .before .before in
-    let s = none .before in
+    let s = none .before .before in
     let l = s .before .before in
-    sym (map-full _ _ _ _ (told s) _ _ _ _ (none .if1 .left) (free-is _ _ _ (l .locate .ensures) _ _ _ (free .find-free .ensures) (c .enum-told .given .1)))
+    sym (map-full _ _ _ _ (told s) _ _ _ _ (sym (none .before .found .ensures) ∙ none .if1 .left) (free-is _ _ _ (l .locate .ensures) _ _ _ (free .find-free .ensures) (c .enum-told .given .1)))
 
 pub map-page-spec : {M : Type 1} → statement M
 map-page-spec =
@@ -108,6 +112,7 @@ map-page-spec =
     (tie.spec
     locate-requires
     search-both-requires
+    found-requires
     same-length
     returns
     find-free-requires

@@ -3,7 +3,9 @@ use mathlib.Core.Path.{sym, _∙_}
 use mathlib.Core.Bool.{_&&_}
 use Prim.Native.Nat.{_^_}
 use lib.Dec.{ltb}
-use Rattle.calls.proofs.PageCalls.{kept, protect-range, protect-refused, protect-taken}
+use Rattle.calls.proofs.PageCalls.{kept, page-ranges, protect-refused, protect-taken}
+use borrow.Author.Tests.{ltb-true}
+use Rattle.words.proofs.Tests.{both}
 use borrow.Author.Needs.{needs}
 use Rattle.mmu.proofs.pages.mmu_protect.Statement.{statement}
 use Rattle.mmu.proofs.pages.mmu_protect.Tie as tie
@@ -23,7 +25,9 @@ protect-page-requires c κs =
     let a = n .before .before .before .args in
     let in-range = n .before .page-in-range .result in
     let k = kept (in-range && ltb (a .pp) (2 ^ 2)) _ _ (sym (n .page-refusal .ensures) ∙ c .before .if1 .left) in
-    (k .shape, k .right-length, protect-range in-range _ (k .in-range))
+    let (in-page, pp) = both in-range (ltb (a .pp) (2 ^ 2)) (k .in-range) in
+    let (vsid, index) = page-ranges _ in-range (n .before .page-in-range .ensures) in-page in
+    (k .shape, k .right-length, vsid, index, ltb-true (a .pp) (2 ^ 2) pp)
 
 same-length : tie.Need-same-length
 same-length c = search needs

@@ -7,7 +7,7 @@ use Rattle.registers.specs.Sdr1.{maskOnes}
 use Rattle.groups.specs.declared.Edit.the-variants.{Protect}
 use Rattle.calls.specs.OnBytes.{ended}
 use Rattle.calls.proofs.PageCalls.{pageSearch, protect-missing, protect-done}
-use Rattle.mmu.proofs.located.AtPage.{inside, both-inside, groups-apart, search-is, edited-is}
+use Rattle.mmu.proofs.located.AtPage.{inside, searchable, groups-apart, search-is, edited-is}
 use borrow.Author.Needs.{needs}
 use Rattle.mmu.proofs.pages.protect_page.Statement.{statement}
 use Rattle.mmu.proofs.pages.protect_page.Tie as tie
@@ -18,7 +18,7 @@ locate-requires c κs = search needs
 search-both-requires : tie.Need-search-both-requires
 search-both-requires c κs =
     let start = c .before .before .before in
-    both-inside _ _ _ (c .before .locate .ensures) _ (start .pre .0) (start .pre .1)
+    searchable _ _ _ (c .before .locate .ensures) _ (start .pre .0) (start .pre .1) (start .pre .2) (start .pre .3)
 
 -- the search is the page's
 told : (c : tie.After-search-both) →
@@ -26,18 +26,22 @@ told : (c : tie.After-search-both) →
     c .search-both .result ≡ pageSearch (maskOnes (a .sdr1)) (a .table .now) (record { vsid = a .vsid; index = a .index })
 told c = search-is _ _ _ (c .before .before .locate .ensures) _ _ (c .search-both .ensures)
 
+found-requires : tie.Need-found-requires
+found-requires c κs = search needs
+
 same-length : tie.Need-same-length
 same-length c = search needs
 
 returns : tie.Need-returns
-returns c = sym (protect-missing _ _ _ _ (told (c .before .before)) _ _ (not-true _ (c .if1 .taken)))
+returns c = sym (protect-missing _ _ _ _ (told (c .before .before)) _ _ (sym (c .before .found .ensures) ∙ not-true _ (c .if1 .taken)))
 
 edit-found-requires : tie.Need-edit-found-requires
 edit-found-requires c κs =
-    let l = c .before .before .before .before .before in
+    let told = c .before .before in
+    let l = told .before .before .before in
     let start = l .before .before in
-    let (first, second) = both-inside _ _ _ (l .locate .ensures) _ (start .pre .0) (start .pre .1) in
-    (start .pre .2, first, second, groups-apart _ _ _ (l .locate .ensures), not-false _ (c .before .if1 .left), c .before .before .before .search-both .ensures)
+    let (first, second, vsid, api) = searchable _ _ _ (l .locate .ensures) _ (start .pre .0) (start .pre .1) (start .pre .2) (start .pre .3) in
+    (start .pre .4, first, second, vsid, api, groups-apart _ _ _ (l .locate .ensures), sym (told .found .ensures) ∙ not-false _ (c .before .if1 .left), told .before .search-both .ensures)
 
 same-length-2 : tie.Need-same-length-2
 same-length-2 c = search needs
@@ -45,11 +49,12 @@ same-length-2 c = search needs
 returns-2 : tie.Need-returns-2
 returns-2 c =
     let e = c .before .before in
-    let s = e .before .before .before .before in
+    let found = e .before .before .before in
+    let s = found .before in
     let l = s .before .before in
     let start = l .before .before in
     ap (λ (t : List ℕ). ended 0 t []) (edited-is _ _ _ (l .locate .ensures) _ (Protect (start .args .pp)) _ (e .edit-found .ensures))
-    ∙ sym (protect-done _ _ _ _ (told s) (inside _ _ _ (start .pre .0) (start .pre .1)) (not-false _ (e .before .before .if1 .left)) _ _)
+    ∙ sym (protect-done _ _ _ _ (told s) (inside _ _ _ (start .pre .0) (start .pre .1)) (sym (found .found .ensures) ∙ not-false _ (e .before .before .if1 .left)) _ _)
 
 pub protect-page-spec : {M : Type 1} → statement M
 protect-page-spec =
@@ -57,6 +62,7 @@ protect-page-spec =
     (tie.spec
     locate-requires
     search-both-requires
+    found-requires
     same-length
     returns
     edit-found-requires

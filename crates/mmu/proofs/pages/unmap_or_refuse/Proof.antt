@@ -1,6 +1,6 @@
 -- `mmu::pages::unmap_or_refuse` meets its contract: the work is done on a table of right length.
 use mathlib.Core.Path.{sym, _∙_}
-use Rattle.calls.proofs.PageCalls.{kept, unmap-refused, unmap-taken}
+use Rattle.calls.proofs.PageCalls.{kept, page-ranges, unmap-refused, unmap-taken}
 use borrow.Author.Needs.{needs}
 use Rattle.mmu.proofs.pages.unmap_or_refuse.Statement.{statement}
 use Rattle.mmu.proofs.pages.unmap_or_refuse.Tie as tie
@@ -18,7 +18,8 @@ unmap-page-requires : tie.Need-unmap-page-requires
 unmap-page-requires c κs =
     let r = c .before .before in
     let k = kept (r .before .page-in-range .result) _ _ (sym (r .page-refusal .ensures) ∙ c .before .if1 .left) in
-    (k .shape, k .right-length)
+    let (vsid, index) = page-ranges _ _ (r .before .page-in-range .ensures) (k .in-range) in
+    (k .shape, k .right-length, vsid, index)
 
 same-length : tie.Need-same-length
 same-length c = search needs

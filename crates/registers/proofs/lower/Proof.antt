@@ -1,9 +1,9 @@
--- `registers::Registers::lower` meets its contract: a side's pairs end with the set.
+-- `registers::lower` meets its contract: a side's pairs end with the set.
 use native.Mathlib.Omega.{arith}
 use Rattle.registers.proofs.Set.{start-at-most}
 use borrow.Author.Needs.{needs}
-use Rattle.registers.proofs.Registers.lower.Statement.{statement}
-use Rattle.registers.proofs.Registers.lower.Tie as tie
+use Rattle.registers.proofs.lower.Statement.{statement}
+use Rattle.registers.proofs.lower.Tie as tie
 
 side-start-requires : tie.Need-side-start-requires
 side-start-requires c κs = search needs

@@ -1,4 +1,4 @@
--- `registers::first_covering` meets its contract. The invariant: no pair that was passed covers the address.
+-- `registers::covering_pair` meets its contract. The invariant: no pair that was passed covers the address.
 use borrow.Author.Needs.{needs}
 use borrow.Author.Count.{below-none, below-more}
 use mathlib.Core.Path.{_≡_, sym, ap, _∙_}
@@ -10,8 +10,8 @@ use Rattle.words.proofs.Below.{first-found, first-none}
 use Rattle.registers.specs.Block.{covers}
 use Rattle.registers.specs.Set.{pairCovers, coveringPair}
 use Rattle.registers.proofs.Set.{start-at-most}
-use Rattle.registers.proofs.first_covering.Statement.{statement}
-use Rattle.registers.proofs.first_covering.Tie as tie
+use Rattle.registers.proofs.covering_pair.Statement.{statement}
+use Rattle.registers.proofs.covering_pair.Tie as tie
 
 abbrev Inv-loop : tie.InvT-loop
 Inv-loop words side user address start i₀ i = (i ≤ 4) × ((k : ℕ) → k < i → pairCovers 4 11 words side user address k ≡ false)
@@ -75,8 +75,8 @@ returns-2 c =
     let end : c .before .loop .i ≡ 4 = omega arith in
     sym (first-none _ 4 (rw end at (c .before .loop .inv .1)))
 
-pub first-covering-spec : {M : Type 1} → statement M
-first-covering-spec =
+pub covering-pair-spec : {M : Type 1} → statement M
+covering-pair-spec =
     tie.close
     (tie.spec
     Inv-loop

@@ -1,0 +1,12 @@
+-- `groups::Search::in_secondary` meets its contract: places from 24 on.
+use mathlib.Core.Path.{refl}
+use Rattle.groups.specs.Search.{inSecondary}
+use Rattle.groups.proofs.Search.in_secondary.Statement.{statement}
+use Rattle.groups.proofs.Search.in_secondary.Tie as tie
+
+returns : tie.Need-returns
+unfolding inSecondary
+returns c = refl
+
+pub in-secondary-spec : {M : Type 1} → statement M
+in-secondary-spec = tie.close (tie.spec returns)

@@ -1,0 +1,88 @@
+#!/usr/bin/env python3
+"""Counts the lines of the definitions that a reader of the contracts and statements must believe.
+
+From the names below it follows what each definition cites, over the files of crates/*/specs. A line counts if it is text: imports, comments,
+empty lines and `unfolding` lines do not. With --list it prints each definition and its lines.
+
+Not followed: the statements themselves and their rows, which are proved and not believed; and what is proved by its type
+(`Decision`: a decision of type `Dec (Arrangement ..)` is right whatever its text).
+"""
+import glob
+import os
+import re
+import sys
+
+ROOT = os.path.join(os.path.dirname(os.path.abspath(__file__)), "..", "crates")
+
+# What the ten contracts cite, and the statements of demands 2 and 3.
+START = [
+    ("calls", "OnBytes", ["ended", "onBytes"]),
+    ("calls", "Lent", ["left"]),
+    ("calls", "WithoutTable", ["checkCall", "setRegisterCall", "packCall", "unpackCall"]),
+    ("calls", "Theorem", ["TableRefinesMap", "AccessFollowsHistory"]),
+    ("translation", "Stated", ["AccessAsStated"]),
+]
+STATEMENTS = {"Theorem", "Stated", "RoundTrip", "Blocks"}
+PROVED_BY_TYPE = {"Decision"}
+ROWS = {"Tables", "PageRows", "FourGroups", "Rows", "Cases"}
+
+WORD = re.compile(r"[^\s(){},;.]+")
+USE = re.compile(r"use Rattle·(\w+)(?:·specs)?\.(?:specs\.)+(?:declared\.)?(\w+)(?:\.the-variants)?\.\{([^}]*)\}")
+HEAD = re.compile(r"(?:abbrev |unfoldable )?(?:pub )?(?:record |data )?([^\s(){}:]+)\s*(?:[({:]|$)")
+
+
+def is_text(line):
+    return bool(line) and not line.startswith(("--", "use ", "unfolding ", "module _ "))
+
+
+def read(path):
+    """What a file imports, name by name, and its definitions: name to lines and words."""
+    text = open(path, encoding="utf-8").read()
+    imported = {}
+    for crate, module, names in USE.findall(text):
+        for name in names.split(","):
+            imported[name.strip()] = (crate, module)
+    definitions, block = {}, []
+    for line in [each.strip() for each in text.split("\n")] + [""]:
+        if is_text(line):
+            block.append(line)
+        elif not line and block:
+            names = [HEAD.match(each).group(1) for each in block if re.match(r"(?:abbrev|unfoldable|pub|record|data) ", each) and HEAD.match(each)]
+            words = {word for each in block for word in WORD.findall(each)}
+            for name in names:
+                definitions.setdefault(name, []).append((tuple(block), words))
+            block = []
+    return imported, definitions
+
+
+def main():
+    files = {}
+    for path in glob.glob(os.path.join(ROOT, "*", "specs", "*.antt")):
+        files[(path.split(os.sep)[-3], os.path.basename(path)[:-5])] = read(path)
+    queue = [(crate, module, name) for crate, module, names in START for name in names]
+    seen, kept = set(), {}
+    while queue:
+        crate, module, name = queue.pop()
+        if (crate, module, name) in seen or (crate, module) not in files or module in PROVED_BY_TYPE | ROWS:
+            continue
+        seen.add((crate, module, name))
+        imported, definitions = files[(crate, module)]
+        if name not in definitions:
+            continue
+        for lines, words in definitions[name]:
+            kept[(crate, module, lines)] = name
+            for word in words:
+                queue.append((*imported[word], word) if word in imported else (crate, module, word))
+    count, listed = {"definitions": 0, "statements": 0}, []
+    for (crate, module, lines), name in kept.items():
+        kind = "statements" if module in STATEMENTS else "definitions"
+        count[kind] += len(lines)
+        listed.append((kind, crate, module, name, len(lines)))
+    if "--list" in sys.argv[1:]:
+        for kind, crate, module, name, lines in sorted(listed):
+            print(f"{lines:4} {kind:12} {crate}/{module} {name}")
+    print(f"{count['definitions']} lines of definitions, {count['statements']} lines of statements")
+
+
+if __name__ == "__main__":
+    main()

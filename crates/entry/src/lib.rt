@@ -1,7 +1,8 @@
 // A page table entry: its two words packed and unpacked, the match test, the marks R and C, PP, and the physical address that it gives.
 ghost use mathlib.Core.Path.{_≡_};
 ghost use Prim.Native.Nat.{_<_, _^_};
-ghost use Rattle.entry.specs.Entry.{firstWord, secondWord, withinWidths, packed, unpacked, matches, free};
+ghost use Rattle.words.specs.Words.{swapped};
+ghost use Rattle.entry.specs.Entry.{firstWord, secondWord, withinWidths, packed, unpacked, free};
 ghost use Rattle.entry.specs.Entry.{referenced, changed, withMarks, withPP, physicalAddress, pageIndex, apiOf};
 
 // The fields of an entry.
@@ -100,12 +101,13 @@ pub fn unpack(first: u32, second: u32) -> Fields
     }
 }
 
-// Whether the entry of a first word matches: V is 1, and VSID, H and API agree. These four are the whole word, so one comparison tells.
-pub fn is_match(first: u32, vsid: u32, h: u32, api: u32) -> bool
+// The first word of an entry that matches: V is 1, and VSID, H and API are these, which are the whole word. Its bytes are in reverse order, as
+// they are compared.
+pub fn match_word(vsid: u32, h: u32, api: u32) -> u32
     requires { ⌜ (vsid < 2 ^ 24) × (h < 2 ^ 1) × (api < 2 ^ 6) ⌝ }
-    ensures { λ r. ⌜ r ≡ matches vsid h api first ⌝ }
+    ensures { λ r. ⌜ r ≡ swapped (firstWord 1 vsid h api) ⌝ }
 {
-    first == first_word(1, vsid, h, api)
+    words::swapped(first_word(1, vsid, h, api))
 }
 
 // Whether the entry of a first word is free: V is 0.

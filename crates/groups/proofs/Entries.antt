@@ -10,7 +10,7 @@ use lib.Seq.{sets, set-getD}
 use Rattle.words.specs.Bits.{bits}
 use Rattle.words.specs.Words.{wordBytes, wordOf, wordAt, withWord}
 use Rattle.words.proofs.Tests.{three}
-use Rattle.words.proofs.Words.{Bytes, word-lt, length-withWord, word-before, word-behind, word-same, withWord-bytes}
+use Rattle.words.proofs.Words.{Bytes, word-lt, byte-0, byte-1, byte-2, byte-3, length-withWord, word-before, word-behind, word-same, withWord-bytes}
 use Rattle.groups.specs.Group.{firstAt, secondAt, putEntry}
 
 module _ (group : List ℕ) (i u v : ℕ) where
@@ -56,12 +56,7 @@ module _ (group : List ℕ) (i u v : ℕ) where
 bytes-of-word : (a b c d : ℕ) → a < 2 ^ 8 → b < 2 ^ 8 → c < 2 ^ 8 → d < 2 ^ 8 → wordBytes (wordOf a b c d) ≡ a ∷ b ∷ c ∷ d ∷ []
 unfolding wordBytes
 bytes-of-word a b c d la lb lc ld =
-    let w = wordOf a b c d in
-    let e₀ : bits 0 7 w ≡ a = omega arith in
-    let e₁ : bits 8 15 w ≡ b = omega arith in
-    let e₂ : bits 16 23 w ≡ c = omega arith in
-    let e₃ : bits 24 31 w ≡ d = omega arith in
-    rw (e₀, e₁, e₂, e₃)
+    rw (byte-0 a b c d la lb lc ld, byte-1 a b c d la lb lc ld, byte-2 a b c d la lb lc ld, byte-3 a b c d la lb lc ld)
 
 word-own : (s : List ℕ) (at : ℕ) → Bytes s → withWord s at (wordAt s at) ≡ s
 unfolding withWord wordAt

@@ -3,12 +3,15 @@ use mathlib.Core.Path.{_≡_, refl, sym, ap, _∙_}
 use mathlib.Core.Logic.{⊎-elim}
 use mathlib.Core.Bool.{Bool, true, false, cond}
 use mathlib.Core.List.{List, [], _∷_, _++_, append-nil, List·Memᴰ, List·Memᴰ·append-cases, List·Memᴰ·eq-of-singleton, List·Memᴰ·not-nil}
-use Prim.Native.Nat.{ℕ, zero, suc, _+_, _≤_, _<_}
+use Prim.Native.Nat.{ℕ, zero, suc, _+_, _^_, _≤_, _<_}
 use native.Mathlib.Numerals.{add-one}
 use native.Mathlib.Omega.{arith}
 use mir.Val.{boolByte}
-use Rattle.entry.specs.Entry.{matches, apiOf}
-use Rattle.entry.proofs.Matches.{matched}
+use lib.Dec.{eqb, lit<}
+use Rattle.words.specs.Words.{swapped}
+use Rattle.entry.specs.Entry.{firstWord, matches, apiOf}
+use Rattle.entry.proofs.Packing.{first-lt}
+use Rattle.entry.proofs.Matches.{matched, match-whole}
 use Rattle.tables.specs.Matches.{Match, matchesBelow}
 use Rattle.groups.specs.Page.{Page}
 use Rattle.groups.specs.Hash.{groupNumber}
@@ -28,6 +31,16 @@ h-is false = refl
 pub h-lt : (secondary : Bool) → boolByte secondary < 2
 h-lt true = omega arith
 h-lt false = omega arith
+
+-- the comparison with the packed word is the test of the fields
+pub word-matches : (secondary : Bool) (vsid api wanted first : ℕ) (same : Bool) → vsid < 2 ^ 24 → api < 2 ^ 6
+    → wanted ≡ swapped (firstWord 1 vsid (boolByte secondary) api) → (first < 2 ^ 32) × ((w : ℕ) → w < 2 ^ 32 → wanted ≡ swapped w → same ≡ eqb first w)
+    → same ≡ matches vsid (hOf secondary) api first
+word-matches secondary vsid api wanted first same vsid-lt api-lt is told =
+    let h = boolByte secondary in
+    told .1 (firstWord 1 vsid h api) (first-lt 1 vsid h api (lit< tt) vsid-lt (h-lt secondary) api-lt) is
+    ∙ sym (match-whole vsid h api vsid-lt (h-lt secondary) api-lt first (told .0))
+    ∙ ap (λ (g : ℕ). matches vsid g api first) (h-is secondary)
 
 -- a match is an entry of the group that matches
 pub record IsMatch (secondary : Bool) (vsid api : ℕ) (group : List ℕ) (n : ℕ) (m : Match) : Type 0 where

@@ -134,11 +134,11 @@ pub fn search_group(group: &[u8], secondary: bool, vsid: u32, api: u32) -> Searc
     requires { ⌜ (length (now group) ≡ 64) × (vsid < 2 ^ 24) × (api < 2 ^ 6) ⌝ }
     ensures { λ r. ⌜ r ≡ summary (matchesIn secondary vsid api (now (group .entry))) ⌝ }
 {
-    let h = secondary as u32;
+    let wanted = entry::match_word(vsid, secondary as u32, api);
     let start = if secondary { 24 } else { 16 };
     let mut search = Search::nothing();
     for i in 0..8 {
-        if entry::is_match(words::read_word(group, 8 * i), vsid, h, api) {
+        if words::is_word(group, 8 * i, wanted) {
             let second = words::read_word(group, 8 * i + 4);
             search = search.then(Search::one(start + i, second));
         }
@@ -240,10 +240,10 @@ pub fn edit_group(group: &mut [u8], secondary: bool, vsid: u32, api: u32, edit: 
     requires { ⌜ (EditFits edit) × (length (now group) ≡ 64) × (vsid < 2 ^ 24) × (api < 2 ^ 6) ⌝ }
     ensures { λ _. ⌜ now (group .exit) ≡ editMatches edit secondary vsid api (now (group .entry)) ⌝ }
 {
-    let h = secondary as u32;
+    let wanted = entry::match_word(vsid, secondary as u32, api);
     for i in 0..8 {
-        let first = words::read_word(group, 8 * i);
-        if entry::is_match(first, vsid, h, api) {
+        if words::is_word(group, 8 * i, wanted) {
+            let first = words::read_word(group, 8 * i);
             let made = edited_words(edit, first, words::read_word(group, 8 * i + 4));
             write_entry(group, i, made.first, made.second);
         }

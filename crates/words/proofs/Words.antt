@@ -6,11 +6,13 @@ use Prim.Native.Nat.{ℕ, zero, suc, _+_, _*_, _/_, _%_, _^_, _≤_, _<_}
 use native.Mathlib.Nat.{add-zero, add-suc, suc-add, not-suc-le-zero, le-of-suc-le-suc}
 use native.Mathlib.Omega.{arith}
 use lib.ListN.{length, getD, set, take, drop, length-set, length-append}
+use lib.Dec.{eqb, lit≤, lit<}
 use lib.Pow.{shr-shr, split}
 use lib.Seq.{sets, length-sets, sets-eq, getD-set-same, getD-set-other, set-out, take-at, take-length, length-take-le}
-use Rattle.words.proofs.Tests.{three}
-use Rattle.words.specs.Bits.{bits}
-use Rattle.words.specs.Words.{wordBytes, wordAt, withWord, bytesOf, wordsAt}
+use Rattle.words.proofs.Tests.{three, eqb-same}
+use Rattle.words.specs.Bits.{bits, placed}
+use Rattle.words.proofs.Bits.{bits-split, bits-all}
+use Rattle.words.specs.Words.{wordBytes, wordOf, wordAt, swapped, withWord, bytesOf, wordsAt}
 
 -- every element is a byte
 abbrev pub Bytes : List ℕ → Type 0
@@ -22,6 +24,46 @@ unfolding wordAt
 word-lt s at h = omega (arith, h at, h (at + 1), h (at + 2), h (at + 3))
 
 -- a run of stores leaves what is before it and behind it, and puts in what it stores
+-- the bytes of a word of four bytes, and a word as its own bytes
+module _ (a b c d : ℕ) (la : a < 2 ^ 8) (lb : b < 2 ^ 8) (lc : c < 2 ^ 8) (ld : d < 2 ^ 8) where
+  pub byte-0 : bits 0 7 (wordOf a b c d) ≡ a
+  byte-0 = omega arith
+
+  pub byte-1 : bits 8 15 (wordOf a b c d) ≡ b
+  byte-1 = omega arith
+
+  pub byte-2 : bits 16 23 (wordOf a b c d) ≡ c
+  byte-2 = omega arith
+
+  pub byte-3 : bits 24 31 (wordOf a b c d) ≡ d
+  byte-3 = omega arith
+
+own-bytes : (w : ℕ) → w < 2 ^ 32 → wordOf (bits 0 7 w) (bits 8 15 w) (bits 16 23 w) (bits 24 31 w) ≡ w
+own-bytes w fits =
+    sum (bits 0 7 w) (bits 8 15 w) (bits 16 23 w) (bits 24 31 w) (bits 8 31 w) (bits 16 31 w) w
+    (sym (bits-all w fits) ∙ bits-split 0 7 w (lit≤ tt) (lit< tt)) (bits-split 8 15 w (lit≤ tt) (lit< tt)) (bits-split 16 23 w (lit≤ tt) (lit< tt))
+  where
+    sum : (a b c d s t w : ℕ) → w ≡ placed 7 a + s → s ≡ placed 15 b + t → t ≡ placed 23 c + d → wordOf a b c d ≡ w
+    sum a b c d s t w e f g = omega arith
+
+-- four bytes in reverse order are those of a word in reverse order exactly where the word is theirs
+module _ (a b c d w : ℕ) (la : a < 2 ^ 8) (lb : b < 2 ^ 8) (lc : c < 2 ^ 8) (ld : d < 2 ^ 8) (fits : w < 2 ^ 32) where
+  forth : wordOf d c b a ≡ swapped w → wordOf a b c d ≡ w
+  unfolding swapped
+  forth same =
+      let p : a ≡ bits 0 7 w = sym (byte-3 d c b a ld lc lb la) ∙ ap (bits 24 31) same ∙ byte-3 _ _ _ (bits 0 7 w) (omega arith) (omega arith) (omega arith) (omega arith) in
+      let q : b ≡ bits 8 15 w = sym (byte-2 d c b a ld lc lb la) ∙ ap (bits 16 23) same ∙ byte-2 _ _ (bits 8 15 w) _ (omega arith) (omega arith) (omega arith) (omega arith) in
+      let r : c ≡ bits 16 23 w = sym (byte-1 d c b a ld lc lb la) ∙ ap (bits 8 15) same ∙ byte-1 _ (bits 16 23 w) _ _ (omega arith) (omega arith) (omega arith) (omega arith) in
+      let s : d ≡ bits 24 31 w = sym (byte-0 d c b a ld lc lb la) ∙ ap (bits 0 7) same ∙ byte-0 (bits 24 31 w) _ _ _ (omega arith) (omega arith) (omega arith) (omega arith) in
+      rw (p, q, r, s) (own-bytes w fits)
+
+  back : wordOf a b c d ≡ w → wordOf d c b a ≡ swapped w
+  unfolding swapped
+  back same = sym (rw (← same, byte-0 a b c d la lb lc ld, byte-1 a b c d la lb lc ld, byte-2 a b c d la lb lc ld, byte-3 a b c d la lb lc ld))
+
+  pub reverse-same : eqb (wordOf d c b a) (swapped w) ≡ eqb (wordOf a b c d) w
+  reverse-same = eqb-same (wordOf d c b a) (swapped w) (wordOf a b c d) w forth back
+
 pub sets-before : (vs l : List ℕ) (i k : ℕ) → k < i → getD (sets l i vs) k 0 ≡ getD l k 0
 sets-before [] l i k h = refl
 sets-before (a ∷ vs) l i k h = sets-before vs (set l i a) (suc i) k (omega arith) ∙ getD-set-other l i k a 0 (omega arith)

@@ -17,6 +17,10 @@ wordOf a b c d = placed 7 a + placed 15 b + placed 23 c + d
 unfoldable pub wordAt : List ℕ → ℕ → ℕ
 wordAt s at = wordOf (getD s at 0) (getD s (at + 1) 0) (getD s (at + 2) 0) (getD s (at + 3) 0)
 
+-- the word with the bytes of w in reverse order
+unfoldable pub swapped : ℕ → ℕ
+swapped w = wordOf (bits 24 31 w) (bits 16 23 w) (bits 8 15 w) (bits 0 7 w)
+
 -- the bytes s with the word w written from byte `at` on
 unfoldable pub withWord : List ℕ → ℕ → ℕ → List ℕ
 withWord s at w = sets s at (wordBytes w)

@@ -1,9 +1,10 @@
 // Words of 32 bits: reading and writing them in bytes, and the test for ones at the low end of a field.
 ghost use mathlib.Core.Path.{_≡_};
-ghost use Prim.Native.Nat.{_+_, _*_, _≤_};
+ghost use Prim.Native.Nat.{ℕ, _+_, _*_, _^_, _≤_, _<_};
+ghost use lib.Dec.{eqb};
 ghost use lib.ListN.{length};
 ghost use Rattle.words.specs.Ones.{lowOnes};
-ghost use Rattle.words.specs.Words.{wordOf, wordAt, withWord, bytesOf};
+ghost use Rattle.words.specs.Words.{wordOf, wordAt, swapped, withWord, bytesOf};
 
 // Whether a field is ones only at its low end, 0 included: the field without its lowest bit is asked again.
 pub fn low_ones(field: u32) -> bool
@@ -31,6 +32,35 @@ pub fn read_word(s: &[u8], at: usize) -> u32
     ensures { λ r. ⌜ r ≡ wordAt (now (s .entry)) at ⌝ }
 {
     word_of(s[at], s[at + 1], s[at + 2], s[at + 3])
+}
+
+// The word with its bytes in reverse order.
+pub fn swapped(w: u32) -> u32
+    ensures { λ r. ⌜ r ≡ swapped w ⌝ }
+{
+    word_of(
+        (w % 256) as u8,
+        ((w >> 8) % 256) as u8,
+        ((w >> 16) % 256) as u8,
+        ((w >> 24) % 256) as u8,
+    )
+}
+
+// Whether four bytes are a word's, which is given with its bytes in reverse order.
+fn same_bytes(a: u8, b: u8, c: u8, d: u8, reversed: u32) -> bool
+    ensures { λ r. ⌜ (wordOf a b c d < 2 ^ 32) × ((w : ℕ) → w < 2 ^ 32 → reversed ≡ swapped w → r ≡ eqb (wordOf a b c d) w) ⌝ }
+{
+    word_of(d, c, b, a) == reversed
+}
+
+// Whether the four bytes from `at` on are a word's, which is given with its bytes in reverse order: as a little-endian machine loads them, so
+// that the comparison is all that is done for each of many words.
+pub fn is_word(s: &[u8], at: usize, reversed: u32) -> bool
+    requires { ⌜ at + 4 ≤ length (now s) ⌝ }
+    ensures { λ r. ⌜ (wordAt (now (s .entry)) at < 2 ^ 32)
+        × ((w : ℕ) → w < 2 ^ 32 → reversed ≡ swapped w → r ≡ eqb (wordAt (now (s .entry)) at) w) ⌝ }
+{
+    same_bytes(s[at], s[at + 1], s[at + 2], s[at + 3], reversed)
 }
 
 // Writes a word, big-endian, to the four bytes from `at` on.

@@ -1,6 +1,6 @@
 -- `groups::search_group` meets its contract. The loop's invariant: the search tells of the matches among the first i entries.
 use Prim.Native.Nat.{ℕ, _+_, _-_, _≤_}
-use mathlib.Core.Path.{_≡_, sym, ap, ap₂, _∙_}
+use mathlib.Core.Path.{_≡_, sym, ap, _∙_}
 use mathlib.Core.Bool.{Bool, true, false, cond}
 use mathlib.Core.List.{[], _∷_}
 use mathlib.Core.Logic.{⊎-elim}
@@ -10,26 +10,29 @@ use Rattle.entry.specs.Entry.{matches}
 use Rattle.tables.specs.Matches.{matchesBelow}
 use Rattle.groups.specs.Group.{firstAt, secondAt}
 use Rattle.groups.specs.Search.{hOf, matchesIn, summary}
-use Rattle.groups.proofs.Matches.{h-is, h-lt, entryAt, matchesTo, matches-more, matches-same}
+use Rattle.groups.proofs.Matches.{h-lt, word-matches, entryAt, matchesTo, matches-more, matches-same}
 use Rattle.groups.proofs.search_group.Statement.{statement}
 use Rattle.groups.proofs.search_group.Tie as tie
 
 abbrev Inv-loop : tie.InvT-loop
-Inv-loop group secondary vsid api h start search₀ i₀ search i = (i ≤ 8) × (search ≡ summary (matchesTo secondary vsid api group i))
+Inv-loop group secondary vsid api wanted start search₀ i₀ search i = (i ≤ 8) × (search ≡ summary (matchesTo secondary vsid api group i))
 
 abbrev μ-loop : tie.MeasureT-loop
-μ-loop group secondary vsid api h start search₀ i₀ search i = 8 - i
+μ-loop group secondary vsid api wanted start search₀ i₀ search i = 8 - i
 
 -- where the places of the group begin
-start-is : (c : tie.Joined1 Inv-loop μ-loop) → c .if1 .start ≡ cond (c .before .before .args .secondary) 24 16
+start-is : (c : tie.Joined1 Inv-loop μ-loop) → c .if1 .start ≡ cond (c .before .before .before .args .secondary) 24 16
 start-is c = ⊎-elim (λ w. w .1 ∙ (rw (w .0 .taken))) (λ w. w .1 ∙ (rw (w .0 .left))) (c .if1 .came)
 
 start-le : (b : Bool) → cond b 24 16 ≤ 24
 start-le true = omega arith
 start-le false = omega arith
 
-cast-h : tie.Need-cast-h Inv-loop μ-loop
-cast-h c = search needs
+cast-match-word : tie.Need-cast-match-word Inv-loop μ-loop
+cast-match-word c = search needs
+
+match-word-requires : tie.Need-match-word-requires Inv-loop μ-loop
+match-word-requires c κs = let start = c .before in (start .pre .1, h-lt (start .args .secondary), start .pre .2)
 
 nothing-requires : tie.Need-nothing-requires Inv-loop μ-loop
 nothing-requires c κs = search needs
@@ -38,30 +41,25 @@ loop-holds : tie.Need-loop-holds Inv-loop μ-loop
 unfolding matchesBelow
 loop-holds c = (omega arith, c .nothing .ensures)
 
+mul-is-word : tie.Need-mul-is-word Inv-loop μ-loop
+mul-is-word c = omega arith
+
+is-word-requires : tie.Need-is-word-requires Inv-loop μ-loop
+is-word-requires c κs = omega arith
+
 mul-read-word : tie.Need-mul-read-word Inv-loop μ-loop
 mul-read-word c = omega arith
-
-read-word-requires : tie.Need-read-word-requires Inv-loop μ-loop
-read-word-requires c κs = omega arith
-
-is-match-requires : tie.Need-is-match-requires Inv-loop μ-loop
-is-match-requires c κs =
-    let start = c .before .before .before .before .before .before in
-    (start .pre .1, h-lt (start .args .secondary), start .pre .2)
-
-mul-read-word-2 : tie.Need-mul-read-word-2 Inv-loop μ-loop
-mul-read-word-2 c = omega arith
 
 add-read-word : tie.Need-add-read-word Inv-loop μ-loop
 add-read-word c = omega arith
 
-read-word-requires-2 : tie.Need-read-word-requires-2 Inv-loop μ-loop
-read-word-requires-2 c κs = omega arith
+read-word-requires : tie.Need-read-word-requires Inv-loop μ-loop
+read-word-requires c κs = omega arith
 
 add-one : tie.Need-add-one Inv-loop μ-loop
 add-one c =
-    let j = c .before .before .before .before .before .before .before .before in
-    omega (arith, start-is j, start-le (j .before .before .args .secondary))
+    let j = c .before .before .before .before .before .before .before in
+    omega (arith, start-is j, start-le (j .before .before .before .args .secondary))
 
 one-requires : tie.Need-one-requires Inv-loop μ-loop
 one-requires c κs = search needs
@@ -77,25 +75,27 @@ loop-less c = omega arith
 
 module _ (c : tie.Joined2 Inv-loop μ-loop) where
   abbrev at-loop : tie.At-loop Inv-loop μ-loop
-  at-loop = c .before .before .before .before
+  at-loop = c .before .before .before
 
   abbrev joined : tie.Joined1 Inv-loop μ-loop
   joined = at-loop .before .before
 
+  abbrev begin : tie.Start Inv-loop μ-loop
+  begin = joined .before .before .before
+
   -- the test is whether entry i matches
-  tested : c .before .is-match .result
-      ≡ matches (joined .before .before .args .vsid) (hOf (joined .before .before .args .secondary)) (joined .before .before .args .api)
-      (firstAt (joined .before .before .args .group .now) (at-loop .loop .i))
+  tested : c .before .is-word .result
+      ≡ matches (begin .args .vsid) (hOf (begin .args .secondary)) (begin .args .api) (firstAt (begin .args .group .now) (at-loop .loop .i))
   unfolding firstAt
   tested =
-      let a = joined .before .before .args in
-      c .before .is-match .ensures ∙ ap₂ (λ (h w : ℕ). matches (a .vsid) h (a .api) w) (h-is (a .secondary)) (c .before .before .read-word .ensures)
+      let a = begin .args in
+      word-matches (a .secondary) (a .vsid) (a .api) _ _ _ (begin .pre .1) (begin .pre .2) (joined .before .match-word .ensures) (c .before .is-word .ensures)
 
 loop-again : tie.Need-loop-again Inv-loop μ-loop
 unfolding secondAt
 loop-again c =
     let l = at-loop c in
-    let a = joined c .before .before .args in
+    let a = begin c .args in
     let b = a .secondary in
     let g = a .group .now in
     let i = l .loop .i in
@@ -123,15 +123,15 @@ search-group-spec =
     (tie.spec
     Inv-loop
     μ-loop
-    cast-h
+    cast-match-word
+    match-word-requires
     nothing-requires
     loop-holds
+    mul-is-word
+    is-word-requires
     mul-read-word
-    read-word-requires
-    is-match-requires
-    mul-read-word-2
     add-read-word
-    read-word-requires-2
+    read-word-requires
     add-one
     one-requires
     then-requires

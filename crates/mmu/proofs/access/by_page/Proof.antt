@@ -8,12 +8,10 @@ use mathlib.Core.List.{List, [], _∷_}
 use Prim.Native.Nat.{ℕ, _+_, _*_, _≤_}
 use lib.ListN.{length}
 use Rattle.entry.specs.Entry.{withMarks}
-use Rattle.entry.proofs.Addresses.{api-lt}
-use Rattle.registers.specs.Sdr1.{maskOnes, hashBits}
+use Rattle.registers.specs.Sdr1.{maskOnes}
 use Rattle.groups.specs.Group.{firstOf, putAt}
 use Rattle.groups.specs.Hash.{groupNumber}
 use Rattle.groups.specs.Search.{summary, inSecondary, entryOf}
-use Rattle.groups.proofs.Hash.{group-lt, within-table}
 use Rattle.groups.proofs.Summary.{summary-entry-lt}
 use Rattle.tables.specs.Layout.{matchesOf}
 use Rattle.translation.specs.Access.{storing}
@@ -25,6 +23,8 @@ use Rattle.calls.specs.Answers.{doneByPage}
 use Rattle.calls.specs.OnBytes.{layout, wantedPage, searched}
 use Rattle.calls.proofs.OnBytes.{matches-by-groups}
 use Rattle.calls.proofs.Access.{done-by-first, unmarked, marked-done}
+use Rattle.mmu.proofs.located.AtPage as at-page
+use Rattle.mmu.proofs.located.AtPage.{inside, searchable, search-is}
 use Rattle.mmu.proofs.access.by_page.Statement.{statement}
 use Rattle.mmu.proofs.access.by_page.Tie as tie
 
@@ -46,11 +46,7 @@ not-done (Refused number) h = refl
 
 -- both groups of the page lie in the table
 within : (c : tie.Start) (secondary : Bool) → 64 * groupNumber (10 + maskOnes (c .args .sdr1)) secondary (wantedPage (c .args .wanted)) + 64 ≤ length (c .args .table .now)
-unfolding hashBits
-within c secondary =
-    let n = hashBits (c .args .sdr1) in
-    let page = wantedPage (c .args .wanted) in
-    rw (c .pre .1) (within-table (c .args .sdr1) (groupNumber n secondary page) (c .pre .0) (group-lt n page secondary))
+within c secondary = inside (c .args .sdr1) (wantedPage (c .args .wanted)) (length (c .args .table .now)) (c .pre .0) (c .pre .1) secondary
 
 -- what the search noted are the page's matches
 noted-are : (c : tie.After-search-both) →
@@ -59,7 +55,7 @@ noted-are : (c : tie.After-search-both) →
 noted-are c =
     let at-locate = c .before .before in
     let a = at-locate .before .before .args in
-    (rw (at-locate .locate .ensures) at (c .search-both .ensures))
+    search-is _ _ _ (at-locate .locate .ensures) _ _ (c .search-both .ensures)
     ∙ ap summary (sym (matches-by-groups (maskOnes (a .sdr1)) (a .table .now) (wantedPage (a .wanted))))
 
 -- the outcome is that of the page's matches
@@ -76,10 +72,10 @@ group-is : (c : tie.After-group) →
     let at-both = c .before .before .before .before .before .before .before in
     let a = at-both .before .before .before .before .args in
     c .group .result ≡ groupNumber (10 + maskOnes (a .sdr1)) (inSecondary (at-both .search-both .result)) (wantedPage (a .wanted))
-unfolding groupNumber
 group-is c =
     let at-both = c .before .before .before .before .before .before .before in
-    rw (at-both .before .before .locate .ensures, c .before .in-secondary .ensures) at (c .group .ensures)
+    at-page.group-is _ _ _ (at-both .before .before .locate .ensures) (inSecondary (at-both .search-both .result)) (c .group .result)
+    (rw (c .before .in-secondary .ensures) at (c .group .ensures))
 
 locate-requires : tie.Need-locate-requires
 locate-requires c κs = search needs
@@ -87,8 +83,8 @@ locate-requires c κs = search needs
 search-both-requires : tie.Need-search-both-requires
 search-both-requires c κs =
     let at-locate = c .before in
-    let start = at-locate .before .before in
-    rw (at-locate .locate .ensures) (within start false, within start true, start .pre .2, api-lt (start .args .wanted .index) (start .pre .3))
+    let pre = at-locate .before .before .pre in
+    searchable _ _ _ (at-locate .locate .ensures) _ (pre .0) (pre .1) (pre .2) (pre .3)
 
 searched-of-requires : tie.Need-searched-of-requires
 searched-of-requires c κs = search needs

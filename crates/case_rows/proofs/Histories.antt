@@ -20,7 +20,7 @@ use Rattle.calls.specs.Theorem.{sdr1With}
 use Rattle.calls.proofs.OnBytes.{taken}
 use Rattle.calls.proofs.Rules.{clear-taken}
 use Rattle.calls.proofs.Theorem.{table-refines-map}
-use Rattle.cases.specs.Cases.{onTable, result, answered, Holds}
+use Rattle.case_rows.specs.Cases.{onTable, result, answered, Holds}
 
 -- each request of a list brings the SDR1
 abbrev pub allBring : ℕ → List (Request (List ℕ)) → Bool

@@ -37,7 +37,7 @@ use Rattle.calls.specs.OnBytes.{layout, Ended, ended, byMatches, byOption, entr
 use Rattle.calls.specs.Histories.{bytesStep}
 use Rattle.calls.specs.Theorem.{sdr1With}
 use Rattle.calls.proofs.OnBytes.{taken}
-use Rattle.cases.specs.Cases.{onTable, history, stored, Holds}
+use Rattle.case_rows.specs.Cases.{onTable, history, stored, Holds}
 
 -- ---- the step on two groups
 

@@ -26,9 +26,9 @@ use Rattle.calls.specs.WithoutTable.{checkCall}
 use Rattle.calls.specs.OnBytes.{entryWord, searched}
 use Rattle.calls.specs.OnMap.{fieldsWord, arranged?, foundIn, mapMarked, mapDoes, onMap}
 use Rattle.calls.specs.Histories.{mapStep}
-use Rattle.cases.specs.Cases.{case1, cases2to5, case6, case7, cases8to10, case11, case12, oneMore, exchanged, TwelveCases}
-use Rattle.cases.proofs.Pair.{pairMarked, pairDo}
-use Rattle.cases.proofs.Rows.{Setting, rows-hold}
+use Rattle.case_rows.specs.Cases.{case1, cases2to5, case6, case7, cases8to10, case11, case12, oneMore, exchanged, TwelveCases}
+use Rattle.case_rows.proofs.Pair.{pairMarked, pairDo}
+use Rattle.case_rows.proofs.Rows.{Setting, rows-hold}
 
 -- SDR1 0F980007 and 0F980000 with the two groups of the cases' page, and SDR1 0 with groups 0 and 0x3FF
 large : Setting 0x0F98 3 0x1FE6 0x0019

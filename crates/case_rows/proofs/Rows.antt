@@ -13,9 +13,9 @@ use Rattle.calls.specs.Request.{Request, clear, fed}
 use Rattle.calls.specs.Rules.{refusal}
 use Rattle.calls.specs.Theorem.{sdr1With}
 use Rattle.calls.proofs.OnBytes as call
-use Rattle.cases.specs.Cases.{Claim, computes, refused, answered, stored, Holds, Row, AllHold}
-use Rattle.cases.proofs.Histories.{allBring, mapAnswers, answered-holds}
-use Rattle.cases.proofs.Pair.{Pair, zeros, pairAfter, allOwn, primary-holds, secondary-holds}
+use Rattle.case_rows.specs.Cases.{Claim, computes, refused, answered, stored, Holds, Row, AllHold}
+use Rattle.case_rows.proofs.Histories.{allBring, mapAnswers, answered-holds}
+use Rattle.case_rows.proofs.Pair.{Pair, zeros, pairAfter, allOwn, primary-holds, secondary-holds}
 
 -- the SDR1 of origin o and a mask of k ones, and the numbers p and s of two groups that mirror one another
 pub record Setting (o k p s : ℕ) : Type 0 where

@@ -6,7 +6,7 @@ ghost use lib.ListN.{length};
 ghost use Rattle.words.specs.Words.{wordsAt};
 ghost use Rattle.registers.specs.Sdr1.{sdr1Shape, tableLength, hashBits};
 ghost use Rattle.registers.specs.Segment.{segmentShape};
-ghost use Rattle.registers.specs.Set.{segmentOf, segmentsShape, sideStart, upperOf, lowerOf, sideShape, pairApart, sideApart, checkWords, checkSet, replaced, pageSet, coveringPair};
+ghost use Rattle.registers.specs.Set.{segmentOf, segmentsShape, sideStart, upperOf, lowerOf, sideShape, pairApart, sideApart, checkWords, replaced, pageSet, coveringPair};
 ghost use Rattle.registers.specs.Block.{blockShape, clash, covers, inBlock, blockPhysical};
 
 // The words of the register page in order: SDR1, segments 0 to 15, four instruction pairs, four data pairs.
@@ -234,7 +234,7 @@ pub fn covering_pair(words: &[u32; 33], side: bool, user: bool, address: u32) ->
 impl Registers {
     // 0, or the number of the first rule that the set breaks.
     pub fn check(self) -> u32
-        ensures { λ r. ⌜ r ≡ checkSet self ⌝ }
+        ensures { λ r. ⌜ r ≡ checkWords 4 11 (self .words) ⌝ }
     {
         check_words(&self.words)
     }

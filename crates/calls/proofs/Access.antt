@@ -30,7 +30,7 @@ use Rattle.translation.specs.declared.Searched.the-variants.{Nothing, At, Contr
 use Rattle.translation.specs.declared.Wanted.{Wanted}
 use Rattle.translation.proofs.Steps.{done-passes}
 use Rattle.calls.specs.Request.{Request, access, registerWords, sdr1In, fed}
-use Rattle.calls.specs.Rules.{argumentOutOfRange, tableLengthWrong, rules, refusal}
+use Rattle.calls.specs.Rules.{rules, refusal}
 use Rattle.calls.specs.Answers as answers
 use Rattle.calls.specs.Answers.{accessAnswer, answerRefused, doneByPage}
 use Rattle.calls.specs.OnBytes.{layout, ended, byMatches, wantedPage, searched, markedBy, bytesDo, onBytes}
@@ -40,7 +40,8 @@ use Rattle.calls.proofs.OnBytes.{taken, refused}
 
 -- the rules of an access after 11, given the words of its register page
 abbrev pub rulesThen : List ℕ → ℕ → ℕ → ℕ → List (Bool × ℕ)
-rulesThen words mode kind lent = argumentOutOfRange (ltb mode 8 && ltb kind 3) ∷ registerRules 4 11 words ++ (tableLengthWrong (sdr1Of words) lent ∷ [])
+rulesThen words mode kind lent =
+    (not (ltb mode 8 && ltb kind 3), 6) ∷ registerRules 4 11 words ++ ((not (eqb lent (tableLength (sdr1Of words))), 1) ∷ [])
 
 module _ (words : List ℕ) (mode kind lent : ℕ) where
   -- they are 6, then the check of the set, then the table's length; none is 11

@@ -33,7 +33,7 @@ use Rattle.groups.proofs.Edits.{edit-both-each}
 use Rattle.tables.specs.Matches.{Match}
 use Rattle.tables.specs.Layout.{freeEntry, freePlace, matchesOf, overwrite, overwriteEach}
 use Rattle.calls.specs.Request.{Request, clear, mapPage, unmap, protect, look, sdr1In, fed}
-use Rattle.calls.specs.Rules.{pageInRange, writeThroughInhibited, argumentOutOfRange, sdr1Wrong, tableLengthWrong, rules, refusal}
+use Rattle.calls.specs.Rules.{pageInRange, writeThroughInhibited, tableRules, rules, refusal}
 use Rattle.calls.specs.Answers.{wordAnswer, refusedAnswer, answerRefused}
 use Rattle.calls.specs.OnBytes.{layout, Ended, ended, entryWord, bytesDo, onBytes}
 use Rattle.calls.proofs.OnBytes.{taken, refused, matches-by-groups}
@@ -42,7 +42,7 @@ use Rattle.calls.proofs.OnBytes.{taken, refused, matches-by-groups}
 
 -- the rules that every call on a page has: 6, 2, 1
 abbrev pub pageRules : Bool → ℕ → ℕ → List (Bool × ℕ)
-pageRules inRange sdr1 lent = argumentOutOfRange inRange ∷ sdr1Wrong sdr1 ∷ tableLengthWrong sdr1 lent ∷ []
+pageRules inRange sdr1 lent = (not inRange, 6) ∷ tableRules sdr1 lent
 
 -- what holds where none of them is broken
 pub record Kept (inRange : Bool) (sdr1 lent : ℕ) : Type 0 where

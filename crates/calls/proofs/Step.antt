@@ -37,17 +37,17 @@ use Rattle.calls.specs.Request.{Request, clear, mapPage, unmap, protect,
 use Rattle.calls.specs.Rules.{refusal}
 use Rattle.calls.specs.Answers.{wordAnswer, accessAnswer, doneByPage}
 use Rattle.calls.specs.OnBytes.{layout, Ended, ended, byMatches, byOption, entryWord, wantedPage, searched, markedBy, bytesDo}
-use Rattle.calls.specs.OnMap.{PageFields, Map, fieldsWord, markFields, protectFields, Told, told, arranged?, foundIn, mapMarked, mapDoes}
+use Rattle.calls.specs.OnMap.{PageFields, Map, fieldsWord, markFields, protectFields, arranged?, foundIn, mapMarked, mapDoes}
 use Rattle.calls.specs.Represents.{GoodTable, FieldsInRange, represents}
 use Rattle.calls.proofs.TableLaws.{Word, layout-laws, represents-zeros}
 use Rattle.calls.proofs.Rules.{map-kept, unmap-kept, look-kept, protect-kept}
 use Rattle.calls.proofs.Fields.{word-fits, marked-word, protected-word, mark-range, protect-range}
 
 -- the same number and answer, and a table that represents the map
-pub record Alike (k : ℕ) (e : Ended) (d : Told) : Type 0 where
+pub record Alike (k : ℕ) (e : Ended (List ℕ)) (d : Ended Map) : Type 0 where
   pub number : e .number ≡ d .number
   pub answer : e .answer ≡ d .answer
-  pub related : represents k (e .table) (d .map)
+  pub related : represents k (e .state) (d .state)
 
 -- by the case of an option, a test, or what the steps before a search come to
 by-cases : {A X : Type 0} (o : Option A) → (o ≡ none → X) → ((a : A) → o ≡ some a → X) → X

@@ -23,7 +23,7 @@ pub record Call : Type 0 where
 unfoldable pub bytesStep : Call → List ℕ → (ℕ × List ℕ) × List ℕ
 bytesStep c t =
     byOption (c .lent)
-    (let e = onBytes (c .request) t in (compared (e .number) (e .answer), e .table))
+    (let e = onBytes (c .request) t in (compared (e .number) (e .answer), e .state))
     (λ other. let e = onBytes (c .request) other in (compared (e .number) (e .answer), t))
 
 -- what the finite map is fed of a call on a table of `size` bytes: the request with lengths for slices, and the length of what is lent as the table
@@ -31,7 +31,7 @@ abbrev pub fedCall : ℕ → Call → Request ℕ × ℕ
 fedCall size c = (fed (c .request), byOption (c .lent) size length)
 
 unfoldable pub mapStep : Request ℕ × ℕ → Map → (ℕ × List ℕ) × Map
-mapStep x m = let e = onMap (x .0) (x .1) m in (compared (e .number) (e .answer), e .map)
+mapStep x m = let e = onMap (x .0) (x .1) m in (compared (e .number) (e .answer), e .state)
 
 -- a call of a history under one SDR1, on a table of `size` bytes: it is refused 11, and may then bring anything, or it brings that SDR1, and
 -- another slice in the table's place only of another length

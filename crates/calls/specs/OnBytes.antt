@@ -39,14 +39,14 @@ layout k = record {
   put = putAt;
 }
 
--- what a call leaves: its result number, the table and the answer
-pub record Ended : Type 0 where
+-- what a call leaves: its result number, its answer, and the state of a machine: the table here, the finite map in `OnMap`
+pub record Ended (S : Type 0) : Type 0 where
   pub number : ℕ
-  pub table : List ℕ
+  pub state : S
   pub answer : List ℕ
 
-abbrev pub ended : ℕ → List ℕ → List ℕ → Ended
-ended number table answer = record { number = number; table = table; answer = answer }
+abbrev pub ended : {S : Type 0} → ℕ → S → List ℕ → Ended S
+ended number state answer = record { number = number; state = state; answer = answer }
 
 -- by the matches of a page: none, or the first and the others
 abbrev pub byMatches : {X : Type 0} → List Match → X → (Match → List Match → X) → X
@@ -81,7 +81,7 @@ module _ (k : ℕ) where
       t
 
   -- a call that its arguments do not refuse
-  unfoldable pub bytesDo : Request (List ℕ) → List ℕ → Ended
+  unfoldable pub bytesDo : Request (List ℕ) → List ℕ → Ended (List ℕ)
   bytesDo (clear sdr1) t = ended 0 (replicate (length t) 0) []
   bytesDo (mapPage sdr1 page rpn wimg pp) t =
       byMatches (matchesOf (layout k) t page)
@@ -104,7 +104,7 @@ module _ (k : ℕ) where
       ended (words .result) (markedBy kind early outcome t) (accessAnswer words)
 
 -- a call on a lent table
-unfoldable pub onBytes : Request (List ℕ) → List ℕ → Ended
+unfoldable pub onBytes : Request (List ℕ) → List ℕ → Ended (List ℕ)
 onBytes request t =
     let number = refusal (fed request) (length t) in
     cond (eqb number 0) (bytesDo (maskOnes (sdr1In request)) request t) (ended number t (answerRefused (λ lent. lent) request number))

@@ -32,7 +32,7 @@ pub record Start (o k : ℕ) (t : List ℕ) : Type 0 where
 
 -- the table after a first clear, and after a list of calls that follows it
 abbrev pub cleared : ℕ → ℕ → List ℕ → List ℕ
-cleared o k t = onBytes (clear (sdr1With o k)) t .table
+cleared o k t = onBytes (clear (sdr1With o k)) t .state
 
 abbrev pub tableAfter : ℕ → ℕ → List ℕ → List Call → List ℕ
 tableAfter o k t cs = after bytesStep cs (cleared o k t)

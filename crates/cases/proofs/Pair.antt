@@ -211,14 +211,14 @@ module _ (k p s : ℕ) where
       stays = record { long = long; groups = refl }
 
       map-shows : (sdr1 : ℕ) (page : Page) (rpn wimg pp : ℕ) → ownPage page ≡ true
-          → Shows (bytesDo k (mapPage sdr1 page rpn wimg pp) t .table) (pairDo (mapPage sdr1 page rpn wimg pp) (pairOf t))
+          → Shows (bytesDo k (mapPage sdr1 page rpn wimg pp) t .state) (pairDo (mapPage sdr1 page rpn wimg pp) (pairOf t))
       unfolding bytesDo pairDo
       map-shows sdr1 page rpn wimg pp own = rw (same-matches page own t, same-place page own t) (go (matchesOf pairLayout (pairOf t) page) (freePlace pairLayout (pairOf t) page))
         where
           go : (ms : List Match) (free : Option (Bool × ℕ)) → Shows
               (byMatches ms (byOption free (ended 9 t [])
               (λ place. ended 0 (putAt t (groupNumber (10 + k) (place .0) page) (place .1) (entryWord (place .0) page) (secondWord rpn 0 0 wimg pp)) []))
-              (λ m rest. ended 7 t []) .table)
+              (λ m rest. ended 7 t []) .state)
               (byMatches ms (byOption free (pairOf t)
               (λ place. pairLayout .put (pairOf t) (hOf (place .0)) (place .1) (entryWord (place .0) page) (secondWord rpn 0 0 wimg pp)))
               (λ m rest. pairOf t))
@@ -229,25 +229,25 @@ module _ (k p s : ℕ) where
       -- unmap and protect: each match is edited
       edited-shows : (page : Page) → ownPage page ≡ true → (edit : Match → ℕ × ℕ) (missing : List ℕ) (answer : Match → List Match → List ℕ)
           → Shows (byMatches (matchesOf (layout k) t page) (ended 8 t missing)
-          (λ m ms. ended 0 (overwriteEach (layout k) page edit (m ∷ ms) t) (answer m ms)) .table)
+          (λ m ms. ended 0 (overwriteEach (layout k) page edit (m ∷ ms) t) (answer m ms)) .state)
           (overwriteEach pairLayout page edit (matchesOf pairLayout (pairOf t) page) (pairOf t))
       unfolding overwriteEach
       edited-shows page own edit missing answer = rw (same-matches page own t) (go (matchesOf pairLayout (pairOf t) page))
         where
           go : (ms : List Match)
-              → Shows (byMatches ms (ended 8 t missing) (λ m rest. ended 0 (overwriteEach (layout k) page edit (m ∷ rest) t) (answer m rest)) .table)
+              → Shows (byMatches ms (ended 8 t missing) (λ m rest. ended 0 (overwriteEach (layout k) page edit (m ∷ rest) t) (answer m rest)) .state)
               (overwriteEach pairLayout page edit ms (pairOf t))
           go [] = each-shows page own edit [] t long
           go (m ∷ ms) = each-shows page own edit (m ∷ ms) t long
 
-      look-stays : (sdr1 : ℕ) (page : Page) (answer : List ℕ) → bytesDo k (look sdr1 page answer) t .table ≡ t
+      look-stays : (sdr1 : ℕ) (page : Page) (answer : List ℕ) → bytesDo k (look sdr1 page answer) t .state ≡ t
       unfolding bytesDo
       look-stays sdr1 page answer = go (matchesOf (layout k) t page)
         where
           go : (ms : List Match)
-              → byMatches ms (ended 8 t (wordAnswer 8 0)) (λ m rest. cond (contradict m rest) (ended 10 t (wordAnswer 10 0)) (ended 0 t (wordAnswer 0 (m .second)))) .table ≡ t
+              → byMatches ms (ended 8 t (wordAnswer 8 0)) (λ m rest. cond (contradict m rest) (ended 10 t (wordAnswer 10 0)) (ended 0 t (wordAnswer 0 (m .second)))) .state ≡ t
           go [] = refl
-          go (m ∷ ms) = cond-by (λ (e : Ended). e .table ≡ t) (contradict m ms) _ _ (λ h. refl) (λ h. refl)
+          go (m ∷ ms) = cond-by (λ (e : Ended (List ℕ)). e .state ≡ t) (contradict m ms) _ _ (λ h. refl) (λ h. refl)
 
       marked-shows : (kind : ℕ) (early : Early) → ownEarly early ≡ true
           → Shows (markedBy k kind early (outcomeOf kind (λ wanted. searched (matchesOf (layout k) t (wantedPage wanted))) early) t)
@@ -267,7 +267,7 @@ module _ (k p s : ℕ) where
           go true (m ∷ ms) = overwritten-shows (wantedPage wanted) own m (m .first) (withMarks true (storing kind) (m .second)) t long
           go false ms = stays
 
-      do-shows : (request : Request (List ℕ)) → ownCall request ≡ true → Shows (bytesDo k request t .table) (pairDo request (pairOf t))
+      do-shows : (request : Request (List ℕ)) → ownCall request ≡ true → Shows (bytesDo k request t .state) (pairDo request (pairOf t))
       unfolding bytesDo pairDo
       do-shows (clear sdr1) own = zeros-show (length t) long
       do-shows (mapPage sdr1 page rpn wimg pp) own = map-shows sdr1 page rpn wimg pp own
@@ -289,9 +289,9 @@ module _ (k p s : ℕ) where
           let does : onBytes request t ≡ bytesDo k request t =
           taken request t (ap (refusal (fed request)) long ∙ eqb-true (refusal (fed request) (65536 * 2 ^ k)) 0 kept)
           ∙ ap (λ (n : ℕ). bytesDo n request t) ones in
-          let next : Shows (onBytes request t .table) (pairDo request (pairOf t)) = rw does (do-shows t long request mine) in
-          subst (λ x. Shows (after bytesStep (map onTable requests) (onBytes request t .table)) (pairAfter requests x)) (next .groups)
-          (after-shows requests rest (onBytes request t .table) (next .long))
+          let next : Shows (onBytes request t .state) (pairDo request (pairOf t)) = rw does (do-shows t long request mine) in
+          subst (λ x. Shows (after bytesStep (map onTable requests) (onBytes request t .state)) (pairAfter requests x)) (next .groups)
+          (after-shows requests rest (onBytes request t .state) (next .long))
 
       -- the two groups after a clear and calls of theirs
       module _ (requests : List (Request (List ℕ))) (stated : List ℕ) (own : allOwn (sdr1With o k) (clear (sdr1With o k) ∷ requests) ≡ true) where

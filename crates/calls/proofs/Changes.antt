@@ -21,7 +21,7 @@ use Rattle.calls.specs.Rules.{refusal}
 use Rattle.calls.specs.Answers.{wordAnswer, accessAnswer, doneByPage}
 use Rattle.calls.specs.OnBytes.{Ended, ended, byOption, wantedPage}
 use Rattle.calls.specs.OnMap.{PageFields, Map, fieldsWord, markFields, protectFields, Arranged, arranged?, foundIn, mapMarked, mapDoes, onMap}
-use Rattle.calls.specs.Histories.{mapsIt, takesItOut}
+use Rattle.calls.specs.Histories.{Maps, by-map, TakesOut, by-clear, by-unmap}
 use Rattle.calls.proofs.Histories.{map-taken, map-refused}
 
 -- marks and protection leave frame and attributes
@@ -31,9 +31,9 @@ pub record KeepsFrame (u : PageFields → PageFields) : Type 0 where
 
 pub data Changed (request : Request ℕ) (m : Map) (d : Ended Map) : Type 0 where
   left : d .state ≡ m → Changed request m d
-  emptied : ((page : Page) → takesItOut page request ≡ true) → d .number ≡ 0 → d .state ≡ [] → Changed request m d
-  put : (page : Page) (f : PageFields) → mapsIt page request ≡ true → d .number ≡ 0 → fieldsAt samePage page m ≡ none → d .state ≡ putIn page f m → Changed request m d
-  took : (page : Page) (f : PageFields) → takesItOut page request ≡ true → d .number ≡ 0 → fieldsAt samePage page m ≡ some f → d .state ≡ takeOut samePage page m → Changed request m d
+  emptied : ((page : Page) → TakesOut page request) → d .number ≡ 0 → d .state ≡ [] → Changed request m d
+  put : (page : Page) (f : PageFields) → Maps page request → d .number ≡ 0 → fieldsAt samePage page m ≡ none → d .state ≡ putIn page f m → Changed request m d
+  took : (page : Page) (f : PageFields) → TakesOut page request → d .number ≡ 0 → fieldsAt samePage page m ≡ some f → d .state ≡ takeOut samePage page m → Changed request m d
   revised : (page : Page) (u : PageFields → PageFields) → KeepsFrame u → d .state ≡ revise samePage page u m → Changed request m d
 
 mark-keeps : (store : Bool) → KeepsFrame (markFields store)
@@ -45,8 +45,8 @@ protect-keeps pp = record { frame = λ f. refl; attributes = λ f. refl }
 module _ (k : ℕ) (m : Map) where
   -- a call that its arguments do not refuse
   does : (request : Request ℕ) → Changed request m (mapDoes k request m)
-  unfolding mapDoes mapsIt takesItOut mapMarked
-  does (clear sdr1) = emptied (λ page. refl) refl refl
+  unfolding mapDoes mapMarked
+  does (clear sdr1) = emptied (λ page. by-clear sdr1) refl refl
   does (mapPage sdr1 page rpn wimg pp) = go (fieldsAt samePage page m) refl
     where
       new : PageFields
@@ -58,7 +58,7 @@ module _ (k : ℕ) (m : Map) where
       by : Dec (Arranged k (page ∷ mappedPages m)) → fieldsAt samePage page m ≡ none → Changed (mapPage sdr1 page rpn wimg pp) m branch
       by (yes a) e =
           let same = if-pos (arranged? k (page ∷ mappedPages m)) a (ended 0 (putIn page new m) []) (ended 9 m []) in
-          subst (Changed (mapPage sdr1 page rpn wimg pp) m) (sym same) (put page new (samePage-refl page) refl e refl)
+          subst (Changed (mapPage sdr1 page rpn wimg pp) m) (sym same) (put page new (by-map sdr1 rpn wimg pp) refl e refl)
       by (no a) e =
           let same = if-neg (arranged? k (page ∷ mappedPages m)) a (ended 0 (putIn page new m) []) (ended 9 m []) in
           subst (Changed (mapPage sdr1 page rpn wimg pp) m) (sym same) (left refl)
@@ -71,7 +71,7 @@ module _ (k : ℕ) (m : Map) where
       go : (o : Option PageFields) → fieldsAt samePage page m ≡ o
           → Changed (unmap sdr1 page answer) m (byOption o (ended 8 m (wordAnswer 8 0)) (λ f. ended 0 (takeOut samePage page m) (wordAnswer 0 (fieldsWord f))))
       go none e = left refl
-      go (some f) e = took page f (samePage-refl page) refl e refl
+      go (some f) e = took page f (by-unmap sdr1 answer) refl e refl
   does (protect sdr1 page pp) = go (fieldsAt samePage page m)
     where
       go : (o : Option PageFields) → Changed (protect sdr1 page pp) m (byOption o (ended 8 m []) (λ f. ended 0 (revise samePage page (protectFields pp) m) []))

@@ -18,7 +18,7 @@ use Rattle.calls.specs.Rules.{refusal}
 use Rattle.calls.specs.Answers.{accessAnswer}
 use Rattle.calls.specs.OnBytes.{Ended, onBytes, wantedPage}
 use Rattle.calls.specs.OnMap.{PageFields, Map, Arranged}
-use Rattle.calls.specs.Histories.{Call, bytesStep, mapStep, fedCall, Under, NoneDone, mapsPage, takesOut}
+use Rattle.calls.specs.Histories.{Call, bytesStep, mapStep, fedCall, Under, NoneDone, Maps, TakesOut}
 
 -- the SDR1 of origin o and a mask of k ones
 abbrev pub sdr1With : ℕ → ℕ → ℕ
@@ -79,14 +79,14 @@ pub record Reaches (o k : ℕ) (registers : List ℕ) (mode kind address : ℕ) 
 pub record AccessFollowsHistory : Type 0 where
   -- after a done unmap of the page, or a done clear, an access that reaches step 4 faults with no match until the page is mapped again
   pub no-match : (o k : ℕ) (t : List ℕ) → Start o k t → (cs : List Call) (c : Call) (ds : List Call) → Each (Under (sdr1With o k) (65536 * 2 ^ k)) (cs ++ c ∷ ds)
-      → (page : Page) → takesOut page c ≡ true → bytesStep c (tableAfter o k t cs) .0 .0 ≡ 0
-      → NoneDone (mapsPage page) ds (bytesStep c (tableAfter o k t cs) .1)
+      → (page : Page) → TakesOut page (c .request) → bytesStep c (tableAfter o k t cs) .0 .0 ≡ 0
+      → NoneDone (Maps page) ds (bytesStep c (tableAfter o k t cs) .1)
       → (registers : List ℕ) (mode kind address : ℕ) (answer : List ℕ) → Reaches o k registers mode kind address answer page
       → onBytes (access registers mode kind address answer) (tableAfter o k t (cs ++ c ∷ ds)) .answer ≡ accessAnswer (answerOf kind address NoMatch)
   -- after a done map of the page, an access that reaches step 4 and is done gives that map's frame and attributes, until the page is taken out
   pub frame : (o k : ℕ) (t : List ℕ) → Start o k t → (cs : List Call) (c : Call) (ds : List Call) → Each (Under (sdr1With o k) (65536 * 2 ^ k)) (cs ++ c ∷ ds)
       → (page : Page) (sdr1 rpn wimg pp : ℕ) → c .request ≡ mapPage sdr1 page rpn wimg pp → bytesStep c (tableAfter o k t cs) .0 .0 ≡ 0
-      → NoneDone (takesOut page) ds (bytesStep c (tableAfter o k t cs) .1)
+      → NoneDone (TakesOut page) ds (bytesStep c (tableAfter o k t cs) .1)
       → (registers : List ℕ) (mode kind address : ℕ) (answer : List ℕ) → Reaches o k registers mode kind address answer page
       → onBytes (access registers mode kind address answer) (tableAfter o k t (cs ++ c ∷ ds)) .number ≡ 0
       → onBytes (access registers mode kind address answer) (tableAfter o k t (cs ++ c ∷ ds)) .answer

@@ -18,7 +18,7 @@ use Rattle.translation.specs.declared.Early.the-variants.{Decided, Search}
 use Rattle.translation.specs.declared.Outcome.{Outcome}
 use Rattle.calls.specs.Request.{Request, clear, mapPage, unmap, protect, look, access, registerWords, sdr1In}
 use Rattle.calls.specs.Rules.{refusal}
-use Rattle.calls.specs.Answers.{wordAnswer, accessAnswer, doneByPage}
+use Rattle.calls.specs.Answers.{wordAnswer, accessAnswer}
 use Rattle.calls.specs.OnBytes.{Ended, ended, byOption, wantedPage}
 use Rattle.calls.specs.OnMap.{PageFields, Map, fieldsWord, markFields, protectFields, Arranged, arranged?, foundIn, mapMarked, mapDoes, onMap}
 use Rattle.calls.specs.Histories.{Maps, by-map, TakesOut, by-clear, by-unmap}
@@ -94,9 +94,9 @@ module _ (k : ℕ) (m : Map) where
 
       go : (early : Early)
           → Changed (access registers mode kind address answer) m
-          (ended (answerOf kind address (plain early) .result) (mapMarked kind early (plain early) m) (accessAnswer (answerOf kind address (plain early))))
+          (ended (answerOf kind address (plain early) .result) (mapMarked kind early (answerOf kind address (plain early) .result) m) (accessAnswer (answerOf kind address (plain early))))
       go (Decided outcome) = left refl
-      go (Search wanted) = by (Search wanted) _ _ (wantedPage wanted) (doneByPage (plain (Search wanted)))
+      go (Search wanted) = by (Search wanted) _ _ (wantedPage wanted) (eqb (answerOf kind address (plain (Search wanted)) .result) 0)
 
 -- any call
 pub changed : (request : Request ℕ) (lent : ℕ) (m : Map) → Changed request m (onMap request lent m)

@@ -44,6 +44,7 @@ use Rattle.calls.specs.Represents.{FieldsInRange, represents}
 use Rattle.calls.specs.Histories.{Call, bytesStep, mapStep, fedCall, Under, NoneDone, Maps, by-map, TakesOut, by-clear, by-unmap}
 use Rattle.calls.specs.Theorem.{sdr1With, Start, cleared, tableAfter, mapAfter, Reaches, AccessFollowsHistory}
 use Rattle.calls.proofs.Fields.{oneIf-lt}
+use Rattle.calls.proofs.Access.{fault-number}
 use Rattle.calls.proofs.Changes.{KeepsFrame, Changed, left, emptied, put, took, revised, changed}
 use Rattle.calls.proofs.Histories.{keeps, map-taken, map-refused}
 use Rattle.calls.proofs.Theorem.{cleared-represents, history-represents, as-map}
@@ -277,15 +278,6 @@ module _ (o k : ℕ) (t : List ℕ) (start : Start o k t) (cs : List Call) (c : 
       rw rest-is
       (in-along o k (start .few) (start .whole) page rpn wimg ds (behind .1) (bytesStep c (tableAfter o k t cs) .1) told-then then-represents
       (subst (λ (r : Request ℕ). Has rpn wimg page (onMap r lent (mapAfter k cs) .state)) (sym is-fed) put) n)
-
--- a fault's number is not 0
-fault-number : (cause kind : ℕ) → faultOf cause kind .result ≡ 0 → ⊥
-unfolding faultOf
-fault-number cause kind = by (fetching kind)
-  where
-    by : (t : Bool) → cond {A = ℕ} t 65 64 ≡ 0 → ⊥
-    by true e = omega arith
-    by false e = omega arith
 
 -- an access that steps 5 to 7 let pass answers by the entry's word
 passed : (kind : ℕ) (key : Bool) (address word : ℕ) → answerOf kind address (pageOutcome kind key word) .result ≡ 0

@@ -18,13 +18,12 @@ use Rattle.translation.specs.Steps.{beforeSearch, outcomeOf, answerOf}
 use Rattle.translation.specs.declared.Answer.{Answer}
 use Rattle.translation.specs.declared.Early.{Early}
 use Rattle.translation.specs.declared.Early.the-variants.{Decided, Search}
-use Rattle.translation.specs.declared.Outcome.{Outcome}
 use Rattle.translation.specs.declared.Searched.{Searched}
 use Rattle.translation.specs.declared.Searched.the-variants.{Nothing, At, Contradicting}
 use Rattle.translation.specs.declared.Wanted.{Wanted}
 use Rattle.calls.specs.Request.{Request, clear, mapPage, unmap, protect, look, access, registerWords, sdr1In, fed}
 use Rattle.calls.specs.Rules.{refusal}
-use Rattle.calls.specs.Answers.{wordAnswer, accessAnswer, answerRefused, doneByPage}
+use Rattle.calls.specs.Answers.{wordAnswer, accessAnswer, answerRefused}
 
 -- the table of document 01 for a mask of k ones: 2 ^ (10 + k) groups of eight entries; an entry matches by V, VSID, H and API
 abbrev pub layout : ℕ → Layout Page (List ℕ)
@@ -71,12 +70,12 @@ unfoldable pub searched : List Match → Searched
 searched xs = byMatches xs Nothing (λ x rest. cond (contradict x rest) Contradicting (At (x .second)))
 
 module _ (k : ℕ) where
-  -- step 7: the first match of the page is marked, by an access that a page did
-  unfoldable pub markedBy : ℕ → Early → Outcome → List ℕ → List ℕ
-  markedBy kind (Decided decided) outcome t = t
-  markedBy kind (Search wanted) outcome t =
+  -- step 7: an access that reached the search and is done, its result 0, is done by a page; the page's first match is marked
+  unfoldable pub markedBy : ℕ → Early → ℕ → List ℕ → List ℕ
+  markedBy kind (Decided outcome) result t = t
+  markedBy kind (Search wanted) result t =
       let page = wantedPage wanted in
-      cond (doneByPage outcome)
+      cond (eqb result 0)
       (byMatches (matchesOf (layout k) t page) t (λ x xs. overwrite (layout k) page x (x .first) (withMarks true (storing kind) (x .second)) t))
       t
 
@@ -101,7 +100,7 @@ module _ (k : ℕ) where
       let early = beforeSearch 4 11 (registerWords registers) mode kind address in
       let outcome = outcomeOf kind (λ wanted. searched (matchesOf (layout k) t (wantedPage wanted))) early in
       let words = answerOf kind address outcome in
-      ended (words .result) (markedBy kind early outcome t) (accessAnswer words)
+      ended (words .result) (markedBy kind early (words .result) t) (accessAnswer words)
 
 -- a call on a lent table
 unfoldable pub onBytes : Request (List ℕ) → List ℕ → Ended (List ℕ)

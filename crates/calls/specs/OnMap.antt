@@ -20,12 +20,11 @@ use Rattle.translation.specs.Steps.{beforeSearch, outcomeOf, answerOf}
 use Rattle.translation.specs.declared.Answer.{Answer}
 use Rattle.translation.specs.declared.Early.{Early}
 use Rattle.translation.specs.declared.Early.the-variants.{Decided, Search}
-use Rattle.translation.specs.declared.Outcome.{Outcome}
 use Rattle.translation.specs.declared.Searched.{Searched}
 use Rattle.translation.specs.declared.Searched.the-variants.{Nothing, At}
 use Rattle.calls.specs.Request.{Request, clear, mapPage, unmap, protect, look, access, registerWords, sdr1In}
 use Rattle.calls.specs.Rules.{refusal}
-use Rattle.calls.specs.Answers.{wordAnswer, accessAnswer, answerRefused, doneByPage}
+use Rattle.calls.specs.Answers.{wordAnswer, accessAnswer, answerRefused}
 use Rattle.calls.specs.OnBytes.{Ended, ended, byOption, wantedPage}
 
 -- what the map has of a mapped page: frame (RPN), attributes (WIMG), protection (PP) and marks (R, C)
@@ -64,10 +63,10 @@ arranged? k pages = arrangement? (groupNumber (10 + k)) 8 (2 ^ (9 + k)) (group-m
 unfoldable pub foundIn : Map → Page → Searched
 foundIn m page = byOption (fieldsAt samePage page m) Nothing (λ f. At (fieldsWord f))
 
--- step 7 on the map
-unfoldable pub mapMarked : ℕ → Early → Outcome → Map → Map
-mapMarked kind (Decided decided) outcome m = m
-mapMarked kind (Search wanted) outcome m = cond (doneByPage outcome) (revise samePage (wantedPage wanted) (markFields (storing kind)) m) m
+-- step 7 on the map: done by a page
+unfoldable pub mapMarked : ℕ → Early → ℕ → Map → Map
+mapMarked kind (Decided outcome) result m = m
+mapMarked kind (Search wanted) result m = cond (eqb result 0) (revise samePage (wantedPage wanted) (markFields (storing kind)) m) m
 
 module _ (k : ℕ) where
   -- a call that its arguments do not refuse
@@ -89,7 +88,7 @@ module _ (k : ℕ) where
       let early = beforeSearch 4 11 (registerWords registers) mode kind address in
       let outcome = outcomeOf kind (λ wanted. foundIn m (wantedPage wanted)) early in
       let words = answerOf kind address outcome in
-      ended (words .result) (mapMarked kind early outcome m) (accessAnswer words)
+      ended (words .result) (mapMarked kind early (words .result) m) (accessAnswer words)
 
 -- a call, fed its arguments and the length of what is lent as the table
 unfoldable pub onMap : Request ℕ → ℕ → Map → Ended Map

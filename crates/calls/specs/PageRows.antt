@@ -26,7 +26,7 @@ use Rattle.translation.specs.Fault.{causeWord, faultOf}
 use Rattle.translation.specs.Steps.{beforeSearch, pageOutcome, afterSearch, outcomeOf, answerOf}
 use Rattle.calls.specs.Request.{Request, clear, mapPage, unmap, protect, look, access, registerWords, sdr1In, fed}
 use Rattle.calls.specs.Rules.{pageInRange, writeThroughInhibited, rules, refusal}
-use Rattle.calls.specs.Answers.{wordAnswer, accessAnswer, refusedAnswer, answerRefused, doneByPage}
+use Rattle.calls.specs.Answers.{wordAnswer, accessAnswer, refusedAnswer, answerRefused}
 use Rattle.calls.specs.OnBytes.{Ended, ended, entryWord, searched, markedBy, bytesDo, onBytes}
 
 abbrev pageOf : ℕ → ℕ → Page
@@ -214,7 +214,7 @@ access-rows : Hold ((
     ∷ (bytesDo 0 (access registers 0 2 0x00000123 []) differing, ended 0 differing (bytesOf (0 ∷ 0x00000123 ∷ 3 ∷ 0x00000123 ∷ [])))
     ∷ []
     )
-unfolding bytesDo accessAnswer markedBy doneByPage searched contradict agree overwrite outcomeOf beforeSearch afterSearch pageOutcome answerOf userMode fetching storing relocated sideOf keyOf pageReadable pageWritable pageAllows guarded causeWord faultOf coveringPair pairCovers covers validFor inBlock firstBelow noExecute segmentVsid pageIndex physicalAddress withMarks registerWords wordsAt bytesOf wordBytes wordAt withWord groupWith putAt onGroup putGroup putEntry matchesOf matchesIn matchesBelow firstOf secondOf firstAt secondAt groupOf groupNumber primaryGroup secondaryGroup hashOf matches apiOf
+unfolding bytesDo accessAnswer markedBy searched contradict agree overwrite outcomeOf beforeSearch afterSearch pageOutcome answerOf userMode fetching storing relocated sideOf keyOf pageReadable pageWritable pageAllows guarded causeWord faultOf coveringPair pairCovers covers validFor inBlock firstBelow noExecute segmentVsid pageIndex physicalAddress withMarks registerWords wordsAt bytesOf wordBytes wordAt withWord groupWith putAt onGroup putGroup putEntry matchesOf matchesIn matchesBelow firstOf secondOf firstAt secondAt groupOf groupNumber primaryGroup secondaryGroup hashOf matches apiOf
 access-rows = record { equal = refl }
 
 -- a page whose secondary group is group 0: its entry has H = 1

@@ -21,7 +21,7 @@ use Rattle.translation.specs.Fault.{causeWord, faultOf}
 use Rattle.translation.specs.Steps.{blockOutcome, beforeSearch, pageOutcome, afterSearch, outcomeOf, answerOf}
 use Rattle.calls.specs.Request.{registerWords, sdr1In, fed}
 use Rattle.calls.specs.Rules.{pageInRange, writeThroughInhibited, rules, refusal}
-use Rattle.calls.specs.Answers.{wordAnswer, accessAnswer, doneByPage, compared}
+use Rattle.calls.specs.Answers.{wordAnswer, accessAnswer, compared}
 use Rattle.calls.specs.WithoutTable.{checkCall}
 use Rattle.calls.specs.OnBytes.{entryWord, searched}
 use Rattle.calls.specs.OnMap.{fieldsWord, arranged?, foundIn, mapMarked, mapDoes, onMap}
@@ -41,7 +41,7 @@ first : Setting 0 0 0 0x3FF
 first = record { few = omega arith; whole = refl; mirror = refl }
 
 pub twelve-cases : TwelveCases
-unfolding mapStep compared onMap mapDoes arranged? fed sdr1In refusal rules pageInRange writeThroughInhibited sdr1Shape tableLength maskOnes hashBits lowOnes bitLength samePage hashOf primaryGroup secondaryGroup groupNumber groupAddress wordAnswer accessAnswer doneByPage foundIn mapMarked fieldsWord outcomeOf blockOutcome beforeSearch afterSearch pageOutcome answerOf userMode fetching storing relocated sideOf keyOf pageReadable pageWritable pageAllows guarded blockAllows causeWord faultOf checkCall pageSet checkWords segmentsShape segmentShape sideShape blockShape off upperShape lowerShape sideApart pairApart clash commonV shareAddress everyBelow coveringPair pairCovers covers validFor inBlock blockAttributes blockPP blockPhysical firstBelow noExecute segmentVsid pageIndex physicalAddress secondWord registerWords wordsAt wordAt bytesOf wordBytes pairDo pairMarked matchesOf matchesIn matchesBelow freePlace freeEntry free matches apiOf entryWord firstWord firstAt secondAt putEntry withWord searched contradict agree overwrite withMarks
+unfolding mapStep compared onMap mapDoes arranged? fed sdr1In refusal rules pageInRange writeThroughInhibited sdr1Shape tableLength maskOnes hashBits lowOnes bitLength samePage hashOf primaryGroup secondaryGroup groupNumber groupAddress wordAnswer accessAnswer foundIn mapMarked fieldsWord outcomeOf blockOutcome beforeSearch afterSearch pageOutcome answerOf userMode fetching storing relocated sideOf keyOf pageReadable pageWritable pageAllows guarded blockAllows causeWord faultOf checkCall pageSet checkWords segmentsShape segmentShape sideShape blockShape off upperShape lowerShape sideApart pairApart clash commonV shareAddress everyBelow coveringPair pairCovers covers validFor inBlock blockAttributes blockPP blockPhysical firstBelow noExecute segmentVsid pageIndex physicalAddress secondWord registerWords wordsAt wordAt bytesOf wordBytes pairDo pairMarked matchesOf matchesIn matchesBelow freePlace freeEntry free matches apiOf entryWord firstWord firstAt secondAt putEntry withWord searched contradict agree overwrite withMarks
 twelve-cases =
     let hash = rows-hold 0x0F98 3 0x1FE6 0x0019 large case1 (refl, (refl, (refl, (refl, (refl, (refl, tt)))))) in
     let page-8192 = rows-hold 0x0F98 3 0x1FE6 0x0019 large (cases2to5 0x0F980007 0x1FE6 0x0019) (refl, (refl, (refl, (refl, (refl, (refl, (refl, (refl, (refl, tt))))))))) in

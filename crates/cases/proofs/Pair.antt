@@ -26,13 +26,13 @@ use Rattle.tables.specs.Matches.{Match}
 use Rattle.tables.specs.Layout.{Layout, matchesIn, matchesOf, freeEntry, freePlace, overwrite, overwriteEach}
 use Rattle.tables.specs.Runs.{after}
 use Rattle.translation.specs.Access.{storing}
-use Rattle.translation.specs.Steps.{beforeSearch, outcomeOf, afterSearch}
+use Rattle.translation.specs.Steps.{beforeSearch, outcomeOf, afterSearch, answerOf}
 use Rattle.translation.specs.declared.Early.{Early}
 use Rattle.translation.specs.declared.Early.the-variants.{Decided, Search}
 use Rattle.translation.specs.declared.Outcome.{Outcome}
 use Rattle.calls.specs.Request.{Request, clear, mapPage, unmap, protect, look, access, registerWords, sdr1In, fed}
 use Rattle.calls.specs.Rules.{refusal}
-use Rattle.calls.specs.Answers.{wordAnswer, doneByPage}
+use Rattle.calls.specs.Answers.{wordAnswer}
 use Rattle.calls.specs.OnBytes.{layout, Ended, ended, byMatches, byOption, entryWord, wantedPage, searched, markedBy, bytesDo, onBytes}
 use Rattle.calls.specs.Histories.{bytesStep}
 use Rattle.calls.specs.Theorem.{sdr1With}
@@ -62,11 +62,11 @@ abbrev pub zeros : Pair
 zeros = (replicate 64 0, replicate 64 0)
 
 -- step 7 of an access on them
-unfoldable pub pairMarked : ℕ → Early → Outcome → Pair → Pair
-pairMarked kind (Decided decided) outcome x = x
-pairMarked kind (Search wanted) outcome x =
+unfoldable pub pairMarked : ℕ → Early → ℕ → Pair → Pair
+pairMarked kind (Decided outcome) result x = x
+pairMarked kind (Search wanted) result x =
     let page = wantedPage wanted in
-    cond (doneByPage outcome)
+    cond (eqb result 0)
     (byMatches (matchesOf pairLayout x page) x (λ m ms. overwrite pairLayout page m (m .first) (withMarks true (storing kind) (m .second)) x))
     x
 
@@ -83,7 +83,8 @@ pairDo (protect sdr1 page pp) x = overwriteEach pairLayout page (λ m. (m .first
 pairDo (look sdr1 page answer) x = x
 pairDo (access registers mode kind address answer) x =
     let early = beforeSearch 4 11 (registerWords registers) mode kind address in
-    pairMarked kind early (outcomeOf kind (λ wanted. searched (matchesOf pairLayout x (wantedPage wanted))) early) x
+    let outcome = outcomeOf kind (λ wanted. searched (matchesOf pairLayout x (wantedPage wanted))) early in
+    pairMarked kind early (answerOf kind address outcome .result) x
 
 abbrev pub pairAfter : List (Request (List ℕ)) → Pair → Pair
 pairAfter [] x = x
@@ -249,15 +250,16 @@ module _ (k p s : ℕ) where
           go [] = refl
           go (m ∷ ms) = cond-by (λ (e : Ended (List ℕ)). e .state ≡ t) (contradict m ms) _ _ (λ h. refl) (λ h. refl)
 
-      marked-shows : (kind : ℕ) (early : Early) → ownEarly early ≡ true
-          → Shows (markedBy k kind early (outcomeOf kind (λ wanted. searched (matchesOf (layout k) t (wantedPage wanted))) early) t)
-          (pairMarked kind early (outcomeOf kind (λ wanted. searched (matchesOf pairLayout (pairOf t) (wantedPage wanted))) early) (pairOf t))
+      marked-shows : (kind address : ℕ) (early : Early) → ownEarly early ≡ true
+          → let onTable = outcomeOf kind (λ wanted. searched (matchesOf (layout k) t (wantedPage wanted))) early in
+          let onPair = outcomeOf kind (λ wanted. searched (matchesOf pairLayout (pairOf t) (wantedPage wanted))) early in
+          Shows (markedBy k kind early (answerOf kind address onTable .result) t) (pairMarked kind early (answerOf kind address onPair .result) (pairOf t))
       unfolding markedBy pairMarked outcomeOf
-      marked-shows kind (Decided outcome) own = stays
-      marked-shows kind (Search wanted) own =
+      marked-shows kind address (Decided outcome) own = stays
+      marked-shows kind address (Search wanted) own =
           let page = wantedPage wanted in
           let found = matchesOf pairLayout (pairOf t) page in
-          rw (same-matches page own t) (go (doneByPage (afterSearch kind (wanted .key) (searched found))) found)
+          rw (same-matches page own t) (go (eqb (answerOf kind address (afterSearch kind (wanted .key) (searched found)) .result) 0) found)
         where
           go : (done : Bool) (ms : List Match)
               → Shows
@@ -274,7 +276,7 @@ module _ (k p s : ℕ) where
       do-shows (unmap sdr1 page answer) own = edited-shows page own (λ m. (0, 0)) (wordAnswer 8 0) (λ m ms. wordAnswer 0 (merged m ms))
       do-shows (protect sdr1 page pp) own = edited-shows page own (λ m. (m .first, withPP pp (m .second))) [] (λ m ms. [])
       do-shows (look sdr1 page answer) own = subst (λ u. Shows u (pairOf t)) (sym (look-stays sdr1 page answer)) stays
-      do-shows (access registers mode kind address answer) own = marked-shows kind (beforeSearch 4 11 (registerWords registers) mode kind address) own
+      do-shows (access registers mode kind address answer) own = marked-shows kind address (beforeSearch 4 11 (registerWords registers) mode kind address) own
 
     module _ (o : ℕ) (few : k ≤ 9) (whole : o % 2 ^ k ≡ 0) where
       after-shows : (requests : List (Request (List ℕ))) → allOwn (sdr1With o k) requests ≡ true → (t : List ℕ) → length t ≡ 65536 * 2 ^ k

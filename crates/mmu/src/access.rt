@@ -12,7 +12,7 @@ ghost use Rattle.registers.specs.Set.{sdr1Of, registerRules};
 ghost use Rattle.groups.specs.Search.{summary};
 ghost use Rattle.tables.specs.Matches.{Match};
 ghost use Rattle.tables.specs.Layout.{matchesOf};
-ghost use Rattle.translation.specs.Steps.{afterSearch, outcomeOf};
+ghost use Rattle.translation.specs.Steps.{afterSearch, outcomeOf, answerOf};
 ghost use Rattle.translation.specs.declared.Early.the-variants.{Search};
 ghost use Rattle.translation.specs.declared.Wanted.{Wanted};
 ghost use Rattle.calls.specs.Request.{access};
@@ -59,7 +59,7 @@ fn by_page(
 ) -> translation::Outcome
     requires { ⌜ (sdr1Shape sdr1 ≡ true) × (length (now table) ≡ tableLength sdr1) × (wanted .vsid < 2 ^ 24) × (wanted .index < 2 ^ 16) ⌝ }
     ensures { λ r. ⌜ (r ≡ afterSearch kind (wanted .key) (searched (matchesOf (layout (maskOnes sdr1)) (now (table .entry)) (wantedPage wanted))))
-        × (now (table .exit) ≡ markedBy (maskOnes sdr1) kind (Search wanted) r (now (table .entry))) ⌝ }
+        × ((address : ℕ) → now (table .exit) ≡ markedBy (maskOnes sdr1) kind (Search wanted) (answerOf kind address r .result) (now (table .entry))) ⌝ }
 {
     let at = locate(sdr1, wanted.vsid, wanted.index);
     let search = groups::search_both(table, at.primary, at.secondary, wanted.vsid, at.api);
@@ -82,7 +82,7 @@ fn decided(
     requires { ⌜ (sdr1Shape sdr1 ≡ true) × (length (now table) ≡ tableLength sdr1)
         × ((wanted : Wanted) → early ≡ Search wanted → (wanted .vsid < 2 ^ 24) × (wanted .index < 2 ^ 16)) ⌝ }
     ensures { λ r. ⌜ (r ≡ outcomeOf kind (λ wanted. searched (matchesOf (layout (maskOnes sdr1)) (now (table .entry)) (wantedPage wanted))) early)
-        × (now (table .exit) ≡ markedBy (maskOnes sdr1) kind early r (now (table .entry))) ⌝ }
+        × ((address : ℕ) → now (table .exit) ≡ markedBy (maskOnes sdr1) kind early (answerOf kind address r .result) (now (table .entry))) ⌝ }
 {
     match early {
         translation::Early::Decided(outcome) => outcome,

@@ -82,7 +82,7 @@ returns-2 c answer right =
     let start = read .before .before .before .before in
     let a = start .args in
     let told = rw (at-before .before-search .ensures, read .read-words .ensures) at (at-decided .decided .ensures) in
-    rw (c .answer-of2 .ensures, told .1)
+    rw (c .answer-of2 .ensures, told .1 (a .address))
     (sym (access-taken (a .page .now) (a .mode) (a .kind) (a .address) answer (a .table .now) (start .pre) right
     (sym (number-is at-refusal) ∙ at-before .before .before .if1 .left) (at-decided .decided .result) (told .0)))
 

@@ -10,7 +10,7 @@ use borrow.Author.Tests.{eq-eqb, ne-eqb, eqb-true}
 use Rattle.entry.specs.Entry.{withMarks}
 use Rattle.registers.specs.Rules.{firstBroken}
 use Rattle.registers.specs.Sdr1.{sdr1Shape, tableLength, maskOnes}
-use Rattle.registers.specs.Set.{sdr1Of, segmentsShape, sideShape, sideApart, registerRules, checkWords}
+use Rattle.registers.specs.Set.{sdr1Of, segmentsShape, sideShape, sideApart, registerRules, checkWords, registerWords}
 use Rattle.registers.proofs.Set.{checked}
 use Rattle.groups.specs.Hash.{groupNumber}
 use Rattle.groups.specs.Group.{firstOf, putAt}
@@ -33,7 +33,7 @@ use Rattle.translation.specs.declared.Searched.the-variants.{Nothing, At, Contr
 use Rattle.translation.specs.declared.Wanted.{Wanted}
 use Rattle.translation.specs.declared.Answer.{Answer}
 use Rattle.translation.proofs.Steps.{page-by, done-passes}
-use Rattle.calls.specs.Request.{Request, access, registerWords, sdr1In, fed}
+use Rattle.calls.specs.Request.{Request, access, sdr1In, fed}
 use Rattle.calls.specs.Rules.{rules, refusal}
 use Rattle.calls.specs.Answers as answers
 use Rattle.calls.specs.Answers.{accessAnswer, answerRefused}

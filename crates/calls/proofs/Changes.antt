@@ -9,6 +9,7 @@ use lib.Dec.{eqb}
 use borrow.Author.Tests.{eqb-true, eqb-false}
 use Rattle.placement.specs.FiniteMap.{fieldsAt, putIn, takeOut, revise, mappedPages}
 use Rattle.registers.specs.Sdr1.{maskOnes}
+use Rattle.registers.specs.Set.{registerWords}
 use Rattle.groups.specs.Page.{Page, samePage}
 use Rattle.groups.proofs.Hash.{samePage-refl}
 use Rattle.translation.specs.Access.{storing}
@@ -16,7 +17,7 @@ use Rattle.translation.specs.Steps.{beforeSearch, outcomeOf, answerOf}
 use Rattle.translation.specs.declared.Early.{Early}
 use Rattle.translation.specs.declared.Early.the-variants.{Decided, Search}
 use Rattle.translation.specs.declared.Outcome.{Outcome}
-use Rattle.calls.specs.Request.{Request, clear, mapPage, unmap, protect, look, access, registerWords, sdr1In}
+use Rattle.calls.specs.Request.{Request, clear, mapPage, unmap, protect, look, access, sdr1In}
 use Rattle.calls.specs.Rules.{refusal}
 use Rattle.calls.specs.Answers.{wordAnswer, accessAnswer}
 use Rattle.calls.specs.OnBytes.{Ended, ended, byOption, wantedPage}

@@ -18,6 +18,7 @@ use Rattle.placement.proofs.FiniteMap.{fieldsAt-putIn-same, fieldsAt-putIn-othe
 use Rattle.entry.specs.Entry.{secondWord, wimgOf, ppOf, physicalAddress}
 use Rattle.entry.proofs.Packing.{SecondFields, second-packed}
 use Rattle.entry.proofs.Addresses.{physical-fields}
+use Rattle.registers.specs.Set.{registerWords}
 use Rattle.groups.specs.Page.{Page, samePage}
 use Rattle.groups.proofs.Hash.{samePage-refl, samePage-eq}
 use Rattle.tables.specs.Runs.{run, after, Each}
@@ -35,7 +36,7 @@ use Rattle.translation.specs.declared.Fault.{Fault}
 use Rattle.translation.specs.declared.Searched.{Searched}
 use Rattle.translation.specs.declared.Searched.the-variants.{Nothing, At}
 use Rattle.translation.proofs.Steps.{after-nothing, after-at, outcome-searched}
-use Rattle.calls.specs.Request.{Request, clear, mapPage, unmap, protect, look, access, registerWords, fed, sdr1In}
+use Rattle.calls.specs.Request.{Request, clear, mapPage, unmap, protect, look, access, fed, sdr1In}
 use Rattle.calls.specs.Rules.{refusal}
 use Rattle.calls.specs.Answers.{wordAnswer, accessAnswer, compared}
 use Rattle.calls.specs.OnBytes.{Ended, ended, onBytes, byOption, wantedPage}

@@ -10,6 +10,7 @@ use lib.Dec.{eqb, lit<}
 use lib.ListN.{length, replicate}
 use Rattle.placement.specs.FiniteMap.{fieldsAt, putIn, takeOut, revise, mappedPages}
 use Rattle.placement.proofs.FiniteMap.{revise-unmapped}
+use Rattle.registers.specs.Set.{registerWords}
 use Rattle.groups.proofs.Hash.{samePage-refl, samePage-eq}
 use Rattle.groups.proofs.Summary.{merged-one}
 use Rattle.entry.specs.Entry.{firstWord, secondWord, apiOf, referenced, changed, withMarks, withPP}
@@ -33,7 +34,7 @@ use Rattle.translation.specs.declared.Searched.{Searched}
 use Rattle.translation.specs.declared.Searched.the-variants.{Nothing, At, Contradicting}
 use Rattle.translation.specs.declared.Wanted.{Wanted}
 use Rattle.translation.proofs.Steps.{wanted-in-range}
-use Rattle.calls.specs.Request.{Request, clear, mapPage, unmap, protect, look, access, registerWords, fed}
+use Rattle.calls.specs.Request.{Request, clear, mapPage, unmap, protect, look, access, fed}
 use Rattle.calls.specs.Rules.{refusal}
 use Rattle.calls.specs.Answers.{wordAnswer, accessAnswer}
 use Rattle.calls.specs.OnBytes.{layout, Ended, ended, byMatches, byOption, entryWord, wantedPage, searched, markedBy, bytesDo}

@@ -7,6 +7,7 @@ use lib.Dec.{eqb}
 use lib.ListN.{length, replicate}
 use Rattle.entry.specs.Entry.{firstWord, secondWord, matches, free, apiOf, withMarks, withPP}
 use Rattle.registers.specs.Sdr1.{maskOnes}
+use Rattle.registers.specs.Set.{registerWords}
 use Rattle.groups.specs.Page.{Page}
 use Rattle.groups.specs.Hash.{groupNumber}
 use Rattle.groups.specs.Group.{firstOf, secondOf, putAt}
@@ -21,7 +22,7 @@ use Rattle.translation.specs.declared.Early.the-variants.{Decided, Search}
 use Rattle.translation.specs.declared.Searched.{Searched}
 use Rattle.translation.specs.declared.Searched.the-variants.{Nothing, At, Contradicting}
 use Rattle.translation.specs.declared.Wanted.{Wanted}
-use Rattle.calls.specs.Request.{Request, clear, mapPage, unmap, protect, look, access, registerWords, sdr1In, fed}
+use Rattle.calls.specs.Request.{Request, clear, mapPage, unmap, protect, look, access, sdr1In, fed}
 use Rattle.calls.specs.Rules.{refusal}
 use Rattle.calls.specs.Answers.{wordAnswer, accessAnswer, answerRefused}
 

@@ -13,7 +13,7 @@ use Rattle.entry.specs.Entry.{firstWord, secondWord, matches, free, apiOf, page
 use Rattle.registers.specs.Sdr1.{sdr1Shape, tableLength}
 use Rattle.registers.specs.Segment.{segmentShape, keyOf, noExecute, segmentVsid}
 use Rattle.registers.specs.Block.{off, validFor, commonV, upperShape, lowerShape, blockShape, inBlock, shareAddress, clash, covers}
-use Rattle.registers.specs.Set.{segmentsShape, sideShape, pairApart, sideApart, pairCovers, coveringPair}
+use Rattle.registers.specs.Set.{segmentsShape, sideShape, pairApart, sideApart, pairCovers, coveringPair, registerWords}
 use Rattle.groups.specs.Page.{Page}
 use Rattle.groups.specs.Hash.{hashOf, primaryGroup, secondaryGroup, groupNumber}
 use Rattle.groups.specs.Group.{groupOf, putGroup, onGroup, firstAt, secondAt, putEntry, firstOf, secondOf, putAt}
@@ -24,7 +24,7 @@ use Rattle.translation.specs.Access.{userMode, fetching, storing, relocated, si
 use Rattle.translation.specs.Protection.{pageReadable, pageWritable, pageAllows, guarded}
 use Rattle.translation.specs.Fault.{causeWord, faultOf}
 use Rattle.translation.specs.Steps.{beforeSearch, pageOutcome, afterSearch, outcomeOf, answerOf}
-use Rattle.calls.specs.Request.{Request, clear, mapPage, unmap, protect, look, access, registerWords, sdr1In, fed}
+use Rattle.calls.specs.Request.{Request, clear, mapPage, unmap, protect, look, access, sdr1In, fed}
 use Rattle.calls.specs.Rules.{pageInRange, writeThroughInhibited, rules, refusal}
 use Rattle.calls.specs.Answers.{wordAnswer, accessAnswer, refusedAnswer, answerRefused}
 use Rattle.calls.specs.OnBytes.{Ended, ended, entryWord, searched, markedBy, bytesDo, onBytes}

@@ -6,9 +6,9 @@ use lib.Dec.{eqb, ltb}
 use lib.ListN.{length}
 use Rattle.registers.specs.Rules.{firstBroken}
 use Rattle.registers.specs.Sdr1.{sdr1Shape, tableLength}
-use Rattle.registers.specs.Set.{sdr1Of, registerRules}
+use Rattle.registers.specs.Set.{sdr1Of, registerRules, registerWords}
 use Rattle.groups.specs.Page.{Page}
-use Rattle.calls.specs.Request.{Request, clear, mapPage, unmap, protect, look, access, registerWords}
+use Rattle.calls.specs.Request.{Request, clear, mapPage, unmap, protect, look, access}
 
 -- a VSID below 2 ^ 24 and a page index below 65,536
 unfoldable pub pageInRange : Page → Bool

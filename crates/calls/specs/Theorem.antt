@@ -7,13 +7,14 @@ use mathlib.Core.Path.{_≡_}
 use lib.ListN.{length}
 use Rattle.words.specs.Bits.{bits, placed}
 use Rattle.placement.specs.FiniteMap.{fieldsAt, mappedPages}
+use Rattle.registers.specs.Set.{registerWords}
 use Rattle.tables.specs.Runs.{run, after, Each}
 use Rattle.groups.specs.Page.{Page, InRange, samePage}
 use Rattle.translation.specs.Steps.{beforeSearch, answerOf, doneAnswer}
 use Rattle.translation.specs.declared.Early.the-variants.{Search}
 use Rattle.translation.specs.declared.Outcome.the-variants.{NoMatch}
 use Rattle.translation.specs.declared.Wanted.{Wanted}
-use Rattle.calls.specs.Request.{Request, clear, mapPage, unmap, protect, look, access, registerWords, sdr1In, fed}
+use Rattle.calls.specs.Request.{Request, clear, mapPage, unmap, protect, look, access, sdr1In, fed}
 use Rattle.calls.specs.Rules.{refusal}
 use Rattle.calls.specs.Answers.{accessAnswer}
 use Rattle.calls.specs.OnBytes.{Ended, onBytes, wantedPage}

@@ -16,6 +16,7 @@ use Rattle.words.proofs.Tests.{both, cond-by}
 use Rattle.entry.specs.Entry.{secondWord, matches, free, apiOf, withMarks, withPP}
 use Rattle.registers.specs.Sdr1.{tableLength, maskOnes}
 use Rattle.registers.proofs.Sdr1.{made-ones, made-length}
+use Rattle.registers.specs.Set.{registerWords}
 use Rattle.groups.specs.Page.{Page}
 use Rattle.groups.specs.Hash.{groupNumber}
 use Rattle.groups.specs.Group.{groupOf, firstAt, secondAt, firstOf, secondOf, putEntry, putAt}
@@ -30,7 +31,7 @@ use Rattle.translation.specs.Steps.{beforeSearch, outcomeOf, afterSearch, answe
 use Rattle.translation.specs.declared.Early.{Early}
 use Rattle.translation.specs.declared.Early.the-variants.{Decided, Search}
 use Rattle.translation.specs.declared.Outcome.{Outcome}
-use Rattle.calls.specs.Request.{Request, clear, mapPage, unmap, protect, look, access, registerWords, sdr1In, fed}
+use Rattle.calls.specs.Request.{Request, clear, mapPage, unmap, protect, look, access, sdr1In, fed}
 use Rattle.calls.specs.Rules.{refusal}
 use Rattle.calls.specs.Answers.{wordAnswer}
 use Rattle.calls.specs.OnBytes.{layout, Ended, ended, byMatches, byOption, entryWord, wantedPage, searched, markedBy, bytesDo, onBytes}

@@ -75,6 +75,6 @@ replaced registers number word =
     let refusal = cond (ltb number 33) (checkWords 4 11 words) 6 in
     cond (eqb refusal 0) (record { result = 0; set = record { words = words } }) (record { result = refusal; set = registers })
 
--- the register set of a page of 132 bytes
-unfoldable pub pageSet : List ℕ → Registers
-pageSet page = record { words = wordsAt page 0 33 }
+-- the words of a register page of 132 bytes
+unfoldable pub registerWords : List ℕ → List ℕ
+registerWords page = wordsAt page 0 33

@@ -27,11 +27,9 @@ use Rattle.translation.specs.declared.Early.{Early}
 use Rattle.translation.specs.declared.Early.the-variants.{Decided, Search}
 use Rattle.translation.specs.declared.Outcome.{Outcome}
 use Rattle.translation.specs.declared.Outcome.the-variants.{Done}
-use Rattle.translation.specs.declared.Fault.{Fault}
 use Rattle.translation.specs.declared.Searched.{Searched}
 use Rattle.translation.specs.declared.Searched.the-variants.{Nothing, At, Contradicting}
 use Rattle.translation.specs.declared.Wanted.{Wanted}
-use Rattle.translation.specs.declared.Answer.{Answer}
 use Rattle.translation.proofs.Steps.{page-by, done-passes}
 use Rattle.calls.specs.Request.{Request, access, sdr1In, fed}
 use Rattle.calls.specs.Rules.{rules, refusal}

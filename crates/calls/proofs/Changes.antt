@@ -11,7 +11,6 @@ use Rattle.placement.specs.FiniteMap.{fieldsAt, putIn, takeOut, revise, mappedP
 use Rattle.registers.specs.Sdr1.{maskOnes}
 use Rattle.registers.specs.Set.{registerWords}
 use Rattle.groups.specs.Page.{Page, samePage}
-use Rattle.groups.proofs.Hash.{samePage-refl}
 use Rattle.translation.specs.Access.{storing}
 use Rattle.translation.specs.Steps.{beforeSearch, outcomeOf, answerOf}
 use Rattle.translation.specs.declared.Early.{Early}

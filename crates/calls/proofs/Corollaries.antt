@@ -2,7 +2,7 @@
 -- gives the frame and the attributes of its last done map. Both are shown on the finite map, call by call, and carried to the bytes by the theorem.
 use Prim.Native.Nat.{ℕ, _+_, _*_, _%_, _^_, _≤_, _<_}
 use mathlib.Core.Path.{_≡_, refl, sym, ap, ap₂, _∙_, subst}
-use mathlib.Core.Bool.{Bool, true, false, cond, _&&_, true≢false}
+use mathlib.Core.Bool.{Bool, true, false, cond, _&&_}
 use mathlib.Core.Logic.{ite, if-pos, if-neg}
 use borrow.Author.Tests.{eqb-true, eqb-false}
 use Rattle.registers.specs.Sdr1.{maskOnes}
@@ -31,12 +31,12 @@ use Rattle.translation.specs.declared.Early.the-variants.{Search}
 use Rattle.translation.specs.declared.Outcome.{Outcome}
 use Rattle.translation.specs.declared.Outcome.the-variants.{NoMatch, Guarded, Protection, Done}
 use Rattle.translation.specs.declared.Wanted.{Wanted}
-use Rattle.translation.specs.Fault.{noFetch, protection, faultOf}
+use Rattle.translation.specs.Fault.{noFetch, protection}
 use Rattle.translation.specs.declared.Fault.{Fault}
 use Rattle.translation.specs.declared.Searched.{Searched}
 use Rattle.translation.specs.declared.Searched.the-variants.{Nothing, At}
 use Rattle.translation.proofs.Steps.{after-nothing, after-at, outcome-searched}
-use Rattle.calls.specs.Request.{Request, clear, mapPage, unmap, protect, look, access, fed, sdr1In}
+use Rattle.calls.specs.Request.{Request, clear, mapPage, unmap, access, fed, sdr1In}
 use Rattle.calls.specs.Rules.{refusal}
 use Rattle.calls.specs.Answers.{wordAnswer, accessAnswer, compared}
 use Rattle.calls.specs.OnBytes.{Ended, ended, onBytes, byOption, wantedPage}

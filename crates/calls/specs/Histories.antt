@@ -1,6 +1,5 @@
 -- Histories: lists of calls on one table, and the same calls as the finite map is fed them.
 use Prim.Native.Nat.{ℕ}
-use mathlib.Core.Bool.{Bool, true}
 use mathlib.Core.List.{List, [], _∷_, map}
 use mathlib.Core.Logic.{_⊎_}
 use mathlib.Core.Option.{Option, none, some}

@@ -30,7 +30,6 @@ use Rattle.translation.specs.Access.{storing}
 use Rattle.translation.specs.Steps.{beforeSearch, outcomeOf, afterSearch, answerOf}
 use Rattle.translation.specs.declared.Early.{Early}
 use Rattle.translation.specs.declared.Early.the-variants.{Decided, Search}
-use Rattle.translation.specs.declared.Outcome.{Outcome}
 use Rattle.calls.specs.Request.{Request, clear, mapPage, unmap, protect, look, access, sdr1In, fed}
 use Rattle.calls.specs.Rules.{refusal}
 use Rattle.calls.specs.Answers.{wordAnswer}

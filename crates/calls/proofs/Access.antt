@@ -10,7 +10,7 @@ use borrow.Author.Tests.{eq-eqb, ne-eqb, eqb-true}
 use Rattle.entry.specs.Entry.{withMarks}
 use Rattle.registers.specs.Rules.{firstBroken}
 use Rattle.registers.specs.Sdr1.{sdr1Shape, tableLength, maskOnes}
-use Rattle.registers.specs.Set.{sdr1Of, segmentsShape, sideShape, sideApart, registerRules, checkWords}
+use Rattle.registers.specs.Set.{sdr1Of, segmentsShape, sideShape, sideApart, registerRules, checkWords, registerWords}
 use Rattle.registers.proofs.Set.{checked}
 use Rattle.groups.specs.Hash.{groupNumber}
 use Rattle.groups.specs.Group.{firstOf, putAt}
@@ -20,19 +20,21 @@ use Rattle.groups.proofs.Summary.{Summarised, summarised, summary-none, place-f
 use Rattle.tables.specs.Matches.{Match}
 use Rattle.tables.specs.Layout.{matchesOf, overwrite}
 use Rattle.tables.proofs.Groups.{MatchOf, members-of}
-use Rattle.translation.specs.Access.{storing}
+use Rattle.translation.specs.Access.{fetching, storing}
+use Rattle.translation.specs.Fault.{noMatch, noFetch, protection, faultOf}
 use Rattle.translation.specs.Steps.{beforeSearch, afterSearch, outcomeOf, answerOf, refusedAnswer}
 use Rattle.translation.specs.declared.Early.{Early}
 use Rattle.translation.specs.declared.Early.the-variants.{Decided, Search}
 use Rattle.translation.specs.declared.Outcome.{Outcome}
 use Rattle.translation.specs.declared.Outcome.the-variants.{Done}
+use Rattle.translation.specs.declared.Searched.{Searched}
 use Rattle.translation.specs.declared.Searched.the-variants.{Nothing, At, Contradicting}
 use Rattle.translation.specs.declared.Wanted.{Wanted}
-use Rattle.translation.proofs.Steps.{done-passes}
-use Rattle.calls.specs.Request.{Request, access, registerWords, sdr1In, fed}
-use Rattle.calls.specs.Rules.{argumentOutOfRange, tableLengthWrong, rules, refusal}
+use Rattle.translation.proofs.Steps.{page-by, done-passes}
+use Rattle.calls.specs.Request.{Request, access, sdr1In, fed}
+use Rattle.calls.specs.Rules.{rules, refusal}
 use Rattle.calls.specs.Answers as answers
-use Rattle.calls.specs.Answers.{accessAnswer, answerRefused, doneByPage}
+use Rattle.calls.specs.Answers.{accessAnswer, answerRefused}
 use Rattle.calls.specs.OnBytes.{layout, ended, byMatches, wantedPage, searched, markedBy, bytesDo, onBytes}
 use Rattle.calls.proofs.OnBytes.{taken, refused}
 
@@ -40,7 +42,8 @@ use Rattle.calls.proofs.OnBytes.{taken, refused}
 
 -- the rules of an access after 11, given the words of its register page
 abbrev pub rulesThen : List ℕ → ℕ → ℕ → ℕ → List (Bool × ℕ)
-rulesThen words mode kind lent = argumentOutOfRange (ltb mode 8 && ltb kind 3) ∷ registerRules 4 11 words ++ (tableLengthWrong (sdr1Of words) lent ∷ [])
+rulesThen words mode kind lent =
+    (not (ltb mode 8 && ltb kind 3), 6) ∷ registerRules 4 11 words ++ ((not (eqb lent (tableLength (sdr1Of words))), 1) ∷ [])
 
 module _ (words : List ℕ) (mode kind lent : ℕ) where
   -- they are 6, then the check of the set, then the table's length; none is 11
@@ -136,24 +139,43 @@ module _ (s : Summary) where
 
 -- ---- the mark
 
--- an outcome by which no page did the access leaves the table
-pub unmarked : (k kind : ℕ) (early : Early) (outcome : Outcome) (t : List ℕ) → doneByPage outcome ≡ false → markedBy k kind early outcome t ≡ t
-unfolding markedBy
-unmarked k kind (Decided decided) outcome t n = refl
-unmarked k kind (Search wanted) outcome t n = rw n
+-- a fault's number is not 0
+pub fault-number : (cause kind : ℕ) → faultOf cause kind .result ≡ 0 → ⊥
+unfolding faultOf
+fault-number cause kind = by (fetching kind)
+  where
+    by : (t : Bool) → cond {A = ℕ} t 65 64 ≡ 0 → ⊥
+    by true e = omega arith
+    by false e = omega arith
 
-pub unmarked-decided : (k kind : ℕ) (decided outcome : Outcome) (t : List ℕ) → markedBy k kind (Decided decided) outcome t ≡ t
+-- of the outcomes of a search only that of a done access answers 0
+pub late-done : (kind : ℕ) (key : Bool) (address : ℕ) (found : Searched) → answerOf kind address (afterSearch kind key found) .result ≡ 0
+    → (second : ℕ) × (afterSearch kind key found ≡ Done second)
+unfolding answerOf afterSearch
+late-done kind key address Contradicting z = absurd (omega arith)
+late-done kind key address Nothing z = absurd (fault-number noMatch kind z)
+late-done kind key address (At word) z =
+    page-by kind key word (λ (outcome : Outcome). answerOf kind address outcome .result ≡ 0 → (second : ℕ) × (outcome ≡ Done second))
+    (λ g e. absurd (fault-number noFetch kind e)) (λ g p e. absurd (fault-number protection kind e)) (λ g p e. (word, refl)) z
+
+-- an access that is not done leaves the table
+pub unmarked : (k kind : ℕ) (early : Early) (result : ℕ) (t : List ℕ) → (result ≡ 0 → ⊥) → markedBy k kind early result t ≡ t
 unfolding markedBy
-unmarked-decided k kind decided outcome t = refl
+unmarked k kind (Decided outcome) result t n = refl
+unmarked k kind (Search wanted) result t n = rw (ne-eqb result 0 n)
+
+pub unmarked-decided : (k kind : ℕ) (outcome : Outcome) (result : ℕ) (t : List ℕ) → markedBy k kind (Decided outcome) result t ≡ t
+unfolding markedBy
+unmarked-decided k kind outcome result t = refl
 
 module _ (k : ℕ) (wanted : Wanted) (t : List ℕ) (s : Summary) (e : s ≡ groups.summary (matchesOf (layout k) t (wantedPage wanted))) where
   -- an access done by the page marks the first match, where the search told
-  pub marked-done : (kind second : ℕ) → groups.found s ≡ true
+  pub marked-done : (kind : ℕ) → groups.found s ≡ true
       → let g = groupNumber (10 + k) (groups.inSecondary s) (wantedPage wanted) in
-      markedBy k kind (Search wanted) (Done second) t
+      markedBy k kind (Search wanted) 0 t
       ≡ putAt t g (groups.entryOf s) (firstOf t g (groups.entryOf s)) (withMarks true (storing kind) (s .second))
-  unfolding markedBy doneByPage overwrite
-  marked-done kind second f =
+  unfolding markedBy overwrite
+  marked-done kind f =
       by-list s (λ l. ((x : Match) → List·Memᴰ x l → MatchOf (layout k) t (wantedPage wanted) x)
       → byMatches l t (λ x xs. overwrite (layout k) (wantedPage wanted) x (x .first) (withMarks true (storing kind) (x .second)) t) ≡ marked (groups.inSecondary s) (groups.entryOf s))
       (matchesOf (layout k) t (wantedPage wanted)) e
@@ -195,6 +217,6 @@ module _ (page : List ℕ) (mode kind address : ℕ) (answer t : List ℕ) where
         → let k = maskOnes (sdr1Of (registerWords page)) in
         let early = beforeSearch 4 11 (registerWords page) mode kind address in
         outcome ≡ outcomeOf kind (λ wanted. searched (matchesOf (layout k) t (wantedPage wanted))) early
-        → onBytes request t ≡ ended (answerOf kind address outcome .result) (markedBy k kind early outcome t) (accessAnswer (answerOf kind address outcome))
+        → onBytes request t ≡ ended (answerOf kind address outcome .result) (markedBy k kind early (answerOf kind address outcome .result) t) (accessAnswer (answerOf kind address outcome))
     unfolding bytesDo sdr1In
     access-taken z outcome e = taken request t (after-11 ∙ z) ∙ (rw e)

@@ -2,7 +2,7 @@
 -- gives the frame and the attributes of its last done map. Both are shown on the finite map, call by call, and carried to the bytes by the theorem.
 use Prim.Native.Nat.{ℕ, _+_, _*_, _%_, _^_, _≤_, _<_}
 use mathlib.Core.Path.{_≡_, refl, sym, ap, ap₂, _∙_, subst}
-use mathlib.Core.Bool.{Bool, true, false, cond, _&&_, true≢false}
+use mathlib.Core.Bool.{Bool, true, false, cond, _&&_}
 use mathlib.Core.Logic.{ite, if-pos, if-neg}
 use borrow.Author.Tests.{eqb-true, eqb-false}
 use Rattle.registers.specs.Sdr1.{maskOnes}
@@ -18,6 +18,7 @@ use Rattle.placement.proofs.FiniteMap.{fieldsAt-putIn-same, fieldsAt-putIn-othe
 use Rattle.entry.specs.Entry.{secondWord, wimgOf, ppOf, physicalAddress}
 use Rattle.entry.proofs.Packing.{SecondFields, second-packed}
 use Rattle.entry.proofs.Addresses.{physical-fields}
+use Rattle.registers.specs.Set.{registerWords}
 use Rattle.groups.specs.Page.{Page, samePage}
 use Rattle.groups.proofs.Hash.{samePage-refl, samePage-eq}
 use Rattle.tables.specs.Runs.{run, after, Each}
@@ -30,20 +31,21 @@ use Rattle.translation.specs.declared.Early.the-variants.{Search}
 use Rattle.translation.specs.declared.Outcome.{Outcome}
 use Rattle.translation.specs.declared.Outcome.the-variants.{NoMatch, Guarded, Protection, Done}
 use Rattle.translation.specs.declared.Wanted.{Wanted}
-use Rattle.translation.specs.Fault.{noFetch, protection, faultOf}
+use Rattle.translation.specs.Fault.{noFetch, protection}
 use Rattle.translation.specs.declared.Fault.{Fault}
 use Rattle.translation.specs.declared.Searched.{Searched}
 use Rattle.translation.specs.declared.Searched.the-variants.{Nothing, At}
 use Rattle.translation.proofs.Steps.{after-nothing, after-at, outcome-searched}
-use Rattle.calls.specs.Request.{Request, clear, mapPage, unmap, protect, look, access, registerWords, fed, sdr1In}
+use Rattle.calls.specs.Request.{Request, clear, mapPage, unmap, access, fed, sdr1In}
 use Rattle.calls.specs.Rules.{refusal}
 use Rattle.calls.specs.Answers.{wordAnswer, accessAnswer, compared}
-use Rattle.calls.specs.OnBytes.{onBytes, byOption, wantedPage}
-use Rattle.calls.specs.OnMap.{PageFields, Map, fieldsWord, Told, told, Arranged, arranged?, foundIn, mapDoes, onMap}
+use Rattle.calls.specs.OnBytes.{Ended, ended, onBytes, byOption, wantedPage}
+use Rattle.calls.specs.OnMap.{PageFields, Map, fieldsWord, Arranged, arranged?, foundIn, mapDoes, onMap}
 use Rattle.calls.specs.Represents.{FieldsInRange, represents}
-use Rattle.calls.specs.Histories.{Call, bytesStep, mapStep, fedCall, Under, NoneDone, mapsIt, mapsPage, takesItOut, takesOut}
+use Rattle.calls.specs.Histories.{Call, bytesStep, mapStep, fedCall, Under, NoneDone, Maps, by-map, TakesOut, by-clear, by-unmap}
 use Rattle.calls.specs.Theorem.{sdr1With, Start, cleared, tableAfter, mapAfter, Reaches, AccessFollowsHistory}
 use Rattle.calls.proofs.Fields.{oneIf-lt}
+use Rattle.calls.proofs.Access.{fault-number}
 use Rattle.calls.proofs.Changes.{KeepsFrame, Changed, left, emptied, put, took, revised, changed}
 use Rattle.calls.proofs.Histories.{keeps, map-taken, map-refused}
 use Rattle.calls.proofs.Theorem.{cleared-represents, history-represents, as-map}
@@ -55,15 +57,15 @@ pub record Has (rpn wimg : ℕ) (page : Page) (m : Map) : Type 0 where
   pub frame : fields .frame ≡ rpn
   pub attributes : fields .attributes ≡ wimg
 
-module _ (page : Page) (request : Request ℕ) (m : Map) (d : Told) where
+module _ (page : Page) (request : Request ℕ) (m : Map) (d : Ended Map) where
   -- a page that is not mapped stays so unless it is mapped
-  pub stays-out : fieldsAt samePage page m ≡ none → (mapsIt page request ≡ true → d .number ≡ 0 → ⊥) → Changed request m d → fieldsAt samePage page (d .map) ≡ none
+  pub stays-out : fieldsAt samePage page m ≡ none → (Maps page request → d .number ≡ 0 → ⊥) → Changed request m d → fieldsAt samePage page (d .state) ≡ none
   stays-out e n (left q) = rw q e
   stays-out e n (emptied a b q) = rw q
   stays-out e n (put other f a b c q) = rw q (by (samePage other page) refl)
     where
       by : (t : Bool) → samePage other page ≡ t → fieldsAt samePage page (putIn other f m) ≡ none
-      by true s = absurd (n (subst (λ p. mapsIt p request ≡ true) (samePage-eq other page s) a) b)
+      by true s = absurd (n (subst (λ p. Maps p request) (samePage-eq other page s) a) b)
       by false s = fieldsAt-putIn-other samePage samePage-refl samePage-eq other page f m s ∙ e
   stays-out e n (took other f a b c q) = rw q (by (samePage other page) refl)
     where
@@ -78,7 +80,7 @@ module _ (page : Page) (request : Request ℕ) (m : Map) (d : Told) where
       cond-none false = refl
 
   -- a mapped page keeps its frame and attributes unless it is taken out
-  pub stays-in : (rpn wimg : ℕ) → Has rpn wimg page m → (takesItOut page request ≡ true → d .number ≡ 0 → ⊥) → Changed request m d → Has rpn wimg page (d .map)
+  pub stays-in : (rpn wimg : ℕ) → Has rpn wimg page m → (TakesOut page request → d .number ≡ 0 → ⊥) → Changed request m d → Has rpn wimg page (d .state)
   stays-in rpn wimg has n (left q) = rw q has
   stays-in rpn wimg has n (emptied a b q) = absurd (n (a page) b)
   stays-in rpn wimg has n (put other f a b c q) = rw q (by (samePage other page) refl)
@@ -94,7 +96,7 @@ module _ (page : Page) (request : Request ℕ) (m : Map) (d : Told) where
   stays-in rpn wimg has n (took other f a b c q) = rw q (by (samePage other page) refl)
     where
       by : (t : Bool) → samePage other page ≡ t → Has rpn wimg page (takeOut samePage other m)
-      by true s = absurd (n (subst (λ p. takesItOut p request ≡ true) (samePage-eq other page s) a) b)
+      by true s = absurd (n (subst (λ p. TakesOut p request) (samePage-eq other page s) a) b)
       by false s = record {
         fields = has .fields;
         mapped = fieldsAt-takeOut-other samePage samePage-refl samePage-eq other page m s ∙ has .mapped;
@@ -117,23 +119,20 @@ module _ (page : Page) (request : Request ℕ) (m : Map) (d : Told) where
         attributes = has .attributes;
       }
 
-maps-fed : (page : Page) (request : Request (List ℕ)) → mapsIt page (fed request) ≡ mapsIt page request
-unfolding mapsIt fed
-maps-fed page (clear sdr1) = refl
-maps-fed page (mapPage sdr1 other rpn wimg pp) = refl
-maps-fed page (unmap sdr1 other answer) = refl
-maps-fed page (protect sdr1 other pp) = refl
-maps-fed page (look sdr1 other answer) = refl
-maps-fed page (access registers mode kind address answer) = refl
+-- what the finite map is fed asks the same
+maps-fed : (page : Page) (request : Request (List ℕ)) → Maps page (fed request) → Maps page request
+unfolding fed
+maps-fed page (mapPage sdr1 other rpn wimg pp) (by-map s r w q) = by-map s r w q
 
-takes-fed : (page : Page) (request : Request (List ℕ)) → takesItOut page (fed request) ≡ takesItOut page request
-unfolding takesItOut fed
-takes-fed page (clear sdr1) = refl
-takes-fed page (mapPage sdr1 other rpn wimg pp) = refl
-takes-fed page (unmap sdr1 other answer) = refl
-takes-fed page (protect sdr1 other pp) = refl
-takes-fed page (look sdr1 other answer) = refl
-takes-fed page (access registers mode kind address answer) = refl
+takes-fed : (page : Page) (request : Request (List ℕ)) → TakesOut page (fed request) → TakesOut page request
+unfolding fed
+takes-fed page (clear sdr1) (by-clear s) = by-clear s
+takes-fed page (unmap sdr1 other answer) (by-unmap s n) = by-unmap s answer
+
+fed-takes : (page : Page) (request : Request (List ℕ)) → TakesOut page request → TakesOut page (fed request)
+unfolding fed
+fed-takes page request (by-clear s) = by-clear s
+fed-takes page request (by-unmap s answer) = by-unmap s (length answer)
 
 -- a done call that takes the page out leaves it out, and a done map of it leaves it with the map's frame and attributes
 module _ (lent : ℕ) (m : Map) where
@@ -145,31 +144,25 @@ module _ (lent : ℕ) (m : Map) where
       by true e = eqb-true (refusal request lent) 0 e
       by false e =
           let n = eqb-false (refusal request lent) 0 e in
-          absurd (n (sym (ap (λ (d : Told). d .number) (map-refused request lent m (refusal request lent) refl n)) ∙ z))
+          absurd (n (sym (ap (λ (d : Ended Map). d .number) (map-refused request lent m (refusal request lent) refl n)) ∙ z))
 
   done-does : (request : Request ℕ) → onMap request lent m .number ≡ 0 → onMap request lent m ≡ mapDoes (maskOnes (sdr1In request)) request m
   done-does request z = map-taken request lent m (done-taken request z)
 
-  taken-out : (page : Page) (request : Request ℕ) → takesItOut page request ≡ true → onMap request lent m .number ≡ 0
-      → fieldsAt samePage page (onMap request lent m .map) ≡ none
-  unfolding takesItOut mapDoes
-  taken-out page (clear sdr1) a z = rw (done-does (clear sdr1) z)
-  taken-out page (mapPage sdr1 other rpn wimg pp) a z = absurd (true≢false (sym a))
-  taken-out page (unmap sdr1 other answer) a z =
-      let same = samePage-eq page other a in
-      rw (done-does (unmap sdr1 other answer) z) (by (fieldsAt samePage other m) (rw (done-does (unmap sdr1 other answer) z) at z) same)
+  taken-out : (page : Page) (request : Request ℕ) → TakesOut page request → onMap request lent m .number ≡ 0
+      → fieldsAt samePage page (onMap request lent m .state) ≡ none
+  unfolding mapDoes
+  taken-out page request (by-clear sdr1) z = rw (done-does (clear sdr1) z)
+  taken-out page request (by-unmap sdr1 answer) z =
+      rw (done-does (unmap sdr1 page answer) z) (by (fieldsAt samePage page m) (rw (done-does (unmap sdr1 page answer) z) at z))
     where
-      by : (o : Option PageFields) → byOption o (told 8 (wordAnswer 8 0) m) (λ f. told 0 (wordAnswer 0 (fieldsWord f)) (takeOut samePage other m)) .number ≡ 0 → page ≡ other
-          → fieldsAt samePage page (byOption o (told 8 (wordAnswer 8 0) m) (λ f. told 0 (wordAnswer 0 (fieldsWord f)) (takeOut samePage other m)) .map) ≡ none
-      by none n same = absurd (omega arith)
-      by (some f) n same =
-          subst (λ p. fieldsAt samePage p (takeOut samePage other m) ≡ none) (sym same) (fieldsAt-takeOut-same samePage samePage-refl samePage-eq other m)
-  taken-out page (protect sdr1 other pp) a z = absurd (true≢false (sym a))
-  taken-out page (look sdr1 other answer) a z = absurd (true≢false (sym a))
-  taken-out page (access registers mode kind address answer) a z = absurd (true≢false (sym a))
+      by : (o : Option PageFields) → byOption o (ended 8 m (wordAnswer 8 0)) (λ f. ended 0 (takeOut samePage page m) (wordAnswer 0 (fieldsWord f))) .number ≡ 0
+          → fieldsAt samePage page (byOption o (ended 8 m (wordAnswer 8 0)) (λ f. ended 0 (takeOut samePage page m) (wordAnswer 0 (fieldsWord f))) .state) ≡ none
+      by none n = absurd (omega arith)
+      by (some f) n = fieldsAt-takeOut-same samePage samePage-refl samePage-eq page m
 
   put-in : (sdr1 : ℕ) (page : Page) (rpn wimg pp : ℕ) → onMap (mapPage sdr1 page rpn wimg pp) lent m .number ≡ 0
-      → Has rpn wimg page (onMap (mapPage sdr1 page rpn wimg pp) lent m .map)
+      → Has rpn wimg page (onMap (mapPage sdr1 page rpn wimg pp) lent m .state)
   unfolding mapDoes
   put-in sdr1 page rpn wimg pp z =
       rw (done-does (mapPage sdr1 page rpn wimg pp) z) (by (fieldsAt samePage page m) (rw (done-does (mapPage sdr1 page rpn wimg pp) z) at z))
@@ -180,23 +173,23 @@ module _ (lent : ℕ) (m : Map) where
       new : PageFields
       new = record { frame = rpn; attributes = wimg; protection = pp; referenced = false; changed = false }
 
-      done : Told
-      done = told 0 [] (putIn page new m)
+      done : Ended Map
+      done = ended 0 (putIn page new m) []
 
-      full : Told
-      full = told 9 [] m
+      full : Ended Map
+      full = ended 9 m []
 
-      arranged : (d : Dec (Arranged ones (page ∷ mappedPages m))) → ite d done full .number ≡ 0 → Has rpn wimg page (ite d done full .map)
+      arranged : (d : Dec (Arranged ones (page ∷ mappedPages m))) → ite d done full .number ≡ 0 → Has rpn wimg page (ite d done full .state)
       arranged d n = pick d
         where
-          pick : Dec (Arranged ones (page ∷ mappedPages m)) → Has rpn wimg page (ite d done full .map)
+          pick : Dec (Arranged ones (page ∷ mappedPages m)) → Has rpn wimg page (ite d done full .state)
           pick (yes a) =
-              subst (λ (x : Told). Has rpn wimg page (x .map)) (sym (if-pos d a done full))
+              subst (λ (x : Ended Map). Has rpn wimg page (x .state)) (sym (if-pos d a done full))
               (record { fields = new; mapped = fieldsAt-putIn-same samePage samePage-refl samePage-eq page new m; frame = refl; attributes = refl })
-          pick (no a) = absurd (let z : _≡_ {A = ℕ} 9 0 = ap (λ (x : Told). x .number) (sym (if-neg d a done full)) ∙ n in omega arith)
+          pick (no a) = absurd (let z : _≡_ {A = ℕ} 9 0 = ap (λ (x : Ended Map). x .number) (sym (if-neg d a done full)) ∙ n in omega arith)
 
-      by : (o : Option PageFields) → byOption o (ite (arranged? ones (page ∷ mappedPages m)) done full) (λ f. told 7 [] m) .number ≡ 0
-          → Has rpn wimg page (byOption o (ite (arranged? ones (page ∷ mappedPages m)) done full) (λ f. told 7 [] m) .map)
+      by : (o : Option PageFields) → byOption o (ite (arranged? ones (page ∷ mappedPages m)) done full) (λ f. ended 7 m []) .number ≡ 0
+          → Has rpn wimg page (byOption o (ite (arranged? ones (page ∷ mappedPages m)) done full) (λ f. ended 7 m []) .state)
       by none n = arranged (arranged? ones (page ∷ mappedPages m)) n
       by (some f) n = absurd (omega arith)
 
@@ -208,7 +201,7 @@ map-parts size (c ∷ cs) ds m = map-parts size cs ds (mapStep (fedCall size c) 
 
 module _ (o k : ℕ) (few : k ≤ 9) (whole : o % 2 ^ k ≡ 0) (page : Page) where
   -- what the finite map tells of a call of a history
-  tells : Call → Map → Told
+  tells : Call → Map → Ended Map
   tells c m = onMap (fed (c .request)) (byOption (c .lent) (65536 * 2 ^ k) length) m
 
   -- its number is that of the bytes
@@ -216,29 +209,29 @@ module _ (o k : ℕ) (few : k ≤ 9) (whole : o % 2 ^ k ≡ 0) (page : Page) whe
   unfolding mapStep compared tells
   number-same c under t m r = ap (λ (x : ℕ × List ℕ). x .0) (keeps o k few whole c under t m r .0)
 
-  next : (c : Call) → Under (sdr1With o k) (65536 * 2 ^ k) c → (t : List ℕ) (m : Map) → represents k t m → represents k (bytesStep c t .1) (tells c m .map)
+  next : (c : Call) → Under (sdr1With o k) (65536 * 2 ^ k) c → (t : List ℕ) (m : Map) → represents k t m → represents k (bytesStep c t .1) (tells c m .state)
   unfolding mapStep tells
   next c under t m r = keeps o k few whole c under t m r .1
 
   out-along : (ds : List Call) → Each (Under (sdr1With o k) (65536 * 2 ^ k)) ds → (t : List ℕ) (m : Map) → represents k t m
-      → fieldsAt samePage page m ≡ none → NoneDone (mapsPage page) ds t → fieldsAt samePage page (after mapStep (map (fedCall (65536 * 2 ^ k)) ds) m) ≡ none
+      → fieldsAt samePage page m ≡ none → NoneDone (Maps page) ds t → fieldsAt samePage page (after mapStep (map (fedCall (65536 * 2 ^ k)) ds) m) ≡ none
   unfolding mapStep tells
   out-along [] each t m r e n = e
   out-along (c ∷ ds) each t m r e n =
-      out-along ds (each .1) (bytesStep c t .1) (tells c m .map) (next c (each .0) t m r)
+      out-along ds (each .1) (bytesStep c t .1) (tells c m .state) (next c (each .0) t m r)
       (stays-out page (fed (c .request)) m (tells c m) e
-      (λ a z. n .0 (sym (maps-fed page (c .request)) ∙ a) (number-same c (each .0) t m r ∙ z))
+      (λ a z. n .0 (maps-fed page (c .request) a) (number-same c (each .0) t m r ∙ z))
       (changed (fed (c .request)) (byOption (c .lent) (65536 * 2 ^ k) length) m))
       (n .1)
 
   in-along : (rpn wimg : ℕ) (ds : List Call) → Each (Under (sdr1With o k) (65536 * 2 ^ k)) ds → (t : List ℕ) (m : Map) → represents k t m
-      → Has rpn wimg page m → NoneDone (takesOut page) ds t → Has rpn wimg page (after mapStep (map (fedCall (65536 * 2 ^ k)) ds) m)
+      → Has rpn wimg page m → NoneDone (TakesOut page) ds t → Has rpn wimg page (after mapStep (map (fedCall (65536 * 2 ^ k)) ds) m)
   unfolding mapStep tells
   in-along rpn wimg [] each t m r has n = has
   in-along rpn wimg (c ∷ ds) each t m r has n =
-      in-along rpn wimg ds (each .1) (bytesStep c t .1) (tells c m .map) (next c (each .0) t m r)
+      in-along rpn wimg ds (each .1) (bytesStep c t .1) (tells c m .state) (next c (each .0) t m r)
       (stays-in page (fed (c .request)) m (tells c m) rpn wimg has
-      (λ a z. n .0 (sym (takes-fed page (c .request)) ∙ a) (number-same c (each .0) t m r ∙ z))
+      (λ a z. n .0 (takes-fed page (c .request) a) (number-same c (each .0) t m r ∙ z))
       (changed (fed (c .request)) (byOption (c .lent) (65536 * 2 ^ k) length) m))
       (n .1)
 
@@ -255,7 +248,7 @@ module _ (o k : ℕ) (t : List ℕ) (start : Start o k t) (cs : List Call) (c : 
 
   -- the map after the call, and after the rest
   told-then : Map
-  told-then = tells o k (start .few) (start .whole) page c (mapAfter k cs) .map
+  told-then = tells o k (start .few) (start .whole) page c (mapAfter k cs) .state
 
   rest-is : mapAfter k (cs ++ c ∷ ds) ≡ after mapStep (map (fedCall (65536 * 2 ^ k)) ds) told-then
   unfolding told-then tells mapStep
@@ -268,16 +261,16 @@ module _ (o k : ℕ) (t : List ℕ) (start : Start o k t) (cs : List Call) (c : 
   unfolding told-then
   then-represents = next o k (start .few) (start .whole) page c (behind .0) (tableAfter o k t cs) (mapAfter k cs) represented
 
-  out-after : takesOut page c ≡ true → bytesStep c (tableAfter o k t cs) .0 .0 ≡ 0 → NoneDone (mapsPage page) ds (bytesStep c (tableAfter o k t cs) .1)
+  out-after : TakesOut page (c .request) → bytesStep c (tableAfter o k t cs) .0 .0 ≡ 0 → NoneDone (Maps page) ds (bytesStep c (tableAfter o k t cs) .1)
       → fieldsAt samePage page (mapAfter k (cs ++ c ∷ ds)) ≡ none
   unfolding told-then tells
   out-after a z n =
       rw rest-is
       (out-along o k (start .few) (start .whole) page ds (behind .1) (bytesStep c (tableAfter o k t cs) .1) told-then then-represents
-      (taken-out (byOption (c .lent) (65536 * 2 ^ k) length) (mapAfter k cs) page (fed (c .request)) (takes-fed page (c .request) ∙ a) (number-is z)) n)
+      (taken-out (byOption (c .lent) (65536 * 2 ^ k) length) (mapAfter k cs) page (fed (c .request)) (fed-takes page (c .request) a) (number-is z)) n)
 
   in-after : (sdr1 rpn wimg pp : ℕ) → c .request ≡ mapPage sdr1 page rpn wimg pp → bytesStep c (tableAfter o k t cs) .0 .0 ≡ 0
-      → NoneDone (takesOut page) ds (bytesStep c (tableAfter o k t cs) .1) → Has rpn wimg page (mapAfter k (cs ++ c ∷ ds))
+      → NoneDone (TakesOut page) ds (bytesStep c (tableAfter o k t cs) .1) → Has rpn wimg page (mapAfter k (cs ++ c ∷ ds))
   unfolding told-then tells fed
   in-after sdr1 rpn wimg pp is z n =
       let lent = byOption (c .lent) (65536 * 2 ^ k) length in
@@ -285,16 +278,7 @@ module _ (o k : ℕ) (t : List ℕ) (start : Start o k t) (cs : List Call) (c : 
       let put = put-in lent (mapAfter k cs) sdr1 page rpn wimg pp (subst (λ (r : Request ℕ). onMap r lent (mapAfter k cs) .number ≡ 0) is-fed (number-is z)) in
       rw rest-is
       (in-along o k (start .few) (start .whole) page rpn wimg ds (behind .1) (bytesStep c (tableAfter o k t cs) .1) told-then then-represents
-      (subst (λ (r : Request ℕ). Has rpn wimg page (onMap r lent (mapAfter k cs) .map)) (sym is-fed) put) n)
-
--- a fault's number is not 0
-fault-number : (cause kind : ℕ) → faultOf cause kind .result ≡ 0 → ⊥
-unfolding faultOf
-fault-number cause kind = by (fetching kind)
-  where
-    by : (t : Bool) → cond {A = ℕ} t 65 64 ≡ 0 → ⊥
-    by true e = omega arith
-    by false e = omega arith
+      (subst (λ (r : Request ℕ). Has rpn wimg page (onMap r lent (mapAfter k cs) .state)) (sym is-fed) put) n)
 
 -- an access that steps 5 to 7 let pass answers by the entry's word
 passed : (kind : ℕ) (key : Bool) (address word : ℕ) → answerOf kind address (pageOutcome kind key word) .result ≡ 0

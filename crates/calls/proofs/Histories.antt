@@ -17,7 +17,7 @@ use Rattle.calls.specs.Request.{Request, clear, mapPage, unmap, protect,
 use Rattle.calls.specs.Rules.{refusal}
 use Rattle.calls.specs.Answers.{refusedAnswer, answerRefused, compared}
 use Rattle.calls.specs.OnBytes.{Ended, ended, byOption, bytesDo, onBytes}
-use Rattle.calls.specs.OnMap.{Map, Told, told, mapDoes, onMap}
+use Rattle.calls.specs.OnMap.{Map, mapDoes, onMap}
 use Rattle.calls.specs.Represents.{represents}
 use Rattle.calls.specs.Histories.{Call, bytesStep, mapStep, fedCall, Under}
 use Rattle.calls.specs.Theorem.{sdr1With}
@@ -60,7 +60,7 @@ module _ (request : Request ℕ) (lent : ℕ) (m : Map) where
   map-taken e = rw (eq-eqb (refusal request lent) 0 e)
 
   pub map-refused : (number : ℕ) → refusal request lent ≡ number → (number ≡ 0 → ⊥)
-      → onMap request lent m ≡ told number (answerRefused (λ (n : ℕ). []) request number) m
+      → onMap request lent m ≡ ended number m (answerRefused (λ (n : ℕ). []) request number)
   unfolding onMap
   map-refused number e n = rw (e, ne-eqb number 0 n)
 
@@ -83,20 +83,20 @@ module _ (o k : ℕ) (few : k ≤ 9) (whole : o % 2 ^ k ≡ 0) where
   abbrev pub Follows : (ℕ × List ℕ) × List ℕ → (ℕ × List ℕ) × Map → Type 0
   Follows x y = (x .0 ≡ y .0) × represents k (x .1) (y .1)
 
-  alike-follows : (e : Ended) (d : Told) → Alike k e d → Follows (compared (e .number) (e .answer), e .table) (compared (d .number) (d .answer), d .map)
+  alike-follows : (e : Ended (List ℕ)) (d : Ended Map) → Alike k e d → Follows (compared (e .number) (e .answer), e .state) (compared (d .number) (d .answer), d .state)
   alike-follows e d a = (ap₂ compared (a .number) (a .answer), a .related)
 
   -- a refused call leaves table and map
   refused-follows : (request : Request (List ℕ)) (other t : List ℕ) (m : Map) → represents k t m → (refusal (fed request) (length other) ≡ 0 → ⊥)
       → Follows (compared (onBytes request other .number) (onBytes request other .answer), t)
-      (compared (onMap (fed request) (length other) m .number) (onMap (fed request) (length other) m .answer), onMap (fed request) (length other) m .map)
+      (compared (onMap (fed request) (length other) m .number) (onMap (fed request) (length other) m .answer), onMap (fed request) (length other) m .state)
   refused-follows request other t m r n =
       let number = refusal (fed request) (length other) in
       rw (refused request other number refl n, map-refused (fed request) (length other) m number refl n) (same-refusal request number, r)
 
   refused-table : (request : Request (List ℕ)) (t : List ℕ) (m : Map) → represents k t m → (refusal (fed request) (65536 * 2 ^ k) ≡ 0 → ⊥)
-      → Follows (compared (onBytes request t .number) (onBytes request t .answer), onBytes request t .table)
-      (compared (onMap (fed request) (65536 * 2 ^ k) m .number) (onMap (fed request) (65536 * 2 ^ k) m .answer), onMap (fed request) (65536 * 2 ^ k) m .map)
+      → Follows (compared (onBytes request t .number) (onBytes request t .answer), onBytes request t .state)
+      (compared (onMap (fed request) (65536 * 2 ^ k) m .number) (onMap (fed request) (65536 * 2 ^ k) m .answer), onMap (fed request) (65536 * 2 ^ k) m .state)
   refused-table request t m r n =
       let number = refusal (fed request) (65536 * 2 ^ k) in
       let here : refusal (fed request) (length t) ≡ number = ap (refusal (fed request)) (r .good .long) in
@@ -121,8 +121,8 @@ module _ (o k : ℕ) (few : k ≤ 9) (whole : o % 2 ^ k ≡ 0) where
           pick (inr brings) = brings
 
       on-table : (z : Bool) → eqb (refusal (fed request) (65536 * 2 ^ k)) 0 ≡ z → c .lent ≡ none
-          → Follows (compared (onBytes request t .number) (onBytes request t .answer), onBytes request t .table)
-          (compared (onMap (fed request) (65536 * 2 ^ k) m .number) (onMap (fed request) (65536 * 2 ^ k) m .answer), onMap (fed request) (65536 * 2 ^ k) m .map)
+          → Follows (compared (onBytes request t .number) (onBytes request t .answer), onBytes request t .state)
+          (compared (onMap (fed request) (65536 * 2 ^ k) m .number) (onMap (fed request) (65536 * 2 ^ k) m .answer), onMap (fed request) (65536 * 2 ^ k) m .state)
       on-table true z l =
           let e = eqb-true (refusal (fed request) (65536 * 2 ^ k)) 0 z in
           let at : byOption (c .lent) (65536 * 2 ^ k) length ≡ 65536 * 2 ^ k = rw l in
@@ -138,10 +138,10 @@ module _ (o k : ℕ) (few : k ≤ 9) (whole : o % 2 ^ k ≡ 0) where
 
       by : (lent : Option (List ℕ)) → c .lent ≡ lent
           → Follows
-          (byOption lent (compared (onBytes request t .number) (onBytes request t .answer), onBytes request t .table)
+          (byOption lent (compared (onBytes request t .number) (onBytes request t .answer), onBytes request t .state)
           (λ other. (compared (onBytes request other .number) (onBytes request other .answer), t))) (
             compared (onMap (fed request) (byOption lent (65536 * 2 ^ k) length) m .number) (onMap (fed request) (byOption lent (65536 * 2 ^ k) length) m .answer),
-            onMap (fed request) (byOption lent (65536 * 2 ^ k) length) m .map,
+            onMap (fed request) (byOption lent (65536 * 2 ^ k) length) m .state,
           )
       by none l = on-table (eqb (refusal (fed request) (65536 * 2 ^ k)) 0) refl l
       by (some other) l = refused-follows request other t m r (wrong other l)

@@ -33,7 +33,7 @@ use Rattle.groups.proofs.Edits.{edit-both-each}
 use Rattle.tables.specs.Matches.{Match}
 use Rattle.tables.specs.Layout.{freeEntry, freePlace, matchesOf, overwrite, overwriteEach}
 use Rattle.calls.specs.Request.{Request, clear, mapPage, unmap, protect, look, sdr1In, fed}
-use Rattle.calls.specs.Rules.{pageInRange, writeThroughInhibited, argumentOutOfRange, sdr1Wrong, tableLengthWrong, rules, refusal}
+use Rattle.calls.specs.Rules.{pageInRange, writeThroughInhibited, tableRules, rules, refusal}
 use Rattle.calls.specs.Answers.{wordAnswer, refusedAnswer, answerRefused}
 use Rattle.calls.specs.OnBytes.{layout, Ended, ended, entryWord, bytesDo, onBytes}
 use Rattle.calls.proofs.OnBytes.{taken, refused, matches-by-groups}
@@ -42,7 +42,7 @@ use Rattle.calls.proofs.OnBytes.{taken, refused, matches-by-groups}
 
 -- the rules that every call on a page has: 6, 2, 1
 abbrev pub pageRules : Bool → ℕ → ℕ → List (Bool × ℕ)
-pageRules inRange sdr1 lent = argumentOutOfRange inRange ∷ sdr1Wrong sdr1 ∷ tableLengthWrong sdr1 lent ∷ []
+pageRules inRange sdr1 lent = (not inRange, 6) ∷ tableRules sdr1 lent
 
 -- what holds where none of them is broken
 pub record Kept (inRange : Bool) (sdr1 lent : ℕ) : Type 0 where
@@ -115,7 +115,7 @@ module _ (request : Request (List ℕ)) (t : List ℕ) (inRange fits : Bool) (sd
   by-refusal : (number ≡ 0 → ⊥) → onBytes request t ≡ ended number t (answerRefused (λ lent. lent) request number)
   by-refusal n = refused request t number number-is n
 
-  by-work : number ≡ 0 → (done : Ended) → done ≡ bytesDo (maskOnes (sdr1In request)) request t → done ≡ onBytes request t
+  by-work : number ≡ 0 → (done : Ended (List ℕ)) → done ≡ bytesDo (maskOnes (sdr1In request)) request t → done ≡ onBytes request t
   by-work z done e = e ∙ sym (taken request t (number-is ∙ z))
 
 module _ (sdr1 : ℕ) (t : List ℕ) (number : ℕ) (given : number ≡ firstBroken (pageRules true sdr1 (length t))) where
@@ -133,7 +133,7 @@ module _ (sdr1 : ℕ) (page : Page) (rpn wimg pp : ℕ) (t : List ℕ) (inRange 
   unfolding refusal rules fed answerRefused
   map-refused n = by-refusal (mapPage sdr1 page rpn wimg pp) t inRange (mapInRange page rpn wimg pp) sdr1 number same given refl n
 
-  pub map-taken : number ≡ 0 → (done : Ended) → done ≡ bytesDo (maskOnes sdr1) (mapPage sdr1 page rpn wimg pp) t → done ≡ onBytes (mapPage sdr1 page rpn wimg pp) t
+  pub map-taken : number ≡ 0 → (done : Ended (List ℕ)) → done ≡ bytesDo (maskOnes sdr1) (mapPage sdr1 page rpn wimg pp) t → done ≡ onBytes (mapPage sdr1 page rpn wimg pp) t
   unfolding refusal rules fed sdr1In
   map-taken z done e = by-work (mapPage sdr1 page rpn wimg pp) t inRange (mapInRange page rpn wimg pp) sdr1 number same given refl z done e
 
@@ -146,7 +146,7 @@ module _ (sdr1 : ℕ) (page : Page) (pp : ℕ) (t : List ℕ) (inRange : Bool) (
   unfolding refusal rules fed answerRefused
   protect-refused n = by-refusal (protect sdr1 page pp) t (inRange && ltb pp (2 ^ 2)) (pageInRange page && ltb pp (2 ^ 2)) sdr1 number both-ranges given refl n
 
-  pub protect-taken : number ≡ 0 → (done : Ended) → done ≡ bytesDo (maskOnes sdr1) (protect sdr1 page pp) t → done ≡ onBytes (protect sdr1 page pp) t
+  pub protect-taken : number ≡ 0 → (done : Ended (List ℕ)) → done ≡ bytesDo (maskOnes sdr1) (protect sdr1 page pp) t → done ≡ onBytes (protect sdr1 page pp) t
   unfolding refusal rules fed sdr1In
   protect-taken z done e = by-work (protect sdr1 page pp) t (inRange && ltb pp (2 ^ 2)) (pageInRange page && ltb pp (2 ^ 2)) sdr1 number both-ranges given refl z done e
 
@@ -169,7 +169,7 @@ module _ (sdr1 : ℕ) (page : Page) (t : List ℕ) (inRange : Bool) (same : inRa
   unfolding answerRefused
   unmap-refused n = by-refusal (unmap sdr1 page answer) t inRange (pageInRange page) sdr1 number same given unmap-rules n ∙ ap (ended number t) other-refusal
 
-  pub unmap-taken : number ≡ 0 → (done : Ended) → done ≡ bytesDo (maskOnes sdr1) (unmap sdr1 page []) t → done ≡ onBytes (unmap sdr1 page answer) t
+  pub unmap-taken : number ≡ 0 → (done : Ended (List ℕ)) → done ≡ bytesDo (maskOnes sdr1) (unmap sdr1 page []) t → done ≡ onBytes (unmap sdr1 page answer) t
   unfolding sdr1In bytesDo
   unmap-taken z done e = by-work (unmap sdr1 page answer) t inRange (pageInRange page) sdr1 number same given unmap-rules z done e
 
@@ -181,7 +181,7 @@ module _ (sdr1 : ℕ) (page : Page) (t : List ℕ) (inRange : Bool) (same : inRa
   unfolding answerRefused
   look-refused n = by-refusal (look sdr1 page answer) t inRange (pageInRange page) sdr1 number same given look-rules n ∙ ap (ended number t) other-refusal
 
-  pub look-taken : number ≡ 0 → (done : Ended) → done ≡ bytesDo (maskOnes sdr1) (look sdr1 page []) t → done ≡ onBytes (look sdr1 page answer) t
+  pub look-taken : number ≡ 0 → (done : Ended (List ℕ)) → done ≡ bytesDo (maskOnes sdr1) (look sdr1 page []) t → done ≡ onBytes (look sdr1 page answer) t
   unfolding sdr1In bytesDo
   look-taken z done e = by-work (look sdr1 page answer) t inRange (pageInRange page) sdr1 number same given look-rules z done e
 

@@ -9,10 +9,10 @@ use lib.ListN.{length}
 use borrow.Author.Tests.{not-false, ltb-true, lt-ltb, eqb-true, eq-eqb, ne-eqb}
 use Rattle.words.proofs.Tests.{both}
 use Rattle.registers.specs.Sdr1.{sdr1Shape, tableLength}
-use Rattle.registers.specs.Set.{sdr1Of, sideShape, sideApart, segmentsShape}
+use Rattle.registers.specs.Set.{sdr1Of, sideShape, sideApart, segmentsShape, registerWords}
 use Rattle.registers.proofs.Set.{rule-kept}
 use Rattle.groups.specs.Page.{Page, InRange}
-use Rattle.calls.specs.Request.{Request, clear, mapPage, unmap, protect, look, access, registerWords, sdr1In}
+use Rattle.calls.specs.Request.{Request, clear, mapPage, unmap, protect, look, access, sdr1In}
 use Rattle.calls.specs.Rules.{pageInRange, writeThroughInhibited, rules, refusal}
 
 -- a page within its ranges, as a test and as facts

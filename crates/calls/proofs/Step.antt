@@ -6,10 +6,11 @@ use mathlib.Core.Bool.{Bool, true, false, cond, not, _||_, or-false}
 use mathlib.Core.List.{List, [], _∷_, map}
 use mathlib.Core.Option.{Option, none, some}
 use native.Mathlib.Omega.{arith}
-use lib.Dec.{lit<}
+use lib.Dec.{eqb, lit<}
 use lib.ListN.{length, replicate}
 use Rattle.placement.specs.FiniteMap.{fieldsAt, putIn, takeOut, revise, mappedPages}
 use Rattle.placement.proofs.FiniteMap.{revise-unmapped}
+use Rattle.registers.specs.Set.{registerWords}
 use Rattle.groups.proofs.Hash.{samePage-refl, samePage-eq}
 use Rattle.groups.proofs.Summary.{merged-one}
 use Rattle.entry.specs.Entry.{firstWord, secondWord, apiOf, referenced, changed, withMarks, withPP}
@@ -33,21 +34,21 @@ use Rattle.translation.specs.declared.Searched.{Searched}
 use Rattle.translation.specs.declared.Searched.the-variants.{Nothing, At, Contradicting}
 use Rattle.translation.specs.declared.Wanted.{Wanted}
 use Rattle.translation.proofs.Steps.{wanted-in-range}
-use Rattle.calls.specs.Request.{Request, clear, mapPage, unmap, protect, look, access, registerWords, fed}
+use Rattle.calls.specs.Request.{Request, clear, mapPage, unmap, protect, look, access, fed}
 use Rattle.calls.specs.Rules.{refusal}
-use Rattle.calls.specs.Answers.{wordAnswer, accessAnswer, doneByPage}
+use Rattle.calls.specs.Answers.{wordAnswer, accessAnswer}
 use Rattle.calls.specs.OnBytes.{layout, Ended, ended, byMatches, byOption, entryWord, wantedPage, searched, markedBy, bytesDo}
-use Rattle.calls.specs.OnMap.{PageFields, Map, fieldsWord, markFields, protectFields, Told, told, arranged?, foundIn, mapMarked, mapDoes}
+use Rattle.calls.specs.OnMap.{PageFields, Map, fieldsWord, markFields, protectFields, arranged?, foundIn, mapMarked, mapDoes}
 use Rattle.calls.specs.Represents.{GoodTable, FieldsInRange, represents}
 use Rattle.calls.proofs.TableLaws.{Word, layout-laws, represents-zeros}
 use Rattle.calls.proofs.Rules.{map-kept, unmap-kept, look-kept, protect-kept}
 use Rattle.calls.proofs.Fields.{word-fits, marked-word, protected-word, mark-range, protect-range}
 
 -- the same number and answer, and a table that represents the map
-pub record Alike (k : ℕ) (e : Ended) (d : Told) : Type 0 where
+pub record Alike (k : ℕ) (e : Ended (List ℕ)) (d : Ended Map) : Type 0 where
   pub number : e .number ≡ d .number
   pub answer : e .answer ≡ d .answer
-  pub related : represents k (e .table) (d .map)
+  pub related : represents k (e .state) (d .state)
 
 -- by the case of an option, a test, or what the steps before a search come to
 by-cases : {A X : Type 0} (o : Option A) → (o ≡ none → X) → ((a : A) → o ≡ some a → X) → X
@@ -166,13 +167,13 @@ module _ (k : ℕ) (t : List ℕ) (m : Map) (r : represents k t m) where
       (λ f e. let o = one page f e in rw (o .only, e) (ap At (o .second-is)))
 
   -- and both are marked, or neither
-  marks-same : (kind : ℕ) (wanted : Wanted) (outcome : Outcome) → InRange (wantedPage wanted)
-      → represents k (markedBy k kind (Search wanted) outcome t) (mapMarked kind (Search wanted) outcome m)
+  marks-same : (kind : ℕ) (wanted : Wanted) (result : ℕ) → InRange (wantedPage wanted)
+      → represents k (markedBy k kind (Search wanted) result t) (mapMarked kind (Search wanted) result m)
   unfolding markedBy mapMarked
-  marks-same kind wanted outcome valid =
+  marks-same kind wanted result valid =
       let page = wantedPage wanted in
       let store = storing kind in
-      by-test (doneByPage outcome)
+      by-test (eqb result 0)
       (λ done.
       by-cases (fieldsAt samePage page m)
       (λ e. rw (done, unmapped-matches (layout-laws k) r page valid e, revise-unmapped samePage samePage-refl samePage-eq page (markFields store) m e) r)
@@ -195,7 +196,7 @@ module _ (k : ℕ) (t : List ℕ) (m : Map) (r : represents k t m) where
       let range = wanted-in-range 4 11 (registerWords registers) mode kind address wanted e in
       let valid : InRange (wantedPage wanted) = record { vsid-lt = range .0; index-lt = range .1 } in
       let outcome = afterSearch kind (wanted .key) (foundIn m (wantedPage wanted)) in
-      rw (e, search-same (wantedPage wanted) valid) (record { number = refl; answer = refl; related = marks-same kind wanted outcome valid }))
+      rw (e, search-same (wantedPage wanted) valid) (record { number = refl; answer = refl; related = marks-same kind wanted (answerOf kind address outcome .result) valid }))
 
   -- each call that its arguments do not refuse
   pub step : (request : Request (List ℕ)) (lent : ℕ) → refusal (fed request) lent ≡ 0 → Alike k (bytesDo k request t) (mapDoes k (fed request) m)

@@ -15,7 +15,7 @@ use Rattle.tables.specs.Runs.{run, after, Each}
 use Rattle.calls.specs.Request.{Request, clear, mapPage, unmap, protect, look, fed, sdr1In}
 use Rattle.calls.specs.Rules.{refusal}
 use Rattle.calls.specs.OnBytes.{Ended, ended, byOption, bytesDo, onBytes}
-use Rattle.calls.specs.OnMap.{PageFields, Map, Told, told, Arranged, arranged?, mapDoes, onMap}
+use Rattle.calls.specs.OnMap.{PageFields, Map, Arranged, arranged?, mapDoes, onMap}
 use Rattle.calls.specs.Represents.{represents}
 use Rattle.calls.specs.Histories.{Call, bytesStep, mapStep, fedCall, Under}
 use Rattle.calls.specs.Theorem.{sdr1With, Start, cleared, tableAfter, mapAfter, MapArguments, TableRefinesMap}
@@ -37,7 +37,7 @@ module _ (o k : ℕ) (t : List ℕ) (start : Start o k t) where
 
   -- the clear leaves a table that represents the empty map
   pub cleared-represents : represents k (cleared o k t) []
-  cleared-represents = subst (λ e. represents k (e .table) []) (sym clear-is) (represents-zeros k (length t) (start .long))
+  cleared-represents = subst (λ e. represents k (e .state) []) (sym clear-is) (represents-zeros k (length t) (start .long))
 
   module _ (cs : List Call) (each : Each (Under (sdr1With o k) (65536 * 2 ^ k)) cs) where
     pub history-represents : represents k (tableAfter o k t cs) (mapAfter k cs)
@@ -61,15 +61,15 @@ module _ (o k : ℕ) (t : List ℕ) (start : Start o k t) where
           let m = mapAfter k cs in
           let new : PageFields = record { frame = rpn; attributes = wimg; protection = pp; referenced = false; changed = false } in
           let d = arranged? k (page ∷ mappedPages m) in
-          let done = told 0 [] (putIn page new m) in
-          let full = told 9 [] m in
+          let done = ended 0 (putIn page new m) [] in
+          let full = ended 9 m [] in
           let request = mapPage (sdr1With o k) page rpn wimg pp in
           let number : onBytes request (tableAfter o k t cs) .number ≡ ite d done full .number =
           as-map request refl
           (rules.map-taken (sdr1With o k) (65536 * 2 ^ k) shape size-is page valid rpn wimg pp (arguments .rpn-lt) (arguments .wimg-lt) (arguments .not-both) (arguments .pp-lt)) .0
-          ∙ ap (λ (found : Option PageFields). byOption found (ite d done full) (λ f. told 7 [] m) .number) e in (
-            (λ yes. number ∙ ap (λ (x : Told). x .number) (if-pos d yes done full)),
-            (λ n. number ∙ ap (λ (x : Told). x .number) (if-neg d n done full)),
+          ∙ ap (λ (found : Option PageFields). byOption found (ite d done full) (λ f. ended 7 m []) .number) e in (
+            (λ yes. number ∙ ap (λ (x : Ended Map). x .number) (if-pos d yes done full)),
+            (λ n. number ∙ ap (λ (x : Ended Map). x .number) (if-neg d n done full)),
           )
 
       -- a page that is mapped
@@ -100,7 +100,7 @@ module _ (o k : ℕ) (t : List ℕ) (start : Start o k t) where
 
 pub table-refines-map : TableRefinesMap
 table-refines-map = record {
-  clear-done = λ o k t start. ap (λ (e : Ended). e .number) (clear-is o k t start);
+  clear-done = λ o k t start. ap (λ (e : Ended (List ℕ)). e .number) (clear-is o k t start);
   answers = λ o k t start cs each. runs-follow o k (start .few) (start .whole) cs each (cleared o k t) [] (cleared-represents o k t start) .0;
   not-mapped = λ o k t start cs each page rpn wimg pp valid arguments e. unmapped-answers o k t start cs each page rpn wimg pp valid arguments e;
   mapped = λ o k t start cs each page f e. (

@@ -1,12 +1,10 @@
 -- The answers that the calls on bytes and the finite map give alike.
 use Prim.Native.Nat.{ℕ}
-use mathlib.Core.Bool.{Bool, true, false, cond}
+use mathlib.Core.Bool.{cond}
 use mathlib.Core.List.{List, [], _∷_}
 use lib.Dec.{eqb}
 use Rattle.words.specs.Words.{bytesOf}
 use Rattle.translation.specs.declared.Answer.{Answer}
-use Rattle.translation.specs.declared.Outcome.{Outcome}
-use Rattle.translation.specs.declared.Outcome.the-variants.{Real, Block, BlockProtection, NoExecute, NoMatch, Guarded, Protection, Done, Refused}
 use Rattle.calls.specs.Request.{Request, clear, mapPage, unmap, protect, look, access}
 
 -- the 16 bytes of look and unmap: result, second entry word, 0, 0
@@ -29,18 +27,6 @@ answerRefused lent (unmap sdr1 page answer) number = refusedAnswer number (lent 
 answerRefused lent (protect sdr1 page pp) number = []
 answerRefused lent (look sdr1 page answer) number = refusedAnswer number (lent answer)
 answerRefused lent (access registers mode kind address answer) number = refusedAnswer number (lent answer)
-
--- an access done by a page, which sets R there, and C too on a store (step 7)
-unfoldable pub doneByPage : Outcome → Bool
-doneByPage Real = false
-doneByPage (Block i physical attributes) = false
-doneByPage (BlockProtection i) = false
-doneByPage NoExecute = false
-doneByPage NoMatch = false
-doneByPage Guarded = false
-doneByPage Protection = false
-doneByPage (Done second) = true
-doneByPage (Refused number) = false
 
 -- what is compared of an answer: its result number and, except at 11, every byte
 unfoldable pub compared : ℕ → List ℕ → ℕ × List ℕ

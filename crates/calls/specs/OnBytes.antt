@@ -7,6 +7,7 @@ use lib.Dec.{eqb}
 use lib.ListN.{length, replicate}
 use Rattle.entry.specs.Entry.{firstWord, secondWord, matches, free, apiOf, withMarks, withPP}
 use Rattle.registers.specs.Sdr1.{maskOnes}
+use Rattle.registers.specs.Set.{registerWords}
 use Rattle.groups.specs.Page.{Page}
 use Rattle.groups.specs.Hash.{groupNumber}
 use Rattle.groups.specs.Group.{firstOf, secondOf, putAt}
@@ -18,13 +19,12 @@ use Rattle.translation.specs.Steps.{beforeSearch, outcomeOf, answerOf}
 use Rattle.translation.specs.declared.Answer.{Answer}
 use Rattle.translation.specs.declared.Early.{Early}
 use Rattle.translation.specs.declared.Early.the-variants.{Decided, Search}
-use Rattle.translation.specs.declared.Outcome.{Outcome}
 use Rattle.translation.specs.declared.Searched.{Searched}
 use Rattle.translation.specs.declared.Searched.the-variants.{Nothing, At, Contradicting}
 use Rattle.translation.specs.declared.Wanted.{Wanted}
-use Rattle.calls.specs.Request.{Request, clear, mapPage, unmap, protect, look, access, registerWords, sdr1In, fed}
+use Rattle.calls.specs.Request.{Request, clear, mapPage, unmap, protect, look, access, sdr1In, fed}
 use Rattle.calls.specs.Rules.{refusal}
-use Rattle.calls.specs.Answers.{wordAnswer, accessAnswer, answerRefused, doneByPage}
+use Rattle.calls.specs.Answers.{wordAnswer, accessAnswer, answerRefused}
 
 -- the table of document 01 for a mask of k ones: 2 ^ (10 + k) groups of eight entries; an entry matches by V, VSID, H and API
 abbrev pub layout : ℕ → Layout Page (List ℕ)
@@ -39,14 +39,14 @@ layout k = record {
   put = putAt;
 }
 
--- what a call leaves: its result number, the table and the answer
-pub record Ended : Type 0 where
+-- what a call leaves: its result number, its answer, and the state of a machine: the table here, the finite map in `OnMap`
+pub record Ended (S : Type 0) : Type 0 where
   pub number : ℕ
-  pub table : List ℕ
+  pub state : S
   pub answer : List ℕ
 
-abbrev pub ended : ℕ → List ℕ → List ℕ → Ended
-ended number table answer = record { number = number; table = table; answer = answer }
+abbrev pub ended : {S : Type 0} → ℕ → S → List ℕ → Ended S
+ended number state answer = record { number = number; state = state; answer = answer }
 
 -- by the matches of a page: none, or the first and the others
 abbrev pub byMatches : {X : Type 0} → List Match → X → (Match → List Match → X) → X
@@ -71,17 +71,17 @@ unfoldable pub searched : List Match → Searched
 searched xs = byMatches xs Nothing (λ x rest. cond (contradict x rest) Contradicting (At (x .second)))
 
 module _ (k : ℕ) where
-  -- step 7: the first match of the page is marked, by an access that a page did
-  unfoldable pub markedBy : ℕ → Early → Outcome → List ℕ → List ℕ
-  markedBy kind (Decided decided) outcome t = t
-  markedBy kind (Search wanted) outcome t =
+  -- step 7: an access that reached the search and is done, its result 0, is done by a page; the page's first match is marked
+  unfoldable pub markedBy : ℕ → Early → ℕ → List ℕ → List ℕ
+  markedBy kind (Decided outcome) result t = t
+  markedBy kind (Search wanted) result t =
       let page = wantedPage wanted in
-      cond (doneByPage outcome)
+      cond (eqb result 0)
       (byMatches (matchesOf (layout k) t page) t (λ x xs. overwrite (layout k) page x (x .first) (withMarks true (storing kind) (x .second)) t))
       t
 
   -- a call that its arguments do not refuse
-  unfoldable pub bytesDo : Request (List ℕ) → List ℕ → Ended
+  unfoldable pub bytesDo : Request (List ℕ) → List ℕ → Ended (List ℕ)
   bytesDo (clear sdr1) t = ended 0 (replicate (length t) 0) []
   bytesDo (mapPage sdr1 page rpn wimg pp) t =
       byMatches (matchesOf (layout k) t page)
@@ -101,10 +101,10 @@ module _ (k : ℕ) where
       let early = beforeSearch 4 11 (registerWords registers) mode kind address in
       let outcome = outcomeOf kind (λ wanted. searched (matchesOf (layout k) t (wantedPage wanted))) early in
       let words = answerOf kind address outcome in
-      ended (words .result) (markedBy kind early outcome t) (accessAnswer words)
+      ended (words .result) (markedBy kind early (words .result) t) (accessAnswer words)
 
 -- a call on a lent table
-unfoldable pub onBytes : Request (List ℕ) → List ℕ → Ended
+unfoldable pub onBytes : Request (List ℕ) → List ℕ → Ended (List ℕ)
 onBytes request t =
     let number = refusal (fed request) (length t) in
     cond (eqb number 0) (bytesDo (maskOnes (sdr1In request)) request t) (ended number t (answerRefused (λ lent. lent) request number))

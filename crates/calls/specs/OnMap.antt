@@ -12,6 +12,7 @@ use Rattle.placement.specs.Placement.{Arrangement}
 use Rattle.placement.specs.Decision.{arrangement?}
 use Rattle.placement.specs.FiniteMap.{fieldsAt, putIn, takeOut, revise, mappedPages}
 use Rattle.registers.specs.Sdr1.{maskOnes}
+use Rattle.registers.specs.Set.{registerWords}
 use Rattle.groups.specs.Page.{Page, samePage}
 use Rattle.groups.specs.Hash.{groupNumber}
 use Rattle.groups.proofs.Hash.{group-mirror}
@@ -20,13 +21,12 @@ use Rattle.translation.specs.Steps.{beforeSearch, outcomeOf, answerOf}
 use Rattle.translation.specs.declared.Answer.{Answer}
 use Rattle.translation.specs.declared.Early.{Early}
 use Rattle.translation.specs.declared.Early.the-variants.{Decided, Search}
-use Rattle.translation.specs.declared.Outcome.{Outcome}
 use Rattle.translation.specs.declared.Searched.{Searched}
 use Rattle.translation.specs.declared.Searched.the-variants.{Nothing, At}
-use Rattle.calls.specs.Request.{Request, clear, mapPage, unmap, protect, look, access, registerWords, sdr1In}
+use Rattle.calls.specs.Request.{Request, clear, mapPage, unmap, protect, look, access, sdr1In}
 use Rattle.calls.specs.Rules.{refusal}
-use Rattle.calls.specs.Answers.{wordAnswer, accessAnswer, answerRefused, doneByPage}
-use Rattle.calls.specs.OnBytes.{byOption, wantedPage}
+use Rattle.calls.specs.Answers.{wordAnswer, accessAnswer, answerRefused}
+use Rattle.calls.specs.OnBytes.{Ended, ended, byOption, wantedPage}
 
 -- what the map has of a mapped page: frame (RPN), attributes (WIMG), protection (PP) and marks (R, C)
 pub record PageFields : Type 0 where
@@ -52,15 +52,6 @@ abbrev pub protectFields : ℕ → PageFields → PageFields
 protectFields pp f =
     record { frame = f .frame; attributes = f .attributes; protection = pp; referenced = f .referenced; changed = f .changed }
 
--- what a call tells: its result number and answer, and the map that it leaves
-pub record Told : Type 0 where
-  pub number : ℕ
-  pub answer : List ℕ
-  pub map : Map
-
-abbrev pub told : ℕ → List ℕ → Map → Told
-told number answer m = record { number = number; answer = answer; map = m }
-
 -- an arrangement of pages for a mask of k ones: groups of eight entries
 abbrev pub Arranged : ℕ → List Page → Type 0
 Arranged k pages = Arrangement (groupNumber (10 + k)) 8 pages
@@ -73,35 +64,35 @@ arranged? k pages = arrangement? (groupNumber (10 + k)) 8 (2 ^ (9 + k)) (group-m
 unfoldable pub foundIn : Map → Page → Searched
 foundIn m page = byOption (fieldsAt samePage page m) Nothing (λ f. At (fieldsWord f))
 
--- step 7 on the map
-unfoldable pub mapMarked : ℕ → Early → Outcome → Map → Map
-mapMarked kind (Decided decided) outcome m = m
-mapMarked kind (Search wanted) outcome m = cond (doneByPage outcome) (revise samePage (wantedPage wanted) (markFields (storing kind)) m) m
+-- step 7 on the map: done by a page
+unfoldable pub mapMarked : ℕ → Early → ℕ → Map → Map
+mapMarked kind (Decided outcome) result m = m
+mapMarked kind (Search wanted) result m = cond (eqb result 0) (revise samePage (wantedPage wanted) (markFields (storing kind)) m) m
 
 module _ (k : ℕ) where
   -- a call that its arguments do not refuse
-  unfoldable pub mapDoes : Request ℕ → Map → Told
-  mapDoes (clear sdr1) m = told 0 [] []
+  unfoldable pub mapDoes : Request ℕ → Map → Ended Map
+  mapDoes (clear sdr1) m = ended 0 [] []
   mapDoes (mapPage sdr1 page rpn wimg pp) m =
       byOption (fieldsAt samePage page m)
       (ite (arranged? k (page ∷ mappedPages m))
-      (told 0 [] (putIn page (record { frame = rpn; attributes = wimg; protection = pp; referenced = false; changed = false }) m))
-      (told 9 [] m))
-      (λ f. told 7 [] m)
+      (ended 0 (putIn page (record { frame = rpn; attributes = wimg; protection = pp; referenced = false; changed = false }) m) [])
+      (ended 9 m []))
+      (λ f. ended 7 m [])
   mapDoes (unmap sdr1 page answer) m =
-      byOption (fieldsAt samePage page m) (told 8 (wordAnswer 8 0) m) (λ f. told 0 (wordAnswer 0 (fieldsWord f)) (takeOut samePage page m))
+      byOption (fieldsAt samePage page m) (ended 8 m (wordAnswer 8 0)) (λ f. ended 0 (takeOut samePage page m) (wordAnswer 0 (fieldsWord f)))
   mapDoes (protect sdr1 page pp) m =
-      byOption (fieldsAt samePage page m) (told 8 [] m) (λ f. told 0 [] (revise samePage page (protectFields pp) m))
+      byOption (fieldsAt samePage page m) (ended 8 m []) (λ f. ended 0 (revise samePage page (protectFields pp) m) [])
   mapDoes (look sdr1 page answer) m =
-      byOption (fieldsAt samePage page m) (told 8 (wordAnswer 8 0) m) (λ f. told 0 (wordAnswer 0 (fieldsWord f)) m)
+      byOption (fieldsAt samePage page m) (ended 8 m (wordAnswer 8 0)) (λ f. ended 0 m (wordAnswer 0 (fieldsWord f)))
   mapDoes (access registers mode kind address answer) m =
       let early = beforeSearch 4 11 (registerWords registers) mode kind address in
       let outcome = outcomeOf kind (λ wanted. foundIn m (wantedPage wanted)) early in
       let words = answerOf kind address outcome in
-      told (words .result) (accessAnswer words) (mapMarked kind early outcome m)
+      ended (words .result) (mapMarked kind early (words .result) m) (accessAnswer words)
 
 -- a call, fed its arguments and the length of what is lent as the table
-unfoldable pub onMap : Request ℕ → ℕ → Map → Told
+unfoldable pub onMap : Request ℕ → ℕ → Map → Ended Map
 onMap request lent m =
     let number = refusal request lent in
-    cond (eqb number 0) (mapDoes (maskOnes (sdr1In request)) request m) (told number (answerRefused (λ length. []) request number) m)
+    cond (eqb number 0) (mapDoes (maskOnes (sdr1In request)) request m) (ended number m (answerRefused (λ length. []) request number))

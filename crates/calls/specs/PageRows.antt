@@ -5,28 +5,28 @@ use Prim.Native.Nat.{ℕ}
 use mathlib.Core.List.{List, [], _∷_}
 use mathlib.Core.Path.{_≡_, refl}
 use lib.ListN.{replicate, set}
-use Rattle.words.specs.Below.{everyBelow, firstFrom, firstBelow}
+use Rattle.words.specs.Below.{everyBelow, firstBelow}
 use Rattle.words.specs.Ones.{bitLength, lowOnes}
 use Rattle.words.specs.Rows.{Hold}
 use Rattle.words.specs.Words.{wordBytes, wordAt, withWord, bytesOf, wordsAt}
 use Rattle.entry.specs.Entry.{firstWord, secondWord, matches, free, apiOf, pageIndex, referenced, changed, withMarks, withPP, physicalAddress}
 use Rattle.registers.specs.Sdr1.{sdr1Shape, tableLength}
-use Rattle.registers.specs.Segment.{segmentShape, supervisorKey, userKey, noExecute, segmentVsid}
+use Rattle.registers.specs.Segment.{segmentShape, keyOf, noExecute, segmentVsid}
 use Rattle.registers.specs.Block.{off, validFor, commonV, upperShape, lowerShape, blockShape, inBlock, shareAddress, clash, covers}
-use Rattle.registers.specs.Set.{segmentsShape, pairShape, sideShape, pairApart, sideApart, pairCovers, coveringPair}
+use Rattle.registers.specs.Set.{segmentsShape, sideShape, pairApart, sideApart, pairCovers, coveringPair, registerWords}
 use Rattle.groups.specs.Page.{Page}
 use Rattle.groups.specs.Hash.{hashOf, primaryGroup, secondaryGroup, groupNumber}
 use Rattle.groups.specs.Group.{groupOf, putGroup, onGroup, firstAt, secondAt, putEntry, firstOf, secondOf, putAt}
 use Rattle.groups.specs.Search.{agree, contradict, merged}
 use Rattle.tables.specs.Matches.{matchesBelow}
 use Rattle.tables.specs.Layout.{matchesIn, matchesOf, freeEntry, freePlace, overwrite, overwriteEach}
-use Rattle.translation.specs.Access.{userMode, fetching, storing, relocated, sideOf, keyOf}
+use Rattle.translation.specs.Access.{userMode, fetching, storing, relocated, sideOf}
 use Rattle.translation.specs.Protection.{pageReadable, pageWritable, pageAllows, guarded}
-use Rattle.translation.specs.Fault.{causeWord, storeWord, faultOf}
+use Rattle.translation.specs.Fault.{causeWord, faultOf}
 use Rattle.translation.specs.Steps.{beforeSearch, pageOutcome, afterSearch, outcomeOf, answerOf}
-use Rattle.calls.specs.Request.{Request, clear, mapPage, unmap, protect, look, access, registerWords, sdr1In, fed}
+use Rattle.calls.specs.Request.{Request, clear, mapPage, unmap, protect, look, access, sdr1In, fed}
 use Rattle.calls.specs.Rules.{pageInRange, writeThroughInhibited, rules, refusal}
-use Rattle.calls.specs.Answers.{wordAnswer, accessAnswer, refusedAnswer, answerRefused, doneByPage}
+use Rattle.calls.specs.Answers.{wordAnswer, accessAnswer, refusedAnswer, answerRefused}
 use Rattle.calls.specs.OnBytes.{Ended, ended, entryWord, searched, markedBy, bytesDo, onBytes}
 
 abbrev pageOf : ℕ → ℕ → Page
@@ -106,7 +106,7 @@ access-refusals : Hold (
     ∷ (refusal (access blank 0 0 0 16) 65537, 1)
     ∷ []
     )
-unfolding refusal rules registerWords wordsAt wordAt sdr1Shape tableLength segmentsShape segmentShape sideShape pairShape blockShape off upperShape lowerShape sideApart pairApart clash commonV shareAddress everyBelow lowOnes bitLength
+unfolding refusal rules registerWords wordsAt wordAt sdr1Shape tableLength segmentsShape segmentShape sideShape blockShape off upperShape lowerShape sideApart pairApart clash commonV shareAddress everyBelow lowOnes bitLength
 access-refusals = record { equal = refl }
 
 -- after a refusal table and answer: nothing at 11, else the number and three zero words
@@ -123,7 +123,7 @@ left-rows : Hold (
     ∷ (onBytes (protect 5 inside 0) (7 ∷ []), ended 2 (7 ∷ []) [])
     ∷ []
     )
-unfolding onBytes fed refusal rules answerRefused refusedAnswer pageInRange writeThroughInhibited registerWords wordsAt wordAt sdr1Shape tableLength segmentsShape segmentShape sideShape pairShape blockShape off upperShape lowerShape sideApart pairApart clash commonV shareAddress everyBelow lowOnes bitLength
+unfolding onBytes fed refusal rules answerRefused refusedAnswer pageInRange writeThroughInhibited registerWords wordsAt wordAt sdr1Shape tableLength segmentsShape segmentShape sideShape blockShape off upperShape lowerShape sideApart pairApart clash commonV shareAddress everyBelow lowOnes bitLength
 left-rows = record { equal = refl }
 
 -- one group: two twins of VSID 0x400, page 0, ignored bits set; an entry of VSID 0; an entry of VSID 0x400 with H = 1; then free entries that are not zero
@@ -185,7 +185,7 @@ map-rows : Hold (
     )
     ∷ []
     )
-unfolding bytesDo bytesOf wordBytes wordAt withWord groupWith entryWord firstWord secondWord putAt onGroup putGroup putEntry freePlace freeEntry firstBelow firstFrom free matchesOf matchesIn matchesBelow firstOf secondOf firstAt secondAt groupOf groupNumber primaryGroup secondaryGroup hashOf matches apiOf
+unfolding bytesDo bytesOf wordBytes wordAt withWord groupWith entryWord firstWord secondWord putAt onGroup putGroup putEntry freePlace freeEntry firstBelow free matchesOf matchesIn matchesBelow firstOf secondOf firstAt secondAt groupOf groupNumber primaryGroup secondaryGroup hashOf matches apiOf
 map-rows = record { equal = refl }
 
 -- an access to page 0 of a segment with VSID 0x400: the first of equal twins is used and marked, with C on a store alone; contradicting ones are refused
@@ -214,7 +214,7 @@ access-rows : Hold ((
     ∷ (bytesDo 0 (access registers 0 2 0x00000123 []) differing, ended 0 differing (bytesOf (0 ∷ 0x00000123 ∷ 3 ∷ 0x00000123 ∷ [])))
     ∷ []
     )
-unfolding bytesDo accessAnswer markedBy doneByPage searched contradict agree overwrite outcomeOf beforeSearch afterSearch pageOutcome answerOf userMode fetching storing relocated sideOf keyOf pageReadable pageWritable pageAllows guarded causeWord storeWord faultOf coveringPair pairCovers covers validFor inBlock firstBelow firstFrom supervisorKey userKey noExecute segmentVsid pageIndex physicalAddress withMarks registerWords wordsAt bytesOf wordBytes wordAt withWord groupWith putAt onGroup putGroup putEntry matchesOf matchesIn matchesBelow firstOf secondOf firstAt secondAt groupOf groupNumber primaryGroup secondaryGroup hashOf matches apiOf
+unfolding bytesDo accessAnswer markedBy searched contradict agree overwrite outcomeOf beforeSearch afterSearch pageOutcome answerOf userMode fetching storing relocated sideOf keyOf pageReadable pageWritable pageAllows guarded causeWord faultOf coveringPair pairCovers covers validFor inBlock firstBelow noExecute segmentVsid pageIndex physicalAddress withMarks registerWords wordsAt bytesOf wordBytes wordAt withWord groupWith putAt onGroup putGroup putEntry matchesOf matchesIn matchesBelow firstOf secondOf firstAt secondAt groupOf groupNumber primaryGroup secondaryGroup hashOf matches apiOf
 access-rows = record { equal = refl }
 
 -- a page whose secondary group is group 0: its entry has H = 1

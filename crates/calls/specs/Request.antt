@@ -2,9 +2,8 @@
 use Prim.Native.Nat.{ℕ}
 use mathlib.Core.List.{List}
 use lib.ListN.{length}
-use Rattle.words.specs.Words.{wordsAt}
 use Rattle.groups.specs.Page.{Page}
-use Rattle.registers.specs.Set.{sdr1Of}
+use Rattle.registers.specs.Set.{sdr1Of, registerWords}
 
 -- A is what is said of a lent answer slice: its bytes, or its length alone
 pub data Request (A : Type 0) : Type 0 where
@@ -20,10 +19,6 @@ pub data Request (A : Type 0) : Type 0 where
   look : ℕ → Page → A → Request A
   -- register page, mode, kind, effective address, answer
   access : List ℕ → ℕ → ℕ → ℕ → A → Request A
-
--- the words of a register page
-unfoldable pub registerWords : List ℕ → List ℕ
-registerWords page = wordsAt page 0 33
 
 -- the SDR1 that a request brings
 unfoldable pub sdr1In : {A : Type 0} → Request A → ℕ

@@ -6,9 +6,9 @@ use lib.Dec.{eqb, ltb}
 use lib.ListN.{length}
 use Rattle.registers.specs.Rules.{firstBroken}
 use Rattle.registers.specs.Sdr1.{sdr1Shape, tableLength}
-use Rattle.registers.specs.Set.{sdr1Of, registerRules}
+use Rattle.registers.specs.Set.{sdr1Of, registerRules, registerWords}
 use Rattle.groups.specs.Page.{Page}
-use Rattle.calls.specs.Request.{Request, clear, mapPage, unmap, protect, look, access, registerWords}
+use Rattle.calls.specs.Request.{Request, clear, mapPage, unmap, protect, look, access}
 
 -- a VSID below 2 ^ 24 and a page index below 65,536
 unfoldable pub pageInRange : Page → Bool
@@ -18,39 +18,23 @@ pageInRange page = ltb (page .vsid) (2 ^ 24) && ltb (page .index) (2 ^ 16)
 unfoldable pub writeThroughInhibited : ℕ → Bool
 writeThroughInhibited wimg = eqb (wimg / 4) 3
 
--- 11: the register page has not 132 bytes, or the answer not 16
-abbrev pub answerLengthWrong : ℕ → Bool × ℕ
-answerLengthWrong answer = (not (eqb answer 16), 11)
+-- 2: the shape of SDR1; 1: the table's length
+abbrev pub tableRules : ℕ → ℕ → List (Bool × ℕ)
+tableRules sdr1 lent = (not (sdr1Shape sdr1), 2) ∷ (not (eqb lent (tableLength sdr1)), 1) ∷ []
 
--- 6: an argument is out of range
-abbrev pub argumentOutOfRange : Bool → Bool × ℕ
-argumentOutOfRange inRange = (not inRange, 6)
-
--- 2: the shape of SDR1
-abbrev pub sdr1Wrong : ℕ → Bool × ℕ
-sdr1Wrong sdr1 = (not (sdr1Shape sdr1), 2)
-
--- 1: the table's length
-abbrev pub tableLengthWrong : ℕ → ℕ → Bool × ℕ
-tableLengthWrong sdr1 lent = (not (eqb lent (tableLength sdr1)), 1)
-
--- the rules of a request, given the length of what is lent as the table
+-- the rules of a request, given the length of what is lent as the table; 11: the length of the register page or the answer; 6: an argument out of range
 unfoldable pub rules : Request ℕ → ℕ → List (Bool × ℕ)
-rules (clear sdr1) lent = sdr1Wrong sdr1 ∷ tableLengthWrong sdr1 lent ∷ []
+rules (clear sdr1) lent = tableRules sdr1 lent
 rules (mapPage sdr1 page rpn wimg pp) lent =
-    argumentOutOfRange (pageInRange page && ltb rpn (2 ^ 20) && ltb wimg (2 ^ 4) && ltb pp (2 ^ 2) && not (writeThroughInhibited wimg))
-    ∷ sdr1Wrong sdr1 ∷ tableLengthWrong sdr1 lent ∷ []
-rules (unmap sdr1 page answer) lent =
-    answerLengthWrong answer ∷ argumentOutOfRange (pageInRange page) ∷ sdr1Wrong sdr1 ∷ tableLengthWrong sdr1 lent ∷ []
-rules (protect sdr1 page pp) lent =
-    argumentOutOfRange (pageInRange page && ltb pp (2 ^ 2)) ∷ sdr1Wrong sdr1 ∷ tableLengthWrong sdr1 lent ∷ []
-rules (look sdr1 page answer) lent =
-    answerLengthWrong answer ∷ argumentOutOfRange (pageInRange page) ∷ sdr1Wrong sdr1 ∷ tableLengthWrong sdr1 lent ∷ []
+    (not (pageInRange page && ltb rpn (2 ^ 20) && ltb wimg (2 ^ 4) && ltb pp (2 ^ 2) && not (writeThroughInhibited wimg)), 6) ∷ tableRules sdr1 lent
+rules (unmap sdr1 page answer) lent = (not (eqb answer 16), 11) ∷ (not (pageInRange page), 6) ∷ tableRules sdr1 lent
+rules (protect sdr1 page pp) lent = (not (pageInRange page && ltb pp (2 ^ 2)), 6) ∷ tableRules sdr1 lent
+rules (look sdr1 page answer) lent = (not (eqb answer 16), 11) ∷ (not (pageInRange page), 6) ∷ tableRules sdr1 lent
 rules (access registers mode kind address answer) lent =
     (not (eqb (length registers) 132 && eqb answer 16), 11)
-    ∷ argumentOutOfRange (ltb mode 8 && ltb kind 3)
+    ∷ (not (ltb mode 8 && ltb kind 3), 6)
     ∷ registerRules 4 11 (registerWords registers)
-    ++ (tableLengthWrong (sdr1Of (registerWords registers)) lent ∷ [])
+    ++ ((not (eqb lent (tableLength (sdr1Of (registerWords registers)))), 1) ∷ [])
 
 -- the refusal that follows from the arguments and the lent lengths alone, or 0
 unfoldable pub refusal : Request ℕ → ℕ → ℕ

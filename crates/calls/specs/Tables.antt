@@ -13,7 +13,7 @@ use Rattle.entry.specs.Tables.{fields}
 use Rattle.registers.specs.Sdr1.{sdr1Shape}
 use Rattle.registers.specs.Segment.{segmentShape}
 use Rattle.registers.specs.Block.{off, commonV, upperShape, lowerShape, blockShape, shareAddress, clash}
-use Rattle.registers.specs.Set.{segmentsShape, pairShape, sideShape, pairApart, sideApart, checkWords, checkSet, pageSet, replaced}
+use Rattle.registers.specs.Set.{segmentsShape, sideShape, pairApart, sideApart, checkWords, registerWords, replaced}
 use Rattle.calls.specs.Lent.{Left, left, ofLength}
 use Rattle.calls.specs.WithoutTable.{checkCall, setRegisterCall, packCall, unpackCall}
 
@@ -32,7 +32,7 @@ check-rows : Hold (
     ∷ (checkCall (set (set (zeros 132) 127 2) 131 4), 3)
     ∷ []
     )
-unfolding checkCall checkSet pageSet wordsAt wordAt checkWords sdr1Shape segmentsShape segmentShape sideShape pairShape blockShape off upperShape lowerShape sideApart pairApart clash commonV shareAddress everyBelow lowOnes bitLength
+unfolding checkCall registerWords wordsAt wordAt checkWords sdr1Shape segmentsShape segmentShape sideShape blockShape off upperShape lowerShape sideApart pairApart clash commonV shareAddress everyBelow lowOnes bitLength
 check-rows = record { equal = refl }
 
 -- set_register: the word's four bytes and no other; a refusal leaves the page
@@ -44,7 +44,7 @@ set-rows : Hold (
     ∷ (setRegisterCall (zeros 131) 33 0, left 11 (zeros 131))
     ∷ []
     )
-unfolding setRegisterCall ofLength replaced withWord wordBytes checkSet pageSet wordsAt wordAt checkWords sdr1Shape segmentsShape segmentShape sideShape pairShape blockShape off upperShape lowerShape sideApart pairApart clash commonV shareAddress everyBelow lowOnes bitLength
+unfolding setRegisterCall ofLength replaced withWord wordBytes registerWords wordsAt wordAt checkWords sdr1Shape segmentsShape segmentShape sideShape blockShape off upperShape lowerShape sideApart pairApart clash commonV shareAddress everyBelow lowOnes bitLength
 set-rows = record { equal = refl }
 
 -- pack: case 2, zero words after 6, and nothing after 11

@@ -1,24 +1,24 @@
 -- Demand 3: over every history of calls after a first clear, the answers on the bytes are those of the plain finite map.
 use Prim.Native.Nat.{ℕ, _+_, _-_, _*_, _/_, _%_, _^_, _≤_, _<_}
-use mathlib.Core.Bool.{Bool, true, false}
 use mathlib.Core.List.{List, [], _∷_, _++_, map}
 use mathlib.Core.Option.{Option, none, some}
 use mathlib.Core.Path.{_≡_}
 use lib.ListN.{length}
 use Rattle.words.specs.Bits.{bits, placed}
 use Rattle.placement.specs.FiniteMap.{fieldsAt, mappedPages}
+use Rattle.registers.specs.Set.{registerWords}
 use Rattle.tables.specs.Runs.{run, after, Each}
 use Rattle.groups.specs.Page.{Page, InRange, samePage}
 use Rattle.translation.specs.Steps.{beforeSearch, answerOf, doneAnswer}
 use Rattle.translation.specs.declared.Early.the-variants.{Search}
 use Rattle.translation.specs.declared.Outcome.the-variants.{NoMatch}
 use Rattle.translation.specs.declared.Wanted.{Wanted}
-use Rattle.calls.specs.Request.{Request, clear, mapPage, unmap, protect, look, access, registerWords, sdr1In, fed}
+use Rattle.calls.specs.Request.{Request, clear, mapPage, unmap, protect, look, access, sdr1In, fed}
 use Rattle.calls.specs.Rules.{refusal}
 use Rattle.calls.specs.Answers.{accessAnswer}
 use Rattle.calls.specs.OnBytes.{Ended, onBytes, wantedPage}
 use Rattle.calls.specs.OnMap.{PageFields, Map, Arranged}
-use Rattle.calls.specs.Histories.{Call, bytesStep, mapStep, fedCall, Under, NoneDone, mapsPage, takesOut}
+use Rattle.calls.specs.Histories.{Call, bytesStep, mapStep, fedCall, Under, NoneDone, Maps, TakesOut}
 
 -- the SDR1 of origin o and a mask of k ones
 abbrev pub sdr1With : ℕ → ℕ → ℕ
@@ -32,7 +32,7 @@ pub record Start (o k : ℕ) (t : List ℕ) : Type 0 where
 
 -- the table after a first clear, and after a list of calls that follows it
 abbrev pub cleared : ℕ → ℕ → List ℕ → List ℕ
-cleared o k t = onBytes (clear (sdr1With o k)) t .table
+cleared o k t = onBytes (clear (sdr1With o k)) t .state
 
 abbrev pub tableAfter : ℕ → ℕ → List ℕ → List Call → List ℕ
 tableAfter o k t cs = after bytesStep cs (cleared o k t)
@@ -79,14 +79,14 @@ pub record Reaches (o k : ℕ) (registers : List ℕ) (mode kind address : ℕ) 
 pub record AccessFollowsHistory : Type 0 where
   -- after a done unmap of the page, or a done clear, an access that reaches step 4 faults with no match until the page is mapped again
   pub no-match : (o k : ℕ) (t : List ℕ) → Start o k t → (cs : List Call) (c : Call) (ds : List Call) → Each (Under (sdr1With o k) (65536 * 2 ^ k)) (cs ++ c ∷ ds)
-      → (page : Page) → takesOut page c ≡ true → bytesStep c (tableAfter o k t cs) .0 .0 ≡ 0
-      → NoneDone (mapsPage page) ds (bytesStep c (tableAfter o k t cs) .1)
+      → (page : Page) → TakesOut page (c .request) → bytesStep c (tableAfter o k t cs) .0 .0 ≡ 0
+      → NoneDone (Maps page) ds (bytesStep c (tableAfter o k t cs) .1)
       → (registers : List ℕ) (mode kind address : ℕ) (answer : List ℕ) → Reaches o k registers mode kind address answer page
       → onBytes (access registers mode kind address answer) (tableAfter o k t (cs ++ c ∷ ds)) .answer ≡ accessAnswer (answerOf kind address NoMatch)
   -- after a done map of the page, an access that reaches step 4 and is done gives that map's frame and attributes, until the page is taken out
   pub frame : (o k : ℕ) (t : List ℕ) → Start o k t → (cs : List Call) (c : Call) (ds : List Call) → Each (Under (sdr1With o k) (65536 * 2 ^ k)) (cs ++ c ∷ ds)
       → (page : Page) (sdr1 rpn wimg pp : ℕ) → c .request ≡ mapPage sdr1 page rpn wimg pp → bytesStep c (tableAfter o k t cs) .0 .0 ≡ 0
-      → NoneDone (takesOut page) ds (bytesStep c (tableAfter o k t cs) .1)
+      → NoneDone (TakesOut page) ds (bytesStep c (tableAfter o k t cs) .1)
       → (registers : List ℕ) (mode kind address : ℕ) (answer : List ℕ) → Reaches o k registers mode kind address answer page
       → onBytes (access registers mode kind address answer) (tableAfter o k t (cs ++ c ∷ ds)) .number ≡ 0
       → onBytes (access registers mode kind address answer) (tableAfter o k t (cs ++ c ∷ ds)) .answer

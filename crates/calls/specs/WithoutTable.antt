@@ -8,18 +8,18 @@ use lib.ListN.{length, replicate}
 use Rattle.words.specs.Words.{withWord, bytesOf}
 use Rattle.entry.specs.declared.Fields.{Fields}
 use Rattle.entry.specs.Entry.{packed, unpacked}
-use Rattle.registers.specs.Set.{checkSet, pageSet, replaced}
+use Rattle.registers.specs.Set.{checkWords, replaced, registerWords}
 use Rattle.calls.specs.Lent.{Left, left, ofLength}
 
 -- check: 11, then 2, 3, 4, 5 of the set; the page is only read
 unfoldable pub checkCall : List ℕ → ℕ
-checkCall page = cond (eqb (length page) 132) (checkSet (pageSet page)) 11
+checkCall page = cond (eqb (length page) 132) (checkWords 4 11 (registerWords page)) 11
 
 -- set_register: 11, then 6 for the number, then 2, 3, 4, 5 of the new set; the page has the new word, or stays
 unfoldable pub setRegisterCall : List ℕ → ℕ → ℕ → Left
 unfolding ofLength
 setRegisterCall page number word =
-    let result = replaced (pageSet page) number word .result in
+    let result = replaced (record { words = registerWords page }) number word .result in
     ofLength 132 page (left result (cond (eqb result 0) (withWord page (4 * number) word) page))
 
 -- pack: 11, then 6; the entry's two words, zero after 6

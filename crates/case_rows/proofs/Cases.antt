@@ -1,27 +1,27 @@
 -- Every row of the twelve cases holds: what there is to compute for it computes.
 use mathlib.Core.Path.{refl}
 use native.Mathlib.Omega.{arith}
-use Rattle.words.specs.Below.{everyBelow, firstFrom, firstBelow}
+use Rattle.words.specs.Below.{everyBelow, firstBelow}
 use Rattle.words.specs.Ones.{bitLength, lowOnes}
 use Rattle.words.specs.Words.{wordBytes, wordAt, withWord, bytesOf, wordsAt}
 use Rattle.entry.specs.Entry.{firstWord, secondWord, matches, free, apiOf, pageIndex, withMarks, physicalAddress}
 use Rattle.registers.specs.Sdr1.{sdr1Shape, tableLength, maskOnes, hashBits}
-use Rattle.registers.specs.Segment.{segmentShape, supervisorKey, userKey, noExecute, segmentVsid}
+use Rattle.registers.specs.Segment.{segmentShape, keyOf, noExecute, segmentVsid}
 use Rattle.registers.specs.Block.{off, validFor, commonV, upperShape, lowerShape, blockShape, inBlock, shareAddress, clash, covers, blockAttributes, blockPP, blockPhysical}
-use Rattle.registers.specs.Set.{segmentsShape, pairShape, sideShape, pairApart, sideApart, pairCovers, coveringPair, checkWords, checkSet, pageSet}
+use Rattle.registers.specs.Set.{segmentsShape, sideShape, pairApart, sideApart, pairCovers, coveringPair, checkWords, registerWords}
 use Rattle.groups.specs.Page.{samePage}
 use Rattle.groups.specs.Hash.{hashOf, primaryGroup, secondaryGroup, groupNumber, groupAddress}
 use Rattle.groups.specs.Search.{agree, contradict}
 use Rattle.groups.specs.Group.{firstAt, secondAt, putEntry}
 use Rattle.tables.specs.Matches.{matchesBelow}
 use Rattle.tables.specs.Layout.{matchesIn, matchesOf, freeEntry, freePlace, overwrite}
-use Rattle.translation.specs.Access.{userMode, fetching, storing, relocated, sideOf, keyOf}
+use Rattle.translation.specs.Access.{userMode, fetching, storing, relocated, sideOf}
 use Rattle.translation.specs.Protection.{pageReadable, pageWritable, pageAllows, guarded, blockAllows}
-use Rattle.translation.specs.Fault.{causeWord, storeWord, faultOf}
+use Rattle.translation.specs.Fault.{causeWord, faultOf}
 use Rattle.translation.specs.Steps.{blockOutcome, beforeSearch, pageOutcome, afterSearch, outcomeOf, answerOf}
-use Rattle.calls.specs.Request.{registerWords, sdr1In, fed}
+use Rattle.calls.specs.Request.{sdr1In, fed}
 use Rattle.calls.specs.Rules.{pageInRange, writeThroughInhibited, rules, refusal}
-use Rattle.calls.specs.Answers.{wordAnswer, accessAnswer, doneByPage, compared}
+use Rattle.calls.specs.Answers.{wordAnswer, accessAnswer, compared}
 use Rattle.calls.specs.WithoutTable.{checkCall}
 use Rattle.calls.specs.OnBytes.{entryWord, searched}
 use Rattle.calls.specs.OnMap.{fieldsWord, arranged?, foundIn, mapMarked, mapDoes, onMap}
@@ -41,7 +41,7 @@ first : Setting 0 0 0 0x3FF
 first = record { few = omega arith; whole = refl; mirror = refl }
 
 pub twelve-cases : TwelveCases
-unfolding mapStep compared onMap mapDoes arranged? fed sdr1In refusal rules pageInRange writeThroughInhibited sdr1Shape tableLength maskOnes hashBits lowOnes bitLength samePage hashOf primaryGroup secondaryGroup groupNumber groupAddress wordAnswer accessAnswer doneByPage foundIn mapMarked fieldsWord outcomeOf blockOutcome beforeSearch afterSearch pageOutcome answerOf userMode fetching storing relocated sideOf keyOf pageReadable pageWritable pageAllows guarded blockAllows causeWord storeWord faultOf checkCall checkSet pageSet checkWords segmentsShape segmentShape sideShape pairShape blockShape off upperShape lowerShape sideApart pairApart clash commonV shareAddress everyBelow coveringPair pairCovers covers validFor inBlock blockAttributes blockPP blockPhysical firstBelow firstFrom supervisorKey userKey noExecute segmentVsid pageIndex physicalAddress secondWord registerWords wordsAt wordAt bytesOf wordBytes pairDo pairMarked matchesOf matchesIn matchesBelow freePlace freeEntry free matches apiOf entryWord firstWord firstAt secondAt putEntry withWord searched contradict agree overwrite withMarks
+unfolding mapStep compared onMap mapDoes arranged? fed sdr1In refusal rules pageInRange writeThroughInhibited sdr1Shape tableLength maskOnes hashBits lowOnes bitLength samePage hashOf primaryGroup secondaryGroup groupNumber groupAddress wordAnswer accessAnswer foundIn mapMarked fieldsWord outcomeOf blockOutcome beforeSearch afterSearch pageOutcome answerOf userMode fetching storing relocated sideOf keyOf pageReadable pageWritable pageAllows guarded blockAllows causeWord faultOf checkCall registerWords checkWords segmentsShape segmentShape sideShape blockShape off upperShape lowerShape sideApart pairApart clash commonV shareAddress everyBelow coveringPair pairCovers covers validFor inBlock blockAttributes blockPP blockPhysical firstBelow noExecute segmentVsid pageIndex physicalAddress secondWord wordsAt wordAt bytesOf wordBytes pairDo pairMarked matchesOf matchesIn matchesBelow freePlace freeEntry free matches apiOf entryWord firstWord firstAt secondAt putEntry withWord searched contradict agree overwrite withMarks
 twelve-cases =
     let hash = rows-hold 0x0F98 3 0x1FE6 0x0019 large case1 (refl, (refl, (refl, (refl, (refl, (refl, tt)))))) in
     let page-8192 = rows-hold 0x0F98 3 0x1FE6 0x0019 large (cases2to5 0x0F980007 0x1FE6 0x0019) (refl, (refl, (refl, (refl, (refl, (refl, (refl, (refl, (refl, tt))))))))) in

@@ -16,6 +16,7 @@ use Rattle.words.proofs.Tests.{both, cond-by}
 use Rattle.entry.specs.Entry.{secondWord, matches, free, apiOf, withMarks, withPP}
 use Rattle.registers.specs.Sdr1.{tableLength, maskOnes}
 use Rattle.registers.proofs.Sdr1.{made-ones, made-length}
+use Rattle.registers.specs.Set.{registerWords}
 use Rattle.groups.specs.Page.{Page}
 use Rattle.groups.specs.Hash.{groupNumber}
 use Rattle.groups.specs.Group.{groupOf, firstAt, secondAt, firstOf, secondOf, putEntry, putAt}
@@ -26,13 +27,12 @@ use Rattle.tables.specs.Matches.{Match}
 use Rattle.tables.specs.Layout.{Layout, matchesIn, matchesOf, freeEntry, freePlace, overwrite, overwriteEach}
 use Rattle.tables.specs.Runs.{after}
 use Rattle.translation.specs.Access.{storing}
-use Rattle.translation.specs.Steps.{beforeSearch, outcomeOf, afterSearch}
+use Rattle.translation.specs.Steps.{beforeSearch, outcomeOf, afterSearch, answerOf}
 use Rattle.translation.specs.declared.Early.{Early}
 use Rattle.translation.specs.declared.Early.the-variants.{Decided, Search}
-use Rattle.translation.specs.declared.Outcome.{Outcome}
-use Rattle.calls.specs.Request.{Request, clear, mapPage, unmap, protect, look, access, registerWords, sdr1In, fed}
+use Rattle.calls.specs.Request.{Request, clear, mapPage, unmap, protect, look, access, sdr1In, fed}
 use Rattle.calls.specs.Rules.{refusal}
-use Rattle.calls.specs.Answers.{wordAnswer, doneByPage}
+use Rattle.calls.specs.Answers.{wordAnswer}
 use Rattle.calls.specs.OnBytes.{layout, Ended, ended, byMatches, byOption, entryWord, wantedPage, searched, markedBy, bytesDo, onBytes}
 use Rattle.calls.specs.Histories.{bytesStep}
 use Rattle.calls.specs.Theorem.{sdr1With}
@@ -62,11 +62,11 @@ abbrev pub zeros : Pair
 zeros = (replicate 64 0, replicate 64 0)
 
 -- step 7 of an access on them
-unfoldable pub pairMarked : ℕ → Early → Outcome → Pair → Pair
-pairMarked kind (Decided decided) outcome x = x
-pairMarked kind (Search wanted) outcome x =
+unfoldable pub pairMarked : ℕ → Early → ℕ → Pair → Pair
+pairMarked kind (Decided outcome) result x = x
+pairMarked kind (Search wanted) result x =
     let page = wantedPage wanted in
-    cond (doneByPage outcome)
+    cond (eqb result 0)
     (byMatches (matchesOf pairLayout x page) x (λ m ms. overwrite pairLayout page m (m .first) (withMarks true (storing kind) (m .second)) x))
     x
 
@@ -83,7 +83,8 @@ pairDo (protect sdr1 page pp) x = overwriteEach pairLayout page (λ m. (m .first
 pairDo (look sdr1 page answer) x = x
 pairDo (access registers mode kind address answer) x =
     let early = beforeSearch 4 11 (registerWords registers) mode kind address in
-    pairMarked kind early (outcomeOf kind (λ wanted. searched (matchesOf pairLayout x (wantedPage wanted))) early) x
+    let outcome = outcomeOf kind (λ wanted. searched (matchesOf pairLayout x (wantedPage wanted))) early in
+    pairMarked kind early (answerOf kind address outcome .result) x
 
 abbrev pub pairAfter : List (Request (List ℕ)) → Pair → Pair
 pairAfter [] x = x
@@ -211,14 +212,14 @@ module _ (k p s : ℕ) where
       stays = record { long = long; groups = refl }
 
       map-shows : (sdr1 : ℕ) (page : Page) (rpn wimg pp : ℕ) → ownPage page ≡ true
-          → Shows (bytesDo k (mapPage sdr1 page rpn wimg pp) t .table) (pairDo (mapPage sdr1 page rpn wimg pp) (pairOf t))
+          → Shows (bytesDo k (mapPage sdr1 page rpn wimg pp) t .state) (pairDo (mapPage sdr1 page rpn wimg pp) (pairOf t))
       unfolding bytesDo pairDo
       map-shows sdr1 page rpn wimg pp own = rw (same-matches page own t, same-place page own t) (go (matchesOf pairLayout (pairOf t) page) (freePlace pairLayout (pairOf t) page))
         where
           go : (ms : List Match) (free : Option (Bool × ℕ)) → Shows
               (byMatches ms (byOption free (ended 9 t [])
               (λ place. ended 0 (putAt t (groupNumber (10 + k) (place .0) page) (place .1) (entryWord (place .0) page) (secondWord rpn 0 0 wimg pp)) []))
-              (λ m rest. ended 7 t []) .table)
+              (λ m rest. ended 7 t []) .state)
               (byMatches ms (byOption free (pairOf t)
               (λ place. pairLayout .put (pairOf t) (hOf (place .0)) (place .1) (entryWord (place .0) page) (secondWord rpn 0 0 wimg pp)))
               (λ m rest. pairOf t))
@@ -229,35 +230,36 @@ module _ (k p s : ℕ) where
       -- unmap and protect: each match is edited
       edited-shows : (page : Page) → ownPage page ≡ true → (edit : Match → ℕ × ℕ) (missing : List ℕ) (answer : Match → List Match → List ℕ)
           → Shows (byMatches (matchesOf (layout k) t page) (ended 8 t missing)
-          (λ m ms. ended 0 (overwriteEach (layout k) page edit (m ∷ ms) t) (answer m ms)) .table)
+          (λ m ms. ended 0 (overwriteEach (layout k) page edit (m ∷ ms) t) (answer m ms)) .state)
           (overwriteEach pairLayout page edit (matchesOf pairLayout (pairOf t) page) (pairOf t))
       unfolding overwriteEach
       edited-shows page own edit missing answer = rw (same-matches page own t) (go (matchesOf pairLayout (pairOf t) page))
         where
           go : (ms : List Match)
-              → Shows (byMatches ms (ended 8 t missing) (λ m rest. ended 0 (overwriteEach (layout k) page edit (m ∷ rest) t) (answer m rest)) .table)
+              → Shows (byMatches ms (ended 8 t missing) (λ m rest. ended 0 (overwriteEach (layout k) page edit (m ∷ rest) t) (answer m rest)) .state)
               (overwriteEach pairLayout page edit ms (pairOf t))
           go [] = each-shows page own edit [] t long
           go (m ∷ ms) = each-shows page own edit (m ∷ ms) t long
 
-      look-stays : (sdr1 : ℕ) (page : Page) (answer : List ℕ) → bytesDo k (look sdr1 page answer) t .table ≡ t
+      look-stays : (sdr1 : ℕ) (page : Page) (answer : List ℕ) → bytesDo k (look sdr1 page answer) t .state ≡ t
       unfolding bytesDo
       look-stays sdr1 page answer = go (matchesOf (layout k) t page)
         where
           go : (ms : List Match)
-              → byMatches ms (ended 8 t (wordAnswer 8 0)) (λ m rest. cond (contradict m rest) (ended 10 t (wordAnswer 10 0)) (ended 0 t (wordAnswer 0 (m .second)))) .table ≡ t
+              → byMatches ms (ended 8 t (wordAnswer 8 0)) (λ m rest. cond (contradict m rest) (ended 10 t (wordAnswer 10 0)) (ended 0 t (wordAnswer 0 (m .second)))) .state ≡ t
           go [] = refl
-          go (m ∷ ms) = cond-by (λ (e : Ended). e .table ≡ t) (contradict m ms) _ _ (λ h. refl) (λ h. refl)
+          go (m ∷ ms) = cond-by (λ (e : Ended (List ℕ)). e .state ≡ t) (contradict m ms) _ _ (λ h. refl) (λ h. refl)
 
-      marked-shows : (kind : ℕ) (early : Early) → ownEarly early ≡ true
-          → Shows (markedBy k kind early (outcomeOf kind (λ wanted. searched (matchesOf (layout k) t (wantedPage wanted))) early) t)
-          (pairMarked kind early (outcomeOf kind (λ wanted. searched (matchesOf pairLayout (pairOf t) (wantedPage wanted))) early) (pairOf t))
+      marked-shows : (kind address : ℕ) (early : Early) → ownEarly early ≡ true
+          → let onTable = outcomeOf kind (λ wanted. searched (matchesOf (layout k) t (wantedPage wanted))) early in
+          let onPair = outcomeOf kind (λ wanted. searched (matchesOf pairLayout (pairOf t) (wantedPage wanted))) early in
+          Shows (markedBy k kind early (answerOf kind address onTable .result) t) (pairMarked kind early (answerOf kind address onPair .result) (pairOf t))
       unfolding markedBy pairMarked outcomeOf
-      marked-shows kind (Decided outcome) own = stays
-      marked-shows kind (Search wanted) own =
+      marked-shows kind address (Decided outcome) own = stays
+      marked-shows kind address (Search wanted) own =
           let page = wantedPage wanted in
           let found = matchesOf pairLayout (pairOf t) page in
-          rw (same-matches page own t) (go (doneByPage (afterSearch kind (wanted .key) (searched found))) found)
+          rw (same-matches page own t) (go (eqb (answerOf kind address (afterSearch kind (wanted .key) (searched found)) .result) 0) found)
         where
           go : (done : Bool) (ms : List Match)
               → Shows
@@ -267,14 +269,14 @@ module _ (k p s : ℕ) where
           go true (m ∷ ms) = overwritten-shows (wantedPage wanted) own m (m .first) (withMarks true (storing kind) (m .second)) t long
           go false ms = stays
 
-      do-shows : (request : Request (List ℕ)) → ownCall request ≡ true → Shows (bytesDo k request t .table) (pairDo request (pairOf t))
+      do-shows : (request : Request (List ℕ)) → ownCall request ≡ true → Shows (bytesDo k request t .state) (pairDo request (pairOf t))
       unfolding bytesDo pairDo
       do-shows (clear sdr1) own = zeros-show (length t) long
       do-shows (mapPage sdr1 page rpn wimg pp) own = map-shows sdr1 page rpn wimg pp own
       do-shows (unmap sdr1 page answer) own = edited-shows page own (λ m. (0, 0)) (wordAnswer 8 0) (λ m ms. wordAnswer 0 (merged m ms))
       do-shows (protect sdr1 page pp) own = edited-shows page own (λ m. (m .first, withPP pp (m .second))) [] (λ m ms. [])
       do-shows (look sdr1 page answer) own = subst (λ u. Shows u (pairOf t)) (sym (look-stays sdr1 page answer)) stays
-      do-shows (access registers mode kind address answer) own = marked-shows kind (beforeSearch 4 11 (registerWords registers) mode kind address) own
+      do-shows (access registers mode kind address answer) own = marked-shows kind address (beforeSearch 4 11 (registerWords registers) mode kind address) own
 
     module _ (o : ℕ) (few : k ≤ 9) (whole : o % 2 ^ k ≡ 0) where
       after-shows : (requests : List (Request (List ℕ))) → allOwn (sdr1With o k) requests ≡ true → (t : List ℕ) → length t ≡ 65536 * 2 ^ k
@@ -289,9 +291,9 @@ module _ (k p s : ℕ) where
           let does : onBytes request t ≡ bytesDo k request t =
           taken request t (ap (refusal (fed request)) long ∙ eqb-true (refusal (fed request) (65536 * 2 ^ k)) 0 kept)
           ∙ ap (λ (n : ℕ). bytesDo n request t) ones in
-          let next : Shows (onBytes request t .table) (pairDo request (pairOf t)) = rw does (do-shows t long request mine) in
-          subst (λ x. Shows (after bytesStep (map onTable requests) (onBytes request t .table)) (pairAfter requests x)) (next .groups)
-          (after-shows requests rest (onBytes request t .table) (next .long))
+          let next : Shows (onBytes request t .state) (pairDo request (pairOf t)) = rw does (do-shows t long request mine) in
+          subst (λ x. Shows (after bytesStep (map onTable requests) (onBytes request t .state)) (pairAfter requests x)) (next .groups)
+          (after-shows requests rest (onBytes request t .state) (next .long))
 
       -- the two groups after a clear and calls of theirs
       module _ (requests : List (Request (List ℕ))) (stated : List ℕ) (own : allOwn (sdr1With o k) (clear (sdr1With o k) ∷ requests) ≡ true) where

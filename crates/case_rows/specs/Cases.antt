@@ -48,7 +48,7 @@ fourWords w₀ w₁ w₂ w₃ = (w₀, bytesOf (w₀ ∷ w₁ ∷ w₂ ∷ w₃ 
 
 abbrev pub Holds : Claim → Type 0
 Holds (computes computed stated) = computed ≡ stated
-Holds (refused request stated) = (t : List ℕ) → (onBytes request t .number ≡ stated) × (onBytes request t .table ≡ t)
+Holds (refused request stated) = (t : List ℕ) → (onBytes request t .number ≡ stated) × (onBytes request t .state ≡ t)
 Holds (answered sdr1 requests stated) = (t : List ℕ) → length t ≡ tableLength sdr1 → run bytesStep (history sdr1 requests) t ≡ result 0 ∷ stated
 Holds (stored sdr1 requests group stated) =
     (t : List ℕ) → length t ≡ tableLength sdr1 → groupOf (after bytesStep (history sdr1 requests) t) group ≡ bytesOf stated

@@ -9,7 +9,7 @@ use borrow.Author.Tests.{eqb-true, ne-eqb, le-leb, lt-leb}
 use Rattle.entry.specs.Entry.{referenced, changed, withMarks}
 use Rattle.entry.proofs.Marks.{marks-referenced, marks-changed, marks-own, marks-again}
 use Rattle.tables.specs.Matches.{Match}
-use Rattle.groups.specs.Search.{agree, disagrees, isReferenced, isChanged, anyMatch, contradict, merged, each, placeOf, summary, found, inSecondary, entryOf}
+use Rattle.groups.specs.Search.{agree, anyMatch, contradict, merged, each, placeOf, summary, found, inSecondary, entryOf}
 use Rattle.groups.specs.declared.Search.{Search}
 
 or-true : (b : Bool) → b || true ≡ true
@@ -27,6 +27,16 @@ or-assoc false b c = refl
 or-swap : (a b : Bool) → a || b ≡ b || a
 or-swap true b = sym (or-true b)
 or-swap false b = sym (or-false b)
+
+-- the tests that `contradict` and `merged` make
+abbrev disagrees : ℕ → Match → Bool
+disagrees second m = not (agree second (m .second))
+
+abbrev isReferenced : Match → Bool
+isReferenced m = referenced (m .second)
+
+abbrev isChanged : Match → Bool
+isChanged m = changed (m .second)
 
 -- a test of two lists, one after the other
 any-append : (test : Match → Bool) (ms ns : List Match) → anyMatch test (ms ++ ns) ≡ (anyMatch test ms || anyMatch test ns)

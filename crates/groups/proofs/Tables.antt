@@ -1,6 +1,6 @@
 -- Every row of the tables of groups holds: both sides compute to the same.
 use mathlib.Core.Path.{refl}
-use Rattle.words.specs.Below.{firstFrom, firstBelow}
+use Rattle.words.specs.Below.{firstBelow}
 use Rattle.words.specs.Ones.{bitLength}
 use Rattle.words.specs.Words.{wordBytes, wordAt, withWord, bytesOf}
 use Rattle.entry.specs.Entry.{matches, free, referenced, changed, withMarks, withPP}
@@ -14,7 +14,7 @@ use Rattle.groups.specs.Edit.{edited, editEach, editMatches}
 use Rattle.groups.specs.Tables.{GroupsTables}
 
 pub groups-tables : GroupsTables
-unfolding hashOf primaryGroup secondaryGroup groupNumber groupAddress samePage bitLength maskOnes hashBits wordBytes wordAt withWord bytesOf firstFrom firstBelow matches free referenced changed withMarks withPP matchesBelow groupOf putGroup onGroup firstAt secondAt putEntry freeAt freeEntry freePlace firstOf secondOf putAt matchesIn matchesOf agree contradict merged summary edited editEach editMatches
+unfolding hashOf primaryGroup secondaryGroup groupNumber groupAddress samePage bitLength maskOnes hashBits wordBytes wordAt withWord bytesOf firstBelow matches free referenced changed withMarks withPP matchesBelow groupOf putGroup onGroup firstAt secondAt putEntry freeAt freeEntry freePlace firstOf secondOf putAt matchesIn matchesOf agree contradict merged summary edited editEach editMatches
 groups-tables = record {
   hashes = record { equal = refl };
   case-1 = record { equal = refl };

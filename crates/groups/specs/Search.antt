@@ -24,16 +24,6 @@ matchesOf vsid api primary secondary = matchesIn false vsid api primary ++ match
 unfoldable pub agree : ℕ → ℕ → Bool
 agree second other = eqb second other
 
--- what is asked of a match: its second word does not agree with a given one, R is set, C is set
-abbrev pub disagrees : ℕ → Match → Bool
-disagrees second m = not (agree second (m .second))
-
-abbrev pub isReferenced : Match → Bool
-isReferenced m = referenced (m .second)
-
-abbrev pub isChanged : Match → Bool
-isChanged m = changed (m .second)
-
 -- some match of a list passes a test
 abbrev pub anyMatch : (Match → Bool) → List Match → Bool
 anyMatch test [] = false
@@ -41,11 +31,12 @@ anyMatch test (m ∷ ms) = test m || anyMatch test ms
 
 -- the matches contradict: some other one's second word does not agree with the first's
 unfoldable pub contradict : Match → List Match → Bool
-contradict m ms = anyMatch (disagrees (m .second)) ms
+contradict m ms = anyMatch (λ x. not (agree (m .second) (x .second))) ms
 
 -- the first match's second word, with R and C each set if any match had it
 unfoldable pub merged : Match → List Match → ℕ
-merged m ms = withMarks (anyMatch isReferenced (m ∷ ms)) (anyMatch isChanged (m ∷ ms)) (m .second)
+merged m ms =
+    withMarks (anyMatch (λ x. referenced (x .second)) (m ∷ ms)) (anyMatch (λ x. changed (x .second)) (m ∷ ms)) (m .second)
 
 -- every match passes
 abbrev pub each : Match → Bool

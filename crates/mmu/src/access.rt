@@ -1,10 +1,10 @@
 // The exported access: the rules of its arguments in order, the steps, the search of the page's two groups, the mark and the answer.
 use super::located::locate;
 ghost use mathlib.Core.Path.{_≡_};
-ghost use mathlib.Core.Bool.{true, _&&_};
+ghost use mathlib.Core.Bool.{true, not, _&&_};
 ghost use mathlib.Core.List.{List, [], _∷_, _++_};
 ghost use Prim.Native.Nat.{ℕ, _<_, _^_};
-ghost use lib.Dec.{ltb};
+ghost use lib.Dec.{eqb, ltb};
 ghost use lib.ListN.{length};
 ghost use Rattle.registers.specs.Rules.{firstBroken};
 ghost use Rattle.registers.specs.Sdr1.{sdr1Shape, tableLength, maskOnes};
@@ -12,18 +12,17 @@ ghost use Rattle.registers.specs.Set.{sdr1Of, registerRules};
 ghost use Rattle.groups.specs.Search.{summary};
 ghost use Rattle.tables.specs.Matches.{Match};
 ghost use Rattle.tables.specs.Layout.{matchesOf};
-ghost use Rattle.translation.specs.Steps.{afterSearch, outcomeOf};
+ghost use Rattle.translation.specs.Steps.{afterSearch, outcomeOf, answerOf};
 ghost use Rattle.translation.specs.declared.Early.the-variants.{Search};
 ghost use Rattle.translation.specs.declared.Wanted.{Wanted};
 ghost use Rattle.calls.specs.Request.{access};
-ghost use Rattle.calls.specs.Rules.{argumentOutOfRange, tableLengthWrong};
 ghost use Rattle.calls.specs.Answers.{accessAnswer};
 ghost use Rattle.calls.specs.OnBytes.{layout, ended, wantedPage, searched, markedBy, onBytes};
 
 // The first broken rule after 11, or 0: the arguments' ranges, then the register set, then the table's length.
 fn refusal(words: &[u32; 33], mode: u32, kind: u32, lent: usize) -> u32
-    ensures { λ r. ⌜ r ≡ firstBroken (argumentOutOfRange (ltb mode 8 && ltb kind 3)
-        ∷ registerRules 4 11 (now (words .entry)) ++ (tableLengthWrong (sdr1Of (now (words .entry))) lent ∷ [])) ⌝ }
+    ensures { λ r. ⌜ r ≡ firstBroken ((not (ltb mode 8 && ltb kind 3), 6)
+        ∷ registerRules 4 11 (now (words .entry)) ++ ((not (eqb lent (tableLength (sdr1Of (now (words .entry))))), 1) ∷ [])) ⌝ }
 {
     if !((mode < 8) & (kind < 3)) {
         return 6;
@@ -60,7 +59,7 @@ fn by_page(
 ) -> translation::Outcome
     requires { ⌜ (sdr1Shape sdr1 ≡ true) × (length (now table) ≡ tableLength sdr1) × (wanted .vsid < 2 ^ 24) × (wanted .index < 2 ^ 16) ⌝ }
     ensures { λ r. ⌜ (r ≡ afterSearch kind (wanted .key) (searched (matchesOf (layout (maskOnes sdr1)) (now (table .entry)) (wantedPage wanted))))
-        × (now (table .exit) ≡ markedBy (maskOnes sdr1) kind (Search wanted) r (now (table .entry))) ⌝ }
+        × ((address : ℕ) → now (table .exit) ≡ markedBy (maskOnes sdr1) kind (Search wanted) (answerOf kind address r .result) (now (table .entry))) ⌝ }
 {
     let at = locate(sdr1, wanted.vsid, wanted.index);
     let search = groups::search_both(table, at.primary, at.secondary, wanted.vsid, at.api);
@@ -83,7 +82,7 @@ fn decided(
     requires { ⌜ (sdr1Shape sdr1 ≡ true) × (length (now table) ≡ tableLength sdr1)
         × ((wanted : Wanted) → early ≡ Search wanted → (wanted .vsid < 2 ^ 24) × (wanted .index < 2 ^ 16)) ⌝ }
     ensures { λ r. ⌜ (r ≡ outcomeOf kind (λ wanted. searched (matchesOf (layout (maskOnes sdr1)) (now (table .entry)) (wantedPage wanted))) early)
-        × (now (table .exit) ≡ markedBy (maskOnes sdr1) kind early r (now (table .entry))) ⌝ }
+        × ((address : ℕ) → now (table .exit) ≡ markedBy (maskOnes sdr1) kind early (answerOf kind address r .result) (now (table .entry))) ⌝ }
 {
     match early {
         translation::Early::Decided(outcome) => outcome,

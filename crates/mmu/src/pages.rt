@@ -9,7 +9,7 @@ ghost use lib.ListN.{length};
 ghost use Rattle.registers.specs.Rules.{firstBroken};
 ghost use Rattle.registers.specs.Sdr1.{sdr1Shape, tableLength, maskOnes};
 ghost use Rattle.calls.specs.Request.{clear, mapPage, unmap, protect, look};
-ghost use Rattle.calls.specs.Rules.{pageInRange, writeThroughInhibited, argumentOutOfRange, sdr1Wrong, tableLengthWrong};
+ghost use Rattle.calls.specs.Rules.{pageInRange, writeThroughInhibited, tableRules};
 ghost use Rattle.calls.specs.Answers.{wordAnswer};
 ghost use Rattle.calls.specs.OnBytes.{ended, bytesDo, onBytes};
 
@@ -48,7 +48,7 @@ fn map_in_range(vsid: u32, index: u32, rpn: u32, wimg: u32, pp: u32) -> bool
 
 // The refusal by the arguments' ranges, by SDR1 and by the table's length, in this order, or 0.
 fn page_refusal(fits: bool, sdr1: u32, lent: usize) -> u32
-    ensures { λ r. ⌜ r ≡ firstBroken (argumentOutOfRange fits ∷ sdr1Wrong sdr1 ∷ tableLengthWrong sdr1 lent ∷ []) ⌝ }
+    ensures { λ r. ⌜ r ≡ firstBroken ((not fits, 6) ∷ tableRules sdr1 lent) ⌝ }
 {
     if !fits {
         return 6;

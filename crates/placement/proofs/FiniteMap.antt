@@ -7,7 +7,7 @@ use mathlib.Core.Option.{Option, none, some, Option·map, Option·some-ne-none, 
 use Prim.Native.Nat.{suc}
 use lib.ListN.{length, length-map}
 use Rattle.placement.specs.Lists.{selected}
-use Rattle.placement.specs.FiniteMap.{mappedPages, putIn, fieldsAt, takeOut, revised, revise, NoPageTwice}
+use Rattle.placement.specs.FiniteMap.{mappedPages, putIn, fieldsAt, takeOut, revise, NoPageTwice}
 use Rattle.placement.proofs.Lists.{selected-map}
 use Rattle.placement.proofs.Perm.{Perm, pnil, pcons, pswap, ptrans, pof, plength}
 
@@ -30,10 +30,10 @@ module _ {P F : Type 0} where
     mappedPages-takeOut p m = mappedPages-onlyPages (λ q. not (same p q)) m
 
     pub mappedPages-revise : (p : P) (u : F → F) (m : List (P × F)) → mappedPages (revise same p u m) ≡ mappedPages m
-    mappedPages-revise p u m = map-map (λ x. x .0) (revised same p u) m
+    mappedPages-revise p u m = map-map (λ x. x .0) (λ x. (x .0, cond (same p (x .0)) (u (x .1)) (x .1))) m
 
     pub length-revise : (p : P) (u : F → F) (m : List (P × F)) → length (revise same p u m) ≡ length m
-    length-revise p u m = length-map m (revised same p u)
+    length-revise p u m = length-map m (λ x. (x .0, cond (same p (x .0)) (u (x .1)) (x .1)))
 
 cond-same : {A : Type 0} (t : Bool) (a : A) → cond t a a ≡ a
 cond-same true a = refl

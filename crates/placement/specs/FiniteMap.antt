@@ -26,13 +26,9 @@ module _ {P F : Type 0} (same : P → P → Bool) where
   abbrev pub takeOut : P → List (P × F) → List (P × F)
   takeOut p m = selected (λ x. not (same p (x .0))) m
 
-  -- one page with its fields, these revised by u if it is page p
-  abbrev pub revised : P → (F → F) → P × F → P × F
-  revised p u x = (x .0, cond (same p (x .0)) (u (x .1)) (x .1))
-
   -- the fields of page p revised by u, those of every other page kept
   abbrev pub revise : P → (F → F) → List (P × F) → List (P × F)
-  revise p u m = map (revised p u) m
+  revise p u m = map (λ x. (x .0, cond (same p (x .0)) (u (x .1)) (x .1))) m
 
   -- no page is in the list twice
   abbrev pub NoPageTwice : List (P × F) → Type 0

@@ -18,7 +18,7 @@ use Rattle.words.proofs.Tests.{both, three}
 use Rattle.words.proofs.Masks.{and-not-in}
 use Rattle.words.proofs.Without.{or-without, and-without}
 use Rattle.registers.specs.Block.{bepiOf, blOf, upperShape, inBlock, shareAddress, validFor, commonV, clash, covers}
-use Rattle.registers.specs.Set.{checkWords, upperOf, sideApart, pairApart, apartFrom, pairCovers}
+use Rattle.registers.specs.Set.{checkWords, upperOf, sideApart, pairApart, pairCovers}
 use Rattle.registers.specs.Blocks.{BlocksDecide}
 use Rattle.registers.proofs.Set.{checked}
 
@@ -135,7 +135,7 @@ module _ (pairs width : ℕ) (wide : width ≤ 15) where
         → pairCovers pairs width words side user address i ≡ true → pairCovers pairs width words side user address j ≡ true → ⊥
     unfolding sideApart pairApart pairCovers
     before side user address i j apart l h c₁ c₂ =
-        let free = every-at (apartFrom pairs width words side j) j i (every-at (pairApart pairs width words side) pairs j apart h) l in
+        let free = every-at (λ x. not (clash width (upperOf pairs words side x) (upperOf pairs words side j))) j i (every-at (pairApart pairs width words side) pairs j apart h) l in
         true≢false (sym free ∙ ap not (covers-clash user (upperOf pairs words side i) (upperOf pairs words side j) address c₁ c₂))
 
     one : checkWords pairs width words ≡ 0 → (side user : Bool) (address i j : ℕ) → i < pairs → j < pairs

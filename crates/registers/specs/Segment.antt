@@ -1,6 +1,6 @@
 -- A segment register (document 01, "Register words").
 use Prim.Native.Nat.{ℕ}
-use mathlib.Core.Bool.{Bool, _&&_}
+use mathlib.Core.Bool.{Bool, cond, _&&_}
 use lib.Dec.{eqb}
 use Rattle.words.specs.Bits.{bits}
 
@@ -8,13 +8,9 @@ use Rattle.words.specs.Bits.{bits}
 unfoldable pub segmentShape : ℕ → Bool
 segmentShape word = eqb (bits 0 0 word) 0 && eqb (bits 4 7 word) 0
 
--- Ks, the key of the supervisor, is one
-unfoldable pub supervisorKey : ℕ → Bool
-supervisorKey word = eqb (bits 1 1 word) 1
-
--- Kp, the key of the user, is one
-unfoldable pub userKey : ℕ → Bool
-userKey word = eqb (bits 2 2 word) 1
+-- "key" (step 6 of an access): Kp, bit 2, for the user, Ks, bit 1, for the supervisor
+unfoldable pub keyOf : Bool → ℕ → Bool
+keyOf user word = eqb (cond user (bits 2 2 word) (bits 1 1 word)) 1
 
 -- N, no execute, is one
 unfoldable pub noExecute : ℕ → Bool

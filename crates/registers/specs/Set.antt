@@ -20,12 +20,9 @@ sdr1Of words = getD words 0 0
 abbrev pub segmentOf : List ℕ → ℕ → ℕ
 segmentOf words i = getD words (1 + i) 0
 
-abbrev pub segmentShapeAt : List ℕ → ℕ → Bool
-segmentShapeAt words i = segmentShape (segmentOf words i)
-
 -- all sixteen segment registers have their shape
 unfoldable pub segmentsShape : List ℕ → Bool
-segmentsShape words = everyBelow 16 (segmentShapeAt words)
+segmentsShape words = everyBelow 16 (λ i. segmentShape (segmentOf words i))
 
 module _ (pairs : ℕ) where
   -- the number of the first word of a side's pairs
@@ -39,20 +36,13 @@ module _ (pairs : ℕ) where
   lowerOf words side i = getD words (sideStart side + 2 * i + 1) 0
 
   module _ (width : ℕ) where
-    -- pair i of a side has the shape of that side's blocks
-    unfoldable pub pairShape : List ℕ → Bool → ℕ → Bool
-    pairShape words side i = blockShape width side (upperOf words side i) (lowerOf words side i)
-
+    -- each pair of a side has the shape of that side's blocks
     unfoldable pub sideShape : List ℕ → Bool → Bool
-    sideShape words side = everyBelow pairs (pairShape words side)
+    sideShape words side = everyBelow pairs (λ i. blockShape width side (upperOf words side i) (lowerOf words side i))
 
-    -- pairs j and i of a side do not share both an address and a V bit
-    abbrev pub apartFrom : List ℕ → Bool → ℕ → ℕ → Bool
-    apartFrom words side j i = not (clash width (upperOf words side i) (upperOf words side j))
-
-    -- pair j of a side is apart from each pair before it
+    -- pair j of a side shares an address and a V bit with no pair before it
     unfoldable pub pairApart : List ℕ → Bool → ℕ → Bool
-    pairApart words side j = everyBelow j (apartFrom words side j)
+    pairApart words side j = everyBelow j (λ i. not (clash width (upperOf words side i) (upperOf words side j)))
 
     unfoldable pub sideApart : List ℕ → Bool → Bool
     sideApart words side = everyBelow pairs (pairApart words side)
@@ -78,21 +68,13 @@ module _ (pairs : ℕ) where
     unfoldable pub coveringPair : List ℕ → Bool → Bool → ℕ → ℕ
     coveringPair words side user address = firstBelow pairs (pairCovers words side user address)
 
--- the check of the base: four pairs a side, BL of 11 bits
-unfoldable pub checkSet : Registers → ℕ
-checkSet registers = checkWords 4 11 (registers .words)
-
--- the set with the word of that number changed
-abbrev pub withRegister : Registers → ℕ → ℕ → Registers
-withRegister registers number word = record { words = set (registers .words) number word }
-
--- replacing one register word: the new set, or the refusal and the old set
+-- replacing one register word: the new set, with the word of that number changed, or the refusal and the old set
 unfoldable pub replaced : Registers → ℕ → ℕ → Replaced
 replaced registers number word =
-    let new = withRegister registers number word in
-    let refusal = cond (ltb number 33) (checkSet new) 6 in
-    cond (eqb refusal 0) (record { result = 0; set = new }) (record { result = refusal; set = registers })
+    let words = set (registers .words) number word in
+    let refusal = cond (ltb number 33) (checkWords 4 11 words) 6 in
+    cond (eqb refusal 0) (record { result = 0; set = record { words = words } }) (record { result = refusal; set = registers })
 
--- the register set of a page of 132 bytes
-unfoldable pub pageSet : List ℕ → Registers
-pageSet page = record { words = wordsAt page 0 33 }
+-- the words of a register page of 132 bytes
+unfoldable pub registerWords : List ℕ → List ℕ
+registerWords page = wordsAt page 0 33

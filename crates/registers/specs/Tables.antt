@@ -5,13 +5,13 @@ use mathlib.Core.Bool.{Bool, true, false, cond, not, _&&_}
 use mathlib.Core.List.{List, [], _∷_}
 use mathlib.Core.Path.{_≡_, refl}
 use lib.ListN.{set, replicate}
-use Rattle.words.specs.Below.{everyBelow, firstFrom, firstBelow}
+use Rattle.words.specs.Below.{everyBelow, firstBelow}
 use Rattle.words.specs.Ones.{bitLength, lowOnes}
 use Rattle.words.specs.Rows.{Hold}
 use Rattle.registers.specs.Sdr1.{sdr1Shape, tableLength, maskOnes, hashBits}
-use Rattle.registers.specs.Segment.{segmentShape, supervisorKey, userKey, noExecute, segmentVsid}
+use Rattle.registers.specs.Segment.{segmentShape, keyOf, noExecute, segmentVsid}
 use Rattle.registers.specs.Block.{off, validFor, commonV, upperShape, lowerShape, blockShape, inBlock, blockPhysical, shareAddress, clash, covers, blockAttributes, blockPP}
-use Rattle.registers.specs.Set.{segmentsShape, pairShape, sideShape, pairApart, sideApart, checkWords, checkSet, pairCovers, coveringPair, replaced}
+use Rattle.registers.specs.Set.{segmentsShape, sideShape, pairApart, sideApart, checkWords, pairCovers, coveringPair, replaced}
 use Rattle.registers.specs.declared.Registers.{Registers}
 use Rattle.registers.specs.declared.Replaced.{Replaced}
 
@@ -55,15 +55,15 @@ segment-rows : Hold (
     ∷ (segmentShape 0x04000000, false)
     ∷ (segmentShape 0x02000000, false)
     ∷ (segmentShape 0x01000000, false)
-    ∷ (supervisorKey 0x40000000, true)
-    ∷ (supervisorKey 0x30FFFFFF, false)
-    ∷ (userKey 0x20000000, true)
-    ∷ (userKey 0x50FFFFFF, false)
+    ∷ (keyOf false 0x40000000, true)
+    ∷ (keyOf false 0x30FFFFFF, false)
+    ∷ (keyOf true 0x20000000, true)
+    ∷ (keyOf true 0x50FFFFFF, false)
     ∷ (noExecute 0x10000000, true)
     ∷ (noExecute 0x60FFFFFF, false)
     ∷ []
     )
-unfolding segmentShape supervisorKey userKey noExecute
+unfolding segmentShape keyOf noExecute
 segment-rows = record { equal = refl }
 
 vsid-rows : Hold ((segmentVsid 0x700C701C, 0x0C701C) ∷ (segmentVsid 0x00FFFFFF, 0xFFFFFF) ∷ [])
@@ -212,7 +212,7 @@ check-rows : Hold (
     ∷ (checkWords 4 11 (three 17 2 19 2 1 0x80000000), 4)
     ∷ []
     )
-unfolding checkWords sdr1Shape segmentsShape segmentShape sideShape pairShape blockShape off upperShape lowerShape sideApart pairApart clash commonV shareAddress everyBelow lowOnes bitLength blank one two three
+unfolding checkWords sdr1Shape segmentsShape segmentShape sideShape blockShape off upperShape lowerShape sideApart pairApart clash commonV shareAddress everyBelow lowOnes bitLength blank one two three
 check-rows = record { equal = refl }
 
 -- the pair that covers an address, of its side and for its privilege
@@ -224,7 +224,7 @@ covering-rows : Hold (
     ∷ (coveringPair 4 11 (one 17 2) false false 0, 0)
     ∷ []
     )
-unfolding coveringPair pairCovers covers validFor inBlock firstBelow firstFrom blank one two
+unfolding coveringPair pairCovers covers validFor inBlock firstBelow blank one two
 covering-rows = record { equal = refl }
 
 -- replacing a word: the new set, or the refusal and the old set; a broken set is repaired by its broken word
@@ -239,5 +239,5 @@ replaced-rows : Hold (
     ∷ (replaced (record { words = one 0 5 }) 1 0, record { result = 2; set = record { words = one 0 5 } })
     ∷ []
     )
-unfolding replaced checkSet checkWords sdr1Shape segmentsShape segmentShape sideShape pairShape blockShape off upperShape lowerShape sideApart pairApart clash commonV shareAddress everyBelow lowOnes bitLength blank one two three
+unfolding replaced checkWords sdr1Shape segmentsShape segmentShape sideShape blockShape off upperShape lowerShape sideApart pairApart clash commonV shareAddress everyBelow lowOnes bitLength blank one two three
 replaced-rows = record { equal = refl }

@@ -3,10 +3,9 @@ ghost use mathlib.Core.Path.{_≡_};
 ghost use mathlib.Core.Bool.{true};
 ghost use Prim.Native.Nat.{_-_, _<_, _^_};
 ghost use lib.ListN.{length};
-ghost use Rattle.words.specs.Words.{wordsAt};
 ghost use Rattle.registers.specs.Sdr1.{sdr1Shape, tableLength, hashBits};
 ghost use Rattle.registers.specs.Segment.{segmentShape};
-ghost use Rattle.registers.specs.Set.{segmentOf, segmentsShape, sideStart, upperOf, lowerOf, sideShape, pairApart, sideApart, checkWords, checkSet, replaced, pageSet, coveringPair};
+ghost use Rattle.registers.specs.Set.{segmentOf, segmentsShape, sideStart, upperOf, lowerOf, sideShape, pairApart, sideApart, checkWords, replaced, registerWords, coveringPair};
 ghost use Rattle.registers.specs.Block.{blockShape, clash, covers, inBlock, blockPhysical};
 
 // The words of the register page in order: SDR1, segments 0 to 15, four instruction pairs, four data pairs.
@@ -238,7 +237,7 @@ pub fn covering_pair(words: &[u32; 33], side: bool, user: bool, address: u32) ->
 impl Registers {
     // 0, or the number of the first rule that the set breaks.
     pub fn check(self) -> u32
-        ensures { λ r. ⌜ r ≡ checkSet self ⌝ }
+        ensures { λ r. ⌜ r ≡ checkWords 4 11 (self .words) ⌝ }
     {
         check_words(&self.words)
     }
@@ -269,7 +268,7 @@ impl Registers {
 // Reads the words of a register page.
 pub fn read_words(page: &[u8], words: &mut [u32])
     requires { ⌜ (length (now page) ≡ 132) × (length (now words) ≡ 33) ⌝ }
-    ensures { λ _. ⌜ now (words .exit) ≡ wordsAt (now (page .entry)) 0 33 ⌝ }
+    ensures { λ _. ⌜ now (words .exit) ≡ registerWords (now (page .entry)) ⌝ }
 {
     let mut i: usize = 0;
     // Two short loops of known length, which the compiler unrolls.
@@ -286,7 +285,7 @@ pub fn read_words(page: &[u8], words: &mut [u32])
 // The register set of a page.
 pub fn read_set(page: &[u8]) -> Registers
     requires { ⌜ length (now page) ≡ 132 ⌝ }
-    ensures { λ r. ⌜ r ≡ pageSet (now (page .entry)) ⌝ }
+    ensures { λ r. ⌜ r ≡ record { words = registerWords (now (page .entry)) } ⌝ }
 {
     let mut words = [0u32; 33];
     read_words(page, &mut words);

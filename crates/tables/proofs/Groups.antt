@@ -5,9 +5,9 @@ use mathlib.Core.Bool.{Bool, true, false, not, true≢false}
 use mathlib.Core.List.{[], _++_, List·Memᴰ, List·Memᴰ·append-cases, Memᴰ·append-left, Memᴰ·append-right, append-eq-nil-iff}
 use Prim.Native.Nat.{ℕ, suc, _-_, _<_}
 use native.Mathlib.Omega.{arith}
-use Rattle.tables.specs.Matches.{Match, entryAt}
+use Rattle.tables.specs.Matches.{Match}
 use Rattle.tables.specs.Layout.{Layout, groups, Reads, matchesIn, matchesOf, LayoutLaws}
-use Rattle.tables.proofs.Matches.{members-match, matching-member, matches-none, none-matches, matches-same, same-words}
+use Rattle.tables.proofs.Matches.{entryAt, members-match, matching-member, matches-none, none-matches, matches-same, same-words}
 
 -- x is an entry of the table that matches page p, with its own words
 pub record MatchOf {P T : Type 0} (L : Layout P T) (t : T) (p : P) (x : Match) : Type 0 where

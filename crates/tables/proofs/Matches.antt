@@ -9,7 +9,11 @@ use native.Mathlib.Nat.{not-suc-le-zero, le-of-suc-le-suc, eq-or-lt-of-le, add-z
 use native.Mathlib.Omega.{arith}
 use lib.ListN.{length, length-append}
 use Rattle.placement.specs.Lists.{oneIf}
-use Rattle.tables.specs.Matches.{Match, entryAt, matchAt, matchesBelow, howManyBelow}
+use Rattle.tables.specs.Matches.{Match, matchAt, matchesBelow, howManyBelow}
+
+-- entry i of a group as a match
+abbrev pub entryAt : (ℕ → ℕ) → (ℕ → ℕ) → Bool → ℕ → Match
+entryAt first second secondary i = record { secondary = secondary; entry = i; first = first i; second = second i }
 
 module _ (matching : ℕ → Bool) (first second : ℕ → ℕ) (secondary : Bool) where
   -- the matches among k entries from entry `from` on, in order

@@ -6,7 +6,7 @@ use mathlib.Core.List.{List, [], _∷_, map}
 use mathlib.Core.Option.{none, some}
 use Prim.Native.Nat.{ℕ, _+_, _-_, _*_, _/_, _%_}
 use lib.Dec.{eqb}
-use Rattle.words.specs.Below.{firstFrom, firstBelow}
+use Rattle.words.specs.Below.{firstBelow}
 use Rattle.placement.specs.Lists.{oneIf}
 use Rattle.tables.specs.Matches.{Match, matchesBelow, howManyBelow}
 use Rattle.tables.specs.Layout.{Layout, matchesIn, matchesOf, used, freeEntry, freePlace, overwrite, overwriteEach}
@@ -55,7 +55,7 @@ filled = four .put standing 3 1 (pageWord true 4) 40
 
 places-rows : (map (freePlace four standing) (0 ∷ 3 ∷ 1 ∷ []) ≡ some (true, 1) ∷ some (false, 1) ∷ some (false, 0) ∷ [])
     × (map (freePlace four filled) (0 ∷ 3 ∷ 1 ∷ []) ≡ none ∷ none ∷ some (false, 0) ∷ [])
-unfolding freePlace freeEntry firstBelow firstFrom
+unfolding freePlace freeEntry firstBelow
 places-rows = (refl, refl)
 
 -- page 0's two matches made free, and their second words raised by one

@@ -12,15 +12,11 @@ pub record Match : Type 0 where
   pub first : ℕ
   pub second : ℕ
 
--- entry i of a group, given the words of its entries by their number
-abbrev pub entryAt : (ℕ → ℕ) → (ℕ → ℕ) → Bool → ℕ → Match
-entryAt first second secondary i = record { secondary = secondary; entry = i; first = first i; second = second i }
-
--- `matching` tests a first word
+-- `matching` tests a first word; `first` and `second` give the words of a group's entries by their number
 module _ (matching : ℕ → Bool) (first second : ℕ → ℕ) (secondary : Bool) where
   -- entry i, alone in a list, if it matches
   abbrev pub matchAt : ℕ → List Match
-  matchAt i = cond (matching (first i)) (entryAt first second secondary i ∷ []) []
+  matchAt i = cond (matching (first i)) (record { secondary = secondary; entry = i; first = first i; second = second i } ∷ []) []
 
   -- the matches among the first n entries of a group, in order
   unfoldable pub matchesBelow : ℕ → List Match

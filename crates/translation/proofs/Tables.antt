@@ -1,19 +1,19 @@
 -- Every row of the tables of an access holds: both sides compute to the same.
 use mathlib.Core.Path.{refl}
-use Rattle.words.specs.Below.{firstFrom, firstBelow}
+use Rattle.words.specs.Below.{firstBelow}
 use Rattle.entry.specs.Entry.{pageIndex, physicalAddress}
-use Rattle.registers.specs.Segment.{supervisorKey, userKey, noExecute, segmentVsid}
+use Rattle.registers.specs.Segment.{keyOf, noExecute, segmentVsid}
 use Rattle.registers.specs.Block.{blockAttributes, blockPP, blockPhysical, validFor, inBlock, covers}
 use Rattle.registers.specs.Set.{pairCovers, coveringPair}
 use Rattle.registers.specs.Tables.{blank, one, two, three}
-use Rattle.translation.specs.Access.{userMode, fetching, storing, relocated, sideOf, keyOf}
+use Rattle.translation.specs.Access.{userMode, fetching, storing, relocated, sideOf}
 use Rattle.translation.specs.Protection.{pageReadable, pageWritable, pageAllows, blockAllows, guarded}
-use Rattle.translation.specs.Fault.{causeWord, storeWord, faultOf}
+use Rattle.translation.specs.Fault.{causeWord, faultOf}
 use Rattle.translation.specs.Steps.{blockOutcome, beforeSearch, pageOutcome, afterSearch, outcomeOf, answerOf}
 use Rattle.translation.specs.Tables.{AccessTables}
 
 pub access-tables : AccessTables
-unfolding firstFrom firstBelow pageIndex physicalAddress supervisorKey userKey noExecute segmentVsid blockAttributes blockPP blockPhysical validFor inBlock covers pairCovers coveringPair blank one two three userMode fetching storing relocated sideOf keyOf pageReadable pageWritable pageAllows blockAllows guarded causeWord storeWord faultOf blockOutcome beforeSearch pageOutcome afterSearch outcomeOf answerOf
+unfolding firstBelow pageIndex physicalAddress noExecute segmentVsid blockAttributes blockPP blockPhysical validFor inBlock covers pairCovers coveringPair blank one two three userMode fetching storing relocated sideOf keyOf pageReadable pageWritable pageAllows blockAllows guarded causeWord faultOf blockOutcome beforeSearch pageOutcome afterSearch outcomeOf answerOf
 access-tables = record {
   privilege = record { equal = refl };
   relocation = record { equal = refl };

@@ -2,7 +2,6 @@
 use Prim.Native.Nat.{ℕ, _/_, _%_}
 use mathlib.Core.Bool.{Bool, cond, not}
 use lib.Dec.{eqb}
-use Rattle.registers.specs.Segment.{supervisorKey, userKey}
 
 -- PR, 4 of the mode, is on: the access is the user's, else the supervisor's
 unfoldable pub userMode : ℕ → Bool
@@ -23,7 +22,3 @@ relocated mode kind = eqb (cond (fetching kind) (mode / 2 % 2) (mode % 2)) 1
 -- the side whose blocks count: true for data, false for instructions
 unfoldable pub sideOf : ℕ → Bool
 sideOf kind = not (fetching kind)
-
--- "key" (step 6): Kp of the segment for the user, Ks for the supervisor
-unfoldable pub keyOf : Bool → ℕ → Bool
-keyOf user segment = cond user (userKey segment) (supervisorKey segment)

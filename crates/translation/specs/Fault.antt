@@ -19,14 +19,10 @@ protection = 2
 unfoldable pub causeWord : ℕ → ℕ
 causeWord cause = cond (eqb cause noMatch) 0x40000000 (cond (eqb cause noFetch) 0x10000000 0x08000000)
 
--- the store's part of the fault word
-unfoldable pub storeWord : ℕ → ℕ
-storeWord kind = cond (storing kind) 0x02000000 0
-
--- a fetch meets an instruction storage fault, 65 at 0x400, a load or a store a data storage fault, 64 at 0x300
+-- a fetch meets an instruction storage fault, 65 at 0x400, a load or a store a data storage fault, 64 at 0x300; a store has its own part of the word
 unfoldable pub faultOf : ℕ → ℕ → Fault
 faultOf cause kind = record {
   result = cond (fetching kind) 65 64;
-  word = causeWord cause + storeWord kind;
+  word = causeWord cause + cond (storing kind) 0x02000000 0;
   offset = cond (fetching kind) 0x400 0x300;
 }

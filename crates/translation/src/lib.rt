@@ -1,7 +1,8 @@
 // One access without a table's bytes: the steps before the search, those after it, protection, fault words, and what an outcome answers.
 ghost use mathlib.Core.Path.{_≡_};
 ghost use Prim.Native.Nat.{_<_};
-ghost use Rattle.translation.specs.Access.{relocated, keyOf};
+ghost use Rattle.registers.specs.Segment.{keyOf};
+ghost use Rattle.translation.specs.Access.{relocated};
 ghost use Rattle.translation.specs.Protection.{pageAllows, blockAllows};
 ghost use Rattle.translation.specs.Fault.{faultOf};
 ghost use Rattle.translation.specs.Steps.{wantedOf, blockOutcome, beforeSearch, pageOutcome, afterSearch, doneAnswer, faultAnswer, refusedAnswer, answerOf};

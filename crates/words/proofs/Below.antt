@@ -3,11 +3,11 @@ use mathlib.Core.Path.{_≡_, refl, sym, ap, _∙_}
 use mathlib.Core.Bool.{Bool, true, false, cond, _&&_}
 use mathlib.Core.Logic.{⊎-elim}
 use Prim.Native.Nat.{ℕ, zero, suc, _+_, _≤_, _<_}
-use native.Mathlib.Nat.{add-zero, not-suc-le-zero}
+use native.Mathlib.Nat.{not-suc-le-zero}
 use native.Mathlib.Numerals.{add-one}
 use native.Mathlib.Omega.{arith}
 use Rattle.words.proofs.Tests.{both, three}
-use Rattle.words.specs.Below.{everyBelow, firstFrom, firstBelow}
+use Rattle.words.specs.Below.{everyBelow, firstBelow}
 
 module _ (test : ℕ → Bool) where
   -- what passed below n, and n itself
@@ -44,35 +44,16 @@ module _ (test : ℕ → Bool) where
   every-all zero h = refl
   every-all (suc n) h = rw (every-all n (λ k l. h k (omega arith)), h n (omega arith))
 
-  -- the first that passes, where those before it fail
-  first-is : (n from j : ℕ) → j < n → test (from + j) ≡ true → ((k : ℕ) → k < j → test (from + k) ≡ false) → firstFrom test n from ≡ from + j
-  unfolding firstFrom
-  first-is zero from j h p q = absurd (not-suc-le-zero h)
-  first-is (suc n) from zero h p q = rw (rw add-zero at p) (sym (add-zero from))
-  first-is (suc n) from (suc j) h p q =
-      let before : test from ≡ false = rw add-zero at (q 0 (omega arith)) in
-      let next : suc from + j ≡ from + suc j = omega arith in
-      rw before (first-is n (suc from) j (omega arith) (rw next p)
-      (λ k l. let at : suc from + k ≡ from + suc k = omega arith in rw at (q (suc k) (omega arith))) ∙ next)
+-- the first that passes, where those before it fail
+pub first-found : (test : ℕ → Bool) (n j : ℕ) → j < n → test j ≡ true → ((k : ℕ) → k < j → test k ≡ false) → firstBelow n test ≡ j
+unfolding firstBelow
+first-found test zero j h p q = absurd (not-suc-le-zero h)
+first-found test (suc n) zero h p q = rw p
+first-found test (suc n) (suc j) h p q =
+    rw (q 0 (omega arith)) (ap suc (first-found (λ i. test (suc i)) n j (omega arith) p (λ k l. q (suc k) (omega arith))))
 
-  pub first-found : (n j : ℕ) → j < n → test j ≡ true → ((k : ℕ) → k < j → test k ≡ false) → firstBelow n test ≡ j
-  unfolding firstBelow
-  first-found n j h p q =
-      let z : (k : ℕ) → 0 + k ≡ k = λ k. omega arith in
-      first-is n 0 j h (rw (z j) p) (λ k l. rw (z k) (q k l)) ∙ z j
-
-  -- none of n numbers passes
-  none-from : (n from : ℕ) → ((k : ℕ) → k < n → test (from + k) ≡ false) → firstFrom test n from ≡ from + n
-  unfolding firstFrom
-  none-from zero from q = sym (add-zero from)
-  none-from (suc n) from q =
-      let before : test from ≡ false = rw add-zero at (q 0 (omega arith)) in
-      let next : suc from + n ≡ from + suc n = omega arith in
-      rw before (none-from n (suc from)
-      (λ k l. let at : suc from + k ≡ from + suc k = omega arith in rw at (q (suc k) (omega arith))) ∙ next)
-
-  pub first-none : (n : ℕ) → ((k : ℕ) → k < n → test k ≡ false) → firstBelow n test ≡ n
-  unfolding firstBelow
-  first-none n q =
-      let z : (k : ℕ) → 0 + k ≡ k = λ k. omega arith in
-      none-from n 0 (λ k l. rw (z k) (q k l)) ∙ z n
+-- none of n numbers passes
+pub first-none : (test : ℕ → Bool) (n : ℕ) → ((k : ℕ) → k < n → test k ≡ false) → firstBelow n test ≡ n
+unfolding firstBelow
+first-none test zero q = refl
+first-none test (suc n) q = rw (q 0 (omega arith)) (ap suc (first-none (λ i. test (suc i)) n (λ k l. q (suc k) (omega arith))))

@@ -1,7 +1,7 @@
 -- `mmu::mmu_check` meets its contract: a page of right length is read once and checked.
 use borrow.Author.Tests.{eq-eqb, ne-eqb}
 use mathlib.Core.Path.{_∙_, ap}
-use Rattle.registers.specs.Set.{checkWords, checkSet, pageSet}
+use Rattle.registers.specs.Set.{checkWords}
 use Rattle.calls.specs.WithoutTable.{checkCall}
 use borrow.Author.Needs.{needs}
 use Rattle.mmu.proofs.mmu_check.Statement.{statement}
@@ -21,7 +21,7 @@ check-words-requires : tie.Need-check-words-requires
 check-words-requires c κs = search needs
 
 returns-2 : tie.Need-returns-2
-unfolding checkCall checkSet pageSet
+unfolding checkCall
 returns-2 c =
     let read = c .before .before .before in
     rw (eq-eqb _ _ (read .before .before .if1 .left)) (c .check-words .ensures ∙ ap (checkWords 4 11) (read .read-words .ensures))

@@ -5,7 +5,7 @@ use native.Mathlib.Omega.{arith}
 use lib.ListN.{length}
 use Rattle.registers.specs.declared.Registers.{Registers}
 use Rattle.registers.specs.declared.Replaced.{Replaced}
-use Rattle.registers.specs.Set.{pageSet, replaced}
+use Rattle.registers.specs.Set.{registerWords, replaced}
 use Rattle.registers.proofs.Set.{replaced-number}
 use Rattle.calls.specs.Lent.{left}
 use Rattle.calls.specs.WithoutTable.{setRegisterCall}
@@ -17,7 +17,7 @@ use Rattle.mmu.proofs.mmu_set_register.Tie as tie
 -- what the method answered is the definition's number for the page's set
 result-is : (c : tie.After-with-word) →
     let start = c .before .before .before .before .before in
-    c .with-word .result .result ≡ replaced (pageSet (start .args .page .now)) (start .args .number) (start .args .word) .result
+    c .with-word .result .result ≡ replaced (record { words = registerWords (start .args .page .now) }) (start .args .number) (start .args .word) .result
 result-is c =
     let start = c .before .before .before .before .before in
     ap (λ (p : Replaced). p .result) (c .with-word .ensures
@@ -40,7 +40,7 @@ write-word-requires : tie.Need-write-word-requires
 write-word-requires c κs =
     let at-with = c .before .before in
     let start = at-with .before .before .before .before .before in
-    let below = replaced-number (pageSet (start .args .page .now)) (start .args .number) (start .args .word) (sym (result-is at-with) ∙ c .before .if2 .taken) in
+    let below = replaced-number (record { words = registerWords (start .args .page .now) }) (start .args .number) (start .args .word) (sym (result-is at-with) ∙ c .before .if2 .taken) in
     omega (arith, at-with .before .before .before .if1 .left)
 
 same-length : tie.Need-same-length

@@ -2,6 +2,7 @@
 use borrow.Author.Needs.{needs}
 use mathlib.Core.Path.{_≡_, refl, sym, ap, _∙_}
 use mathlib.Core.Bool.{Bool, true, false, not}
+use mathlib.Core.List.{List}
 use Prim.Native.Nat.{ℕ, _+_, _*_, _/_, _%_, _^_, _≤_, _-_}
 use native.Mathlib.Nat.{div-one}
 use native.Mathlib.Omega.{arith}
@@ -10,20 +11,24 @@ use lib.ListN.{getD}
 use Rattle.words.specs.Below.{everyBelow}
 use Rattle.words.proofs.Below.{every-more, every-not, every-all}
 use Rattle.registers.specs.Block.{commonV, clash}
-use Rattle.registers.specs.Set.{upperOf, apartFrom, pairApart}
+use Rattle.registers.specs.Set.{upperOf, pairApart}
 use Rattle.registers.proofs.Set.{start-at-most}
 use Rattle.registers.proofs.pair_apart.Statement.{statement}
 use Rattle.registers.proofs.pair_apart.Tie as tie
 
+-- pairs i and j of a side are apart
+abbrev apart : List ℕ → Bool → ℕ → ℕ → Bool
+apart words side j i = not (clash 11 (upperOf 4 words side i) (upperOf 4 words side j))
+
 abbrev Inv-loop : tie.InvT-loop
-Inv-loop words side j start own i₀ i = (i ≤ j) × (everyBelow i (apartFrom 4 11 words side j) ≡ true)
+Inv-loop words side j start own i₀ i = (i ≤ j) × (everyBelow i (apart words side j) ≡ true)
 
 abbrev μ-loop : tie.MeasureT-loop
 μ-loop words side j start own i₀ i = j - i
 
 -- the test of the pairs before
 abbrev test : tie.At-loop Inv-loop μ-loop → ℕ → Bool
-test c = let start = c .before .before .before .before in apartFrom 4 11 (start .args .words .now) (start .args .side) (start .args .j)
+test c = let start = c .before .before .before .before in apart (start .args .words .now) (start .args .side) (start .args .j)
 
 -- what the call gave is the test of two pairs of the set
 clash-is : (c : tie.After-blocks-clash Inv-loop μ-loop) →
@@ -67,7 +72,7 @@ returns c =
     let words = a .words .now in
     let off : bitAnd (upperOf 4 words (a .side) (a .j)) 3 ≡ 0 =
     ap (λ (s : ℕ). bitAnd (getD words (s + 2 * a .j) 0) 3) (sym (c .before .before .side-start .ensures)) ∙ c .if1 .taken in
-    sym (every-all (apartFrom 4 11 words (a .side) (a .j)) (a .j) (λ i h. ap not (off-apart (upperOf 4 words (a .side) i) (upperOf 4 words (a .side) (a .j)) off)))
+    sym (every-all (apart words (a .side) (a .j)) (a .j) (λ i h. ap not (off-apart (upperOf 4 words (a .side) i) (upperOf 4 words (a .side) (a .j)) off)))
 
 loop-holds : tie.Need-loop-holds Inv-loop μ-loop
 unfolding everyBelow

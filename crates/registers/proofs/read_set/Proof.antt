@@ -1,5 +1,4 @@
 -- `registers::read_set` meets its contract: the words that were read are the set's.
-use Rattle.registers.specs.Set.{pageSet}
 use borrow.Author.Needs.{needs}
 use Rattle.registers.proofs.read_set.Statement.{statement}
 use Rattle.registers.proofs.read_set.Tie as tie
@@ -11,7 +10,6 @@ read-words-requires : tie.Need-read-words-requires
 read-words-requires c κs = search needs
 
 returns : tie.Need-returns
-unfolding pageSet
 returns c = λ j. record { words = c .before .read-words .ensures j }
 
 pub read-set-spec : {M : Type 1} → statement M

@@ -8,6 +8,7 @@ use lib.ListN.{length, getD, set, length-set}
 use lib.Seq.{getD-set-same, getD-set-other, ext-getD}
 use Rattle.words.specs.Words.{wordAt, wordsAt}
 use Rattle.words.proofs.Words.{length-wordsAt, getD-wordsAt}
+use Rattle.registers.specs.Set.{registerWords}
 use Rattle.registers.proofs.read_words.Statement.{statement}
 use Rattle.registers.proofs.read_words.Tie as tie
 
@@ -101,6 +102,7 @@ same-length : tie.Need-same-length Inv-loop μ-loop Inv-loop2 μ-loop2
 same-length c = search needs
 
 returns : tie.Need-returns Inv-loop μ-loop Inv-loop2 μ-loop2
+unfolding registerWords
 returns c =
     let inv = c .before .loop2 .inv in
     let i-is : c .before .loop2 .i ≡ 33 = omega arith in

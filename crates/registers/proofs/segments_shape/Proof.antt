@@ -7,12 +7,13 @@ use Prim.Native.Nat.{_≤_, _-_}
 use native.Mathlib.Omega.{arith}
 use Rattle.words.specs.Below.{everyBelow}
 use Rattle.words.proofs.Below.{every-more, every-not}
-use Rattle.registers.specs.Set.{segmentShapeAt, segmentsShape}
+use Rattle.registers.specs.Segment.{segmentShape}
+use Rattle.registers.specs.Set.{segmentOf, segmentsShape}
 use Rattle.registers.proofs.segments_shape.Statement.{statement}
 use Rattle.registers.proofs.segments_shape.Tie as tie
 
 abbrev Inv-loop : tie.InvT-loop
-Inv-loop words i₀ i = (i ≤ 16) × (everyBelow i (segmentShapeAt words) ≡ true)
+Inv-loop words i₀ i = (i ≤ 16) × (everyBelow i (λ j. segmentShape (segmentOf words j)) ≡ true)
 
 abbrev μ-loop : tie.MeasureT-loop
 μ-loop words i₀ i = 16 - i
@@ -37,7 +38,7 @@ returns : tie.Need-returns Inv-loop μ-loop
 unfolding segmentsShape
 returns c =
     let at-loop = c .before .before .before .before in
-    every-not (segmentShapeAt (at-loop .before .args .words .now)) 16 (at-loop .loop .i) (c .before .before .before .loop-test .taken)
+    every-not (λ j. segmentShape (segmentOf (at-loop .before .args .words .now) j)) 16 (at-loop .loop .i) (c .before .before .before .loop-test .taken)
     (sym (c .before .segment-shape .ensures) ∙ not-true _ (c .if1 .taken))
 
 add-i : tie.Need-add-i Inv-loop μ-loop
@@ -50,7 +51,7 @@ loop-again : tie.Need-loop-again Inv-loop μ-loop
 loop-again c =
     let at-loop = c .before .before .before .before in (
       search needs,
-      every-more (segmentShapeAt (at-loop .before .args .words .now)) (at-loop .loop .i) (at-loop .loop .inv .1)
+      every-more (λ j. segmentShape (segmentOf (at-loop .before .args .words .now) j)) (at-loop .loop .i) (at-loop .loop .inv .1)
           (sym (c .before .segment-shape .ensures) ∙ not-false _ (c .if1 .left)),
     )
 

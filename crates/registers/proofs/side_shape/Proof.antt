@@ -2,20 +2,25 @@
 use borrow.Author.Needs.{needs}
 use borrow.Author.Tests.{not-true, not-false}
 use mathlib.Core.Path.{_≡_, refl, sym, ap, _∙_}
-use mathlib.Core.Bool.{true}
+use mathlib.Core.Bool.{Bool, true}
+use mathlib.Core.List.{List}
 use Prim.Native.Nat.{ℕ, _+_, _*_, _≤_, _-_}
 use native.Mathlib.Omega.{arith}
 use lib.ListN.{getD}
 use Rattle.words.specs.Below.{everyBelow}
 use Rattle.words.proofs.Below.{every-more, every-not}
 use Rattle.registers.specs.Block.{blockShape}
-use Rattle.registers.specs.Set.{pairShape, sideShape}
+use Rattle.registers.specs.Set.{upperOf, lowerOf, sideShape}
 use Rattle.registers.proofs.Set.{start-at-most}
 use Rattle.registers.proofs.side_shape.Statement.{statement}
 use Rattle.registers.proofs.side_shape.Tie as tie
 
+-- pair i of a side has its shape
+abbrev pairShape : List ℕ → Bool → ℕ → Bool
+pairShape words side i = blockShape 11 side (upperOf 4 words side i) (lowerOf 4 words side i)
+
 abbrev Inv-loop : tie.InvT-loop
-Inv-loop words side start i₀ i = (i ≤ 4) × (everyBelow i (pairShape 4 11 words side) ≡ true)
+Inv-loop words side start i₀ i = (i ≤ 4) × (everyBelow i (pairShape words side) ≡ true)
 
 abbrev μ-loop : tie.MeasureT-loop
 μ-loop words side start i₀ i = 4 - i
@@ -23,8 +28,7 @@ abbrev μ-loop : tie.MeasureT-loop
 -- what the call gave is the pair's own test
 shape-is : (c : tie.After-block-shape Inv-loop μ-loop) →
     let at-loop = c .before .before .before .before in
-    c .block-shape .result ≡ pairShape 4 11 (at-loop .before .before .args .words .now) (at-loop .before .before .args .side) (at-loop .loop .i)
-unfolding pairShape
+    c .block-shape .result ≡ pairShape (at-loop .before .before .args .words .now) (at-loop .before .before .args .side) (at-loop .loop .i)
 shape-is c =
     let at-loop = c .before .before .before .before in
     let words = at-loop .before .before .args .words .now in
@@ -67,7 +71,7 @@ returns : tie.Need-returns Inv-loop μ-loop
 unfolding sideShape
 returns c =
     let at-loop = c .before .before .before .before .before in
-    every-not (pairShape 4 11 (at-loop .before .before .args .words .now) (at-loop .before .before .args .side)) 4 (at-loop .loop .i)
+    every-not (pairShape (at-loop .before .before .args .words .now) (at-loop .before .before .args .side)) 4 (at-loop .loop .i)
     (c .before .before .before .before .loop-test .taken) (sym (shape-is (c .before)) ∙ not-true _ (c .if1 .taken))
 
 add-i : tie.Need-add-i Inv-loop μ-loop
@@ -80,7 +84,7 @@ loop-again : tie.Need-loop-again Inv-loop μ-loop
 loop-again c =
     let at-loop = c .before .before .before .before .before in (
       search needs,
-      every-more (pairShape 4 11 (at-loop .before .before .args .words .now) (at-loop .before .before .args .side)) (at-loop .loop .i) (at-loop .loop .inv .1)
+      every-more (pairShape (at-loop .before .before .args .words .now) (at-loop .before .before .args .side)) (at-loop .loop .i) (at-loop .loop .inv .1)
           (sym (shape-is (c .before)) ∙ not-false _ (c .if1 .left)),
     )
 

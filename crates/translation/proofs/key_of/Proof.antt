@@ -1,17 +1,16 @@
 -- `translation::key_of` meets its contract: the mask leaves Kp or Ks.
 use Prim.Native.Nat.{_/_, _^_}
 use lib.Bits.{and-mask}
-use Rattle.registers.specs.Segment.{supervisorKey, userKey}
-use Rattle.translation.specs.Access.{keyOf}
+use Rattle.registers.specs.Segment.{keyOf}
 use Rattle.translation.proofs.key_of.Statement.{statement}
 use Rattle.translation.proofs.key_of.Tie as tie
 
 returns : tie.Need-returns
-unfolding keyOf userKey
+unfolding keyOf
 returns c = rw (c .if1 .taken, and-mask (c .before .args .segment / 2 ^ 29) 1)
 
 returns-2 : tie.Need-returns-2
-unfolding keyOf supervisorKey
+unfolding keyOf
 returns-2 c = rw (c .if1 .left, and-mask (c .before .args .segment / 2 ^ 30) 1)
 
 pub key-of-spec : {M : Type 1} → statement M

@@ -2,7 +2,7 @@
 use borrow.Author.Needs.{needs}
 use denote.Enum.Declared.{tagOf}
 use types.Run.{OneOf, miss}
-use mathlib.Core.Path.{_≡_, refl, sym, ap, ap₂, _∙_}
+use mathlib.Core.Path.{_≡_, sym, ap, ap₂, subst, _∙_}
 use mathlib.Core.Bool.{Bool, true, false}
 use mathlib.Core.List.{List, [], _∷_}
 use Prim.Native.Nat.{ℕ, _+_, _*_, _≤_}
@@ -15,34 +15,24 @@ use Rattle.groups.specs.Search.{summary, inSecondary, entryOf}
 use Rattle.groups.proofs.Summary.{summary-entry-lt}
 use Rattle.tables.specs.Layout.{matchesOf}
 use Rattle.translation.specs.Access.{storing}
-use Rattle.translation.specs.Steps.{afterSearch}
+use Rattle.translation.specs.Steps.{afterSearch, answerOf}
 use Rattle.translation.specs.declared.Outcome.{Outcome}
-use Rattle.translation.specs.declared.Outcome.the-variants.{Real, Block, BlockProtection, NoExecute, NoMatch, Guarded, Protection, Done, Refused}
+use Rattle.translation.specs.declared.Outcome.the-variants.{Done}
 use Rattle.translation.proofs.Outcome.{the-type}
-use Rattle.calls.specs.Answers.{doneByPage}
 use Rattle.calls.specs.OnBytes.{layout, wantedPage, searched}
 use Rattle.calls.proofs.OnBytes.{matches-by-groups}
-use Rattle.calls.proofs.Access.{done-by-first, unmarked, marked-done}
+use Rattle.calls.proofs.Access.{done-by-first, late-done, unmarked, marked-done}
 use Rattle.mmu.proofs.located.AtPage as at-page
 use Rattle.mmu.proofs.located.AtPage.{inside, searchable, search-is}
 use Rattle.mmu.proofs.access.by_page.Statement.{statement}
 use Rattle.mmu.proofs.access.by_page.Tie as tie
 
--- the numbers of the outcomes other than `Done`, and that an outcome of such a number was not done by the page
+-- the numbers of the outcomes other than `Done`
 abbrev others : List ℕ
 others = 0 ∷ 1 ∷ 2 ∷ 3 ∷ 4 ∷ 5 ∷ 6 ∷ 8 ∷ []
 
-not-done : (outcome : Outcome) → OneOf others (tagOf the-type outcome) → doneByPage outcome ≡ false
-unfolding doneByPage
-not-done Real h = refl
-not-done (Block i physical attributes) h = refl
-not-done (BlockProtection i) h = refl
-not-done NoExecute h = refl
-not-done NoMatch h = refl
-not-done Guarded h = refl
-not-done Protection h = refl
-not-done (Done second) h = absurd (miss others 7 tt h)
-not-done (Refused number) h = refl
+not-done : (outcome : Outcome) → OneOf others (tagOf the-type outcome) → (second : ℕ) → outcome ≡ Done second → ⊥
+not-done outcome h second e = miss others 7 tt (subst (λ (o : Outcome). OneOf others (tagOf the-type o)) e h)
 
 -- both groups of the page lie in the table
 within : (c : tie.Start) (secondary : Bool) → 64 * groupNumber (10 + maskOnes (c .args .sdr1)) secondary (wantedPage (c .args .wanted)) + 64 ≤ length (c .args .table .now)
@@ -119,7 +109,7 @@ same-length : tie.Need-same-length
 same-length c = search needs
 
 returns : tie.Need-returns
-unfolding storing
+unfolding storing answerOf
 returns c =
     let at-put = c .before .before in
     let at-entry = at-put .before in
@@ -135,18 +125,22 @@ returns c =
     let first = done-by-first s _ (noted-are at-both) (a .kind) (a .wanted .key) second (sym done) in
     let put : ℕ → ℕ → ℕ → List ℕ = λ g i w. putAt (a .table .now) g i (firstOf (a .table .now) g i) w in (
       done,
-      at-put .put-second .ensures
+      λ address. at-put .put-second .ensures
           ∙ ap₂ (λ (g i : ℕ). put g i (at-marks .with-marks .result)) (group-is at-group) (at-entry .entry .ensures)
           ∙ ap (put (groupNumber (10 + maskOnes (a .sdr1)) (inSecondary s) (wantedPage (a .wanted))) (entryOf s))
           (at-marks .with-marks .ensures ∙ ap (withMarks true (storing (a .kind))) (sym (first .word)))
-          ∙ sym (marked-done (maskOnes (a .sdr1)) (a .wanted) (a .table .now) s (noted-are at-both) (a .kind) second (first .found)),
+          ∙ sym (marked-done (maskOnes (a .sdr1)) (a .wanted) (a .table .now) s (noted-are at-both) (a .kind) (first .found)),
     )
 
 same-length-2 : tie.Need-same-length-2
 same-length-2 c = search needs
 
 returns-2 : tie.Need-returns-2
-returns-2 c = (outcome-is (c .before), sym (unmarked _ _ _ _ _ (not-done _ (c .match .keys2))))
+returns-2 c = (
+  outcome-is (c .before),
+  λ address. sym (unmarked _ _ _ _ _
+      (λ z. let done = late-done _ _ address _ (rw (outcome-is (c .before)) at z) in not-done _ (c .match .keys2) (done .0) (outcome-is (c .before) ∙ done .1))),
+)
 
 pub by-page-spec : {M : Type 1} → statement M
 by-page-spec =

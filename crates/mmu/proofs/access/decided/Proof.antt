@@ -20,7 +20,7 @@ by-page-requires c κs =
     (start .pre .0, start .pre .1, range .0, range .1)
 
 returns : tie.Need-returns
-returns c = rw (c .before .early .given .1) (sym (outcome-decided _ _ _), sym (unmarked-decided _ _ _ _ _))
+returns c = rw (c .before .early .given .1) (sym (outcome-decided _ _ _), λ address. sym (unmarked-decided _ _ _ _ _))
 
 same-length : tie.Need-same-length
 same-length c = search needs

@@ -5,11 +5,11 @@ use mathlib.Core.List.{List}
 use Prim.Native.Nat.{ℕ}
 use lib.ListN.{length}
 use Rattle.registers.specs.Rules.{firstBroken}
+use Rattle.registers.specs.Set.{registerWords}
 use Rattle.translation.specs.Steps.{beforeSearch}
 use Rattle.translation.specs.declared.Answer.{Answer}
 use Rattle.translation.proofs.Answers.{answer-refused}
 use Rattle.translation.proofs.Steps.{wanted-in-range}
-use Rattle.calls.specs.Request.{registerWords}
 use Rattle.calls.specs.Answers.{accessAnswer}
 use Rattle.calls.specs.OnBytes.{ended}
 use Rattle.calls.proofs.Access.{rulesThen, then-kept, access-refused, access-taken}
@@ -20,7 +20,6 @@ use Rattle.mmu.proofs.access.translate.Tie as tie
 number-is : (c : tie.After-refusal) →
     let start = c .before .before .before .before .before .before .before in
     c .refusal .result ≡ firstBroken (rulesThen (registerWords (start .args .page .now)) (start .args .mode) (start .args .kind) (length (start .args .table .now)))
-unfolding registerWords
 number-is c =
     let read = c .before .before .before in
     let a = read .before .before .before .before .args in
@@ -54,7 +53,6 @@ array-read-decided : tie.Need-array-read-decided
 array-read-decided c = search needs
 
 decided-requires : tie.Need-decided-requires
-unfolding registerWords
 decided-requires c κs =
     let at-before = c .before in
     let at-else = at-before .before .before in
@@ -73,7 +71,6 @@ same-length : tie.Need-same-length
 same-length c = search needs
 
 returns-2 : tie.Need-returns-2
-unfolding registerWords
 returns-2 c answer right =
     let at-decided = c .before .before .before in
     let at-before = at-decided .before .before in
@@ -82,7 +79,7 @@ returns-2 c answer right =
     let start = read .before .before .before .before in
     let a = start .args in
     let told = rw (at-before .before-search .ensures, read .read-words .ensures) at (at-decided .decided .ensures) in
-    rw (c .answer-of2 .ensures, told .1)
+    rw (c .answer-of2 .ensures, told .1 (a .address))
     (sym (access-taken (a .page .now) (a .mode) (a .kind) (a .address) answer (a .table .now) (start .pre) right
     (sym (number-is at-refusal) ∙ at-before .before .before .if1 .left) (at-decided .decided .result) (told .0)))
 

@@ -1,5 +1,4 @@
 -- `registers::Registers::check` meets its contract: the words of the set are checked.
-use Rattle.registers.specs.Set.{checkSet}
 use borrow.Author.Needs.{needs}
 use Rattle.registers.proofs.Registers.check.Statement.{statement}
 use Rattle.registers.proofs.Registers.check.Tie as tie
@@ -8,7 +7,6 @@ check-words-requires : tie.Need-check-words-requires
 check-words-requires c κs = search needs
 
 returns : tie.Need-returns
-unfolding checkSet
 returns c = c .check-words .ensures
 
 pub check-spec : {M : Type 1} → statement M

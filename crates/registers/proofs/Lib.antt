@@ -2,3 +2,4 @@
 pub mod Sdr1
 pub mod Set
 pub mod Blocks
+pub mod Tables

@@ -9,6 +9,7 @@ use Rattle.words.specs.Ones.{bitLength}
 use Rattle.entry.specs.Entry.{rpnOf, wimgOf, ppOf}
 use Rattle.entry.specs.RoundTrip.{PackingAgrees}
 use Rattle.entry.specs.Tables.{EntryTables}
+use Rattle.registers.specs.Tables.{RegistersTables}
 use Rattle.registers.specs.Segment.{noExecute}
 use Rattle.registers.specs.Block.{brpnOf, blOf, upperShape, lowerShape, blockAttributes, blockPP, blockPhysical}
 use Rattle.registers.specs.Blocks.{BlocksDecide}
@@ -110,10 +111,11 @@ pub record AnswersStated (kind address : ℕ) : Type 0 where
   pub effective : (outcome : Outcome) → ((number : ℕ) → outcome ≡ Refused number → ⊥) → answerOf kind address outcome .effective ≡ address
   pub refused : (number : ℕ) → answerOf kind address (Refused number) ≡ refusedAnswer number
 
--- demand 2: packing, entries, blocks and the steps of an access are as document 01 states them
+-- demand 2: packing, entries, registers, blocks and the steps of an access are as document 01 states them
 pub record AccessAsStated : Type 0 where
   pub packing : PackingAgrees
   pub entries : EntryTables
+  pub registers : RegistersTables
   pub blocks : BlocksDecide 4 11
   -- in a block of right shape the physical address is its physical start and the address's 17 + k low bits, where BL has k ones
   pub block-physical : (side : Bool) (upper lower address : ℕ) → upperShape 11 upper ≡ true → lowerShape 11 side upper lower ≡ true

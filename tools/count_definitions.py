@@ -2,7 +2,8 @@
 """Counts the lines of the definitions that a reader of the contracts and statements must believe.
 
 From the names below it follows what each definition cites, over the files of crates/*/specs. A line counts if it is text: imports, comments,
-empty lines and `unfolding` lines do not. With --list it prints each definition and its lines.
+empty lines, `module` and `unfolding` lines do not. With --list it prints each definition and its lines; with --under N it fails where the
+definitions are N lines or more.
 
 Not followed: the statements themselves and their rows, which are proved and not believed; and what is proved by its type
 (`Decision`: a decision of type `Dec (Arrangement ..)` is right whatever its text).
@@ -82,6 +83,8 @@ def main():
         for kind, crate, module, name, lines in sorted(listed):
             print(f"{lines:4} {kind:12} {crate}/{module} {name}")
     print(f"{count['definitions']} lines of definitions, {count['statements']} lines of statements")
+    if "--under" in sys.argv[1:] and count["definitions"] >= int(sys.argv[sys.argv.index("--under") + 1]):
+        sys.exit("that is too much for a reader")
 
 
 if __name__ == "__main__":

@@ -29,6 +29,7 @@ bytesStep c t =
 abbrev pub fedCall : ℕ → Call → Request ℕ × ℕ
 fedCall size c = (fed (c .request), byOption (c .lent) size length)
 
+-- a call on the finite map: what is compared of its answer, and the map that it leaves
 unfoldable pub mapStep : Request ℕ × ℕ → Map → (ℕ × List ℕ) × Map
 mapStep x m = let e = onMap (x .0) (x .1) m in (compared (e .number) (e .answer), e .state)
 

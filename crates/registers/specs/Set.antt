@@ -44,6 +44,7 @@ module _ (pairs : ℕ) where
     unfoldable pub pairApart : List ℕ → Bool → ℕ → Bool
     pairApart words side j = everyBelow j (λ i. not (clash width (upperOf words side i) (upperOf words side j)))
 
+    -- no two pairs of a side share an address and a V bit
     unfoldable pub sideApart : List ℕ → Bool → Bool
     sideApart words side = everyBelow pairs (pairApart words side)
 

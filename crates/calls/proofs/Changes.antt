@@ -1,6 +1,6 @@
 -- What a call does to the finite map: it leaves it, empties it, puts a page in, takes one out, or revises one page's marks or protection.
 use Prim.Native.Nat.{ℕ}
-use mathlib.Core.Path.{_≡_, refl, sym, ap, _∙_, subst}
+use mathlib.Core.Path.{_≡_, refl, sym, subst}
 use mathlib.Core.Bool.{Bool, true, false, cond}
 use mathlib.Core.List.{List, [], _∷_}
 use mathlib.Core.Logic.{ite, if-pos, if-neg}

@@ -1,38 +1,34 @@
 -- What the theorem means for one page: after a done unmap or clear it is found no more until it is mapped again, and an access that is done by it
 -- gives the frame and the attributes of its last done map. Both are shown on the finite map, call by call, and carried to the bytes by the theorem.
-use Prim.Native.Nat.{ℕ, _+_, _*_, _%_, _^_, _≤_, _<_}
+use Prim.Native.Nat.{ℕ, _+_, _*_, _%_, _^_, _≤_}
 use mathlib.Core.Path.{_≡_, refl, sym, ap, ap₂, _∙_, subst}
 use mathlib.Core.Bool.{Bool, true, false, cond, _&&_}
 use mathlib.Core.Logic.{ite, if-pos, if-neg}
 use borrow.Author.Tests.{eqb-true, eqb-false}
 use Rattle.registers.specs.Sdr1.{maskOnes}
 use mathlib.Core.List.{List, [], _∷_, _++_, map}
-use mathlib.Core.Option.{Option, none, some, Option·some-injective, Option·some-ne-none, Option·map}
+use mathlib.Core.Option.{Option, none, some, Option·some-ne-none}
 use native.Mathlib.Omega.{arith}
 use lib.Dec.{eqb}
 use lib.ListN.{length}
 use Rattle.words.specs.Bits.{bits, placed}
 use Rattle.placement.specs.Lists.{oneIf}
 use Rattle.placement.specs.FiniteMap.{fieldsAt, putIn, takeOut, revise, mappedPages}
-use Rattle.placement.proofs.FiniteMap.{fieldsAt-putIn-same, fieldsAt-putIn-other, fieldsAt-takeOut-same, fieldsAt-takeOut-other, fieldsAt-revise, same-false}
-use Rattle.entry.specs.Entry.{secondWord, wimgOf, ppOf, physicalAddress}
+use Rattle.placement.proofs.FiniteMap.{fieldsAt-putIn-same, fieldsAt-putIn-other, fieldsAt-takeOut-same, fieldsAt-takeOut-other, fieldsAt-revise}
+use Rattle.entry.specs.Entry.{wimgOf, ppOf, physicalAddress}
 use Rattle.entry.proofs.Packing.{SecondFields, second-packed}
 use Rattle.entry.proofs.Addresses.{physical-fields}
 use Rattle.registers.specs.Set.{registerWords}
 use Rattle.groups.specs.Page.{Page, samePage}
 use Rattle.groups.proofs.Hash.{samePage-refl, samePage-eq}
-use Rattle.tables.specs.Runs.{run, after, Each}
-use Rattle.tables.proofs.Runs.{after-append, each-append}
+use Rattle.tables.specs.Runs.{after, Each}
+use Rattle.tables.proofs.Runs.{each-append}
 use Rattle.translation.specs.Access.{fetching}
 use Rattle.translation.specs.Protection.{pageAllows, guarded}
 use Rattle.translation.specs.Steps.{beforeSearch, pageOutcome, afterSearch, outcomeOf, answerOf, doneAnswer}
-use Rattle.translation.specs.declared.Early.{Early}
-use Rattle.translation.specs.declared.Early.the-variants.{Search}
 use Rattle.translation.specs.declared.Outcome.{Outcome}
 use Rattle.translation.specs.declared.Outcome.the-variants.{NoMatch, Guarded, Protection, Done}
-use Rattle.translation.specs.declared.Wanted.{Wanted}
 use Rattle.translation.specs.Fault.{noFetch, protection}
-use Rattle.translation.specs.declared.Fault.{Fault}
 use Rattle.translation.specs.declared.Searched.{Searched}
 use Rattle.translation.specs.declared.Searched.the-variants.{Nothing, At}
 use Rattle.translation.proofs.Steps.{after-nothing, after-at, outcome-searched}
@@ -43,12 +39,12 @@ use Rattle.calls.specs.OnBytes.{Ended, ended, onBytes, byOption, wantedP
 use Rattle.calls.specs.OnMap.{PageFields, Map, fieldsWord, Arranged, arranged?, foundIn, mapDoes, onMap}
 use Rattle.calls.specs.Represents.{FieldsInRange, represents}
 use Rattle.calls.specs.Histories.{Call, bytesStep, mapStep, fedCall, Under, NoneDone, Maps, by-map, TakesOut, by-clear, by-unmap}
-use Rattle.calls.specs.Theorem.{sdr1With, Start, cleared, tableAfter, mapAfter, Reaches, AccessFollowsHistory}
+use Rattle.calls.specs.Theorem.{sdr1With, Start, tableAfter, mapAfter, Reaches, AccessFollowsHistory}
 use Rattle.calls.proofs.Fields.{oneIf-lt}
 use Rattle.calls.proofs.Access.{fault-number}
-use Rattle.calls.proofs.Changes.{KeepsFrame, Changed, left, emptied, put, took, revised, changed}
+use Rattle.calls.proofs.Changes.{Changed, left, emptied, put, took, revised, changed}
 use Rattle.calls.proofs.Histories.{keeps, map-taken, map-refused}
-use Rattle.calls.proofs.Theorem.{cleared-represents, history-represents, as-map}
+use Rattle.calls.proofs.Theorem.{history-represents, as-map}
 
 -- a page's fields have this frame and these attributes
 pub record Has (rpn wimg : ℕ) (page : Page) (m : Map) : Type 0 where

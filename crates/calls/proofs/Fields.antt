@@ -1,6 +1,6 @@
 -- The second entry word of a page's fields follows the fields: it fits, marks and protection change both alike.
 use Prim.Native.Nat.{ℕ, _^_, _<_}
-use mathlib.Core.Path.{_≡_, refl, sym, ap, ap₂, _∙_}
+use mathlib.Core.Path.{_≡_, refl, ap, _∙_}
 use mathlib.Core.Bool.{Bool, true, false, cond, _||_}
 use lib.Dec.{lit<}
 use Rattle.entry.specs.Entry.{secondWord, withMarks, withPP}

@@ -1,22 +1,22 @@
 -- One call of a history keeps "this table represents this map" and answers what the map answers; so does every list of calls.
-use Prim.Native.Nat.{ℕ, _+_, _-_, _*_, _%_, _^_, _≤_}
+use Prim.Native.Nat.{ℕ, _-_, _*_, _%_, _^_, _≤_}
 use mathlib.Core.Path.{_≡_, refl, sym, ap, ap₂, _∙_, subst}
 use mathlib.Core.Bool.{Bool, true, false, cond}
-use mathlib.Core.List.{List, [], _∷_, map}
-use mathlib.Core.Logic.{_⊎_, inl, inr}
+use mathlib.Core.List.{List, [], map}
+use mathlib.Core.Logic.{inl, inr}
 use mathlib.Core.Option.{Option, none, some}
 use native.Mathlib.Omega.{arith}
 use lib.Dec.{eqb}
 use lib.ListN.{length}
 use borrow.Author.Tests.{eqb-true, eqb-false, eq-eqb, ne-eqb}
-use Rattle.registers.specs.Sdr1.{sdr1Shape, tableLength, maskOnes}
-use Rattle.registers.proofs.Sdr1.{made-ones, made-length, made-shape}
+use Rattle.registers.specs.Sdr1.{tableLength, maskOnes}
+use Rattle.registers.proofs.Sdr1.{made-ones, made-length}
 use Rattle.tables.specs.Runs.{run, after, Each}
 use Rattle.tables.proofs.Runs.{runs-related, run-fed, after-fed}
 use Rattle.calls.specs.Request.{Request, clear, mapPage, unmap, protect, look, access, fed, sdr1In}
 use Rattle.calls.specs.Rules.{refusal}
 use Rattle.calls.specs.Answers.{refusedAnswer, answerRefused, compared}
-use Rattle.calls.specs.OnBytes.{Ended, ended, byOption, bytesDo, onBytes}
+use Rattle.calls.specs.OnBytes.{Ended, ended, byOption, onBytes}
 use Rattle.calls.specs.OnMap.{Map, mapDoes, onMap}
 use Rattle.calls.specs.Represents.{represents}
 use Rattle.calls.specs.Histories.{Call, bytesStep, mapStep, fedCall, Under}

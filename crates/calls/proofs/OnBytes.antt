@@ -1,7 +1,7 @@
 -- The cases of a call on bytes: refused by its arguments or not, and a page's matches by the two groups of 64 bytes that the code searches.
 use mathlib.Core.Path.{_≡_, refl}
-use mathlib.Core.Bool.{Bool, true, false}
-use mathlib.Core.List.{List, [], _∷_, _++_}
+use mathlib.Core.Bool.{true, false}
+use mathlib.Core.List.{List}
 use Prim.Native.Nat.{ℕ, _+_}
 use lib.ListN.{length}
 use borrow.Author.Tests.{eq-eqb, ne-eqb}
@@ -11,12 +11,11 @@ use Rattle.groups.specs.Page.{Page}
 use Rattle.groups.specs.Hash.{groupNumber}
 use Rattle.groups.specs.Group.{groupOf, firstOf, secondOf}
 use Rattle.groups.specs.Search as groups
-use Rattle.tables.specs.Matches.{Match}
 use Rattle.tables.specs.Layout.{matchesIn, matchesOf}
 use Rattle.calls.specs.Request.{Request, sdr1In, fed}
 use Rattle.calls.specs.Rules.{refusal}
 use Rattle.calls.specs.Answers.{answerRefused}
-use Rattle.calls.specs.OnBytes.{layout, Ended, ended, bytesDo, onBytes}
+use Rattle.calls.specs.OnBytes.{layout, ended, bytesDo, onBytes}
 
 module _ (request : Request (List ℕ)) (t : List ℕ) where
   -- the arguments do not refuse the call

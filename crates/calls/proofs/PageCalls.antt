@@ -1,7 +1,7 @@
 -- The cases of the calls on one page, as the code meets them: what their three common rules refuse, what one search of a page's two groups
 -- says of the table's matches, and what its edit and its free entry are in the table.
-use mathlib.Core.Path.{_≡_, refl, sym, ap, ap₂, _∙_}
-use mathlib.Core.Bool.{Bool, true, false, cond, not, _&&_, _||_, true≢false}
+use mathlib.Core.Path.{_≡_, refl, sym, ap, _∙_}
+use mathlib.Core.Bool.{Bool, true, false, cond, not, _&&_, true≢false}
 use mathlib.Core.List.{List, [], _∷_}
 use mathlib.Core.Option.{Option, none, some}
 use Prim.Native.Nat.{ℕ, _+_, _*_, _^_, _≤_, _<_}
@@ -10,7 +10,7 @@ use lib.Dec.{eqb, ltb}
 use lib.ListN.{length, replicate}
 use borrow.Author.Tests.{eqb-true, ltb-true, ne-eqb, not-false}
 use Rattle.words.proofs.Tests.{both}
-use Rattle.entry.specs.Entry.{secondWord, apiOf, withMarks}
+use Rattle.entry.specs.Entry.{secondWord, apiOf}
 use Rattle.registers.specs.Rules.{firstBroken}
 use Rattle.registers.specs.Sdr1.{sdr1Shape, tableLength, maskOnes}
 use Rattle.registers.proofs.Set.{rule-kept}

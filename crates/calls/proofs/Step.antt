@@ -1,28 +1,23 @@
 -- One call on a table that represents a map answers what the map answers, and leaves a table that represents the map left: a lemma for each call.
-use Prim.Native.Nat.{ℕ, _+_, _*_, _^_, _<_}
-use mathlib.Core.Path.{_≡_, refl, sym, ap, ap₂, _∙_, subst}
-use mathlib.Core.Logic.{ite}
-use mathlib.Core.Bool.{Bool, true, false, cond, not, _||_, or-false}
-use mathlib.Core.List.{List, [], _∷_, map}
+use Prim.Native.Nat.{ℕ, _^_, _<_}
+use mathlib.Core.Path.{_≡_, refl, ap, _∙_, subst}
+use mathlib.Core.Bool.{Bool, true, false}
+use mathlib.Core.List.{List, [], _∷_}
 use mathlib.Core.Option.{Option, none, some}
-use native.Mathlib.Omega.{arith}
 use lib.Dec.{eqb, lit<}
-use lib.ListN.{length, replicate}
-use Rattle.placement.specs.FiniteMap.{fieldsAt, putIn, takeOut, revise, mappedPages}
+use lib.ListN.{length}
+use Rattle.placement.specs.FiniteMap.{fieldsAt, takeOut, revise, mappedPages}
 use Rattle.placement.proofs.FiniteMap.{revise-unmapped}
 use Rattle.registers.specs.Set.{registerWords}
 use Rattle.groups.proofs.Hash.{samePage-refl, samePage-eq}
 use Rattle.groups.proofs.Summary.{merged-one}
-use Rattle.entry.specs.Entry.{firstWord, secondWord, apiOf, referenced, changed, withMarks, withPP}
+use Rattle.entry.specs.Entry.{apiOf, referenced, changed, withMarks, withPP}
 use Rattle.entry.proofs.Addresses.{api-lt}
-use Rattle.entry.proofs.Marks.{marks-own}
 use Rattle.entry.proofs.Matches.{match-own, free-zero}
 use Rattle.entry.proofs.Packing.{first-lt}
 use Rattle.groups.specs.Page.{Page, InRange, samePage}
-use Rattle.groups.specs.Search.{hOf, contradict, merged}
-use Rattle.tables.specs.Matches.{Match}
-use Rattle.tables.specs.Layout.{matchesOf, freePlace, overwrite, overwriteEach}
-use Rattle.tables.specs.Represents.{Represents}
+use Rattle.groups.specs.Search.{hOf, contradict}
+use Rattle.tables.specs.Layout.{matchesOf, freePlace, overwriteEach}
 use Rattle.tables.proofs.Represented.{OneMatch, unmapped-matches, mapped-match, full-branch, free-branch}
 use Rattle.tables.proofs.Steps.{represents-putIn, represents-takeOut, represents-revise, represents-revise-first}
 use Rattle.translation.specs.Access.{storing}
@@ -30,16 +25,15 @@ use Rattle.translation.specs.Steps.{beforeSearch, afterSearch, outcomeOf, answe
 use Rattle.translation.specs.declared.Early.{Early}
 use Rattle.translation.specs.declared.Early.the-variants.{Decided, Search}
 use Rattle.translation.specs.declared.Outcome.{Outcome}
-use Rattle.translation.specs.declared.Searched.{Searched}
-use Rattle.translation.specs.declared.Searched.the-variants.{Nothing, At, Contradicting}
+use Rattle.translation.specs.declared.Searched.the-variants.{At}
 use Rattle.translation.specs.declared.Wanted.{Wanted}
 use Rattle.translation.proofs.Steps.{wanted-in-range}
 use Rattle.calls.specs.Request.{Request, clear, mapPage, unmap, protect, look, access, fed}
 use Rattle.calls.specs.Rules.{refusal}
-use Rattle.calls.specs.Answers.{wordAnswer, accessAnswer}
-use Rattle.calls.specs.OnBytes.{layout, Ended, ended, byMatches, byOption, entryWord, wantedPage, searched, markedBy, bytesDo}
+use Rattle.calls.specs.Answers.{wordAnswer}
+use Rattle.calls.specs.OnBytes.{layout, Ended, entryWord, wantedPage, searched, markedBy, bytesDo}
 use Rattle.calls.specs.OnMap.{PageFields, Map, fieldsWord, markFields, protectFields, arranged?, foundIn, mapMarked, mapDoes}
-use Rattle.calls.specs.Represents.{GoodTable, FieldsInRange, represents}
+use Rattle.calls.specs.Represents.{FieldsInRange, represents}
 use Rattle.calls.proofs.TableLaws.{Word, layout-laws, represents-zeros}
 use Rattle.calls.proofs.Rules.{map-kept, unmap-kept, look-kept, protect-kept}
 use Rattle.calls.proofs.Fields.{word-fits, marked-word, protected-word, mark-range, protect-range}

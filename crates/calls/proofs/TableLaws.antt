@@ -1,24 +1,21 @@
 -- The table of document 01 is a table in the sense of the crate `tables`: its layout has the laws that are asked of one.
 use Prim.Native.Nat.{ℕ, suc, _+_, _*_, _^_, _≤_, _<_}
-use mathlib.Core.Path.{_≡_, refl, sym, ap, _∙_}
-use mathlib.Core.Bool.{Bool, true, false}
+use mathlib.Core.Path.{_≡_, ap, _∙_}
 use mathlib.Core.List.{List, []}
 use native.Mathlib.Omega.{arith}
 use native.Mathlib.Nat.{pow-suc}
 use lib.ListN.{length, replicate, length-replicate}
 use Rattle.entry.specs.Entry.{apiOf, free}
 use Rattle.entry.proofs.Matches.{match-used, free-zero}
-use Rattle.groups.specs.Page.{Page, InRange, samePage}
+use Rattle.groups.specs.Page.{InRange, samePage}
 use Rattle.groups.specs.Search.{hOf}
 use Rattle.groups.proofs.Hash.{group-mirror, samePage-refl, samePage-eq, within-bytes}
 use Rattle.groups.proofs.Matches.{tells}
 use Rattle.groups.proofs.Stored.{words-fit, stored-keeps-bytes, stored-length, stored-same, stored-other-entry, stored-elsewhere, zeroed-words, zeroed-bytes}
 use Rattle.tables.specs.Layout.{groups, LayoutLaws}
-use Rattle.tables.specs.Represents.{Represents}
 use Rattle.tables.proofs.Steps.{represents-empty}
 use Rattle.calls.specs.OnBytes.{layout}
-use Rattle.calls.specs.OnMap.{fieldsWord}
-use Rattle.calls.specs.Represents.{GoodTable, FieldsInRange, represents}
+use Rattle.calls.specs.Represents.{GoodTable, represents}
 
 -- a number that fits an entry's word
 abbrev pub Word : ℕ → Type 0

@@ -1,23 +1,22 @@
 -- Demand 3: from the first clear on, table and finite map are related, so every list of calls answers alike; and what a page's own calls answer.
-use Prim.Native.Nat.{ℕ, _+_, _-_, _*_, _/_, _%_, _^_, _≤_, _<_}
+use Prim.Native.Nat.{ℕ, _-_, _*_, _^_, _<_}
 use mathlib.Core.Path.{_≡_, refl, sym, ap, _∙_, subst}
-use mathlib.Core.Bool.{Bool, true, false}
-use mathlib.Core.List.{List, [], _∷_, map}
+use mathlib.Core.Bool.{true, false}
+use mathlib.Core.List.{List, [], _∷_}
 use mathlib.Core.Logic.{ite, if-pos, if-neg}
 use mathlib.Core.Option.{Option, none, some}
-use native.Mathlib.Omega.{arith}
 use lib.ListN.{length, replicate}
 use Rattle.placement.specs.FiniteMap.{fieldsAt, putIn, mappedPages}
-use Rattle.registers.specs.Sdr1.{sdr1Shape, tableLength, maskOnes}
-use Rattle.registers.proofs.Sdr1.{made-ones, made-length, made-shape}
+use Rattle.registers.specs.Sdr1.{sdr1Shape, tableLength}
+use Rattle.registers.proofs.Sdr1.{made-length, made-shape}
 use Rattle.groups.specs.Page.{Page, InRange, samePage}
-use Rattle.tables.specs.Runs.{run, after, Each}
+use Rattle.tables.specs.Runs.{Each}
 use Rattle.calls.specs.Request.{Request, clear, mapPage, unmap, protect, look, fed, sdr1In}
 use Rattle.calls.specs.Rules.{refusal}
 use Rattle.calls.specs.OnBytes.{Ended, ended, byOption, bytesDo, onBytes}
-use Rattle.calls.specs.OnMap.{PageFields, Map, Arranged, arranged?, mapDoes, onMap}
+use Rattle.calls.specs.OnMap.{PageFields, Map, Arranged, arranged?, mapDoes}
 use Rattle.calls.specs.Represents.{represents}
-use Rattle.calls.specs.Histories.{Call, bytesStep, mapStep, fedCall, Under}
+use Rattle.calls.specs.Histories.{Call, Under}
 use Rattle.calls.specs.Theorem.{sdr1With, Start, cleared, tableAfter, mapAfter, MapArguments, TableRefinesMap}
 use Rattle.calls.proofs.OnBytes.{taken}
 use Rattle.calls.proofs.Rules as rules

@@ -1,11 +1,10 @@
 -- Histories: lists of calls on one table, and the same calls as the finite map is fed them.
 use Prim.Native.Nat.{ℕ}
-use mathlib.Core.List.{List, [], _∷_, map}
+use mathlib.Core.List.{List, [], _∷_}
 use mathlib.Core.Logic.{_⊎_}
-use mathlib.Core.Option.{Option, none, some}
+use mathlib.Core.Option.{Option, some}
 use mathlib.Core.Path.{_≡_}
 use lib.ListN.{length}
-use Rattle.tables.specs.Runs.{run, after, Each}
 use Rattle.groups.specs.Page.{Page}
 use Rattle.calls.specs.Request.{Request, clear, mapPage, unmap, fed, sdr1In}
 use Rattle.calls.specs.Rules.{refusal}

@@ -1,6 +1,6 @@
 -- What each call does to a lent table, for any bytes, one clause a call.
 use Prim.Native.Nat.{ℕ, _+_, _^_}
-use mathlib.Core.Bool.{Bool, true, false, cond, _&&_, _||_}
+use mathlib.Core.Bool.{Bool, true, cond}
 use mathlib.Core.List.{List, [], _∷_}
 use mathlib.Core.Option.{Option, none, some}
 use lib.Dec.{eqb}
@@ -16,7 +16,6 @@ use Rattle.tables.specs.Matches.{Match}
 use Rattle.tables.specs.Layout.{Layout, matchesOf, freePlace, overwrite, overwriteEach}
 use Rattle.translation.specs.Access.{storing}
 use Rattle.translation.specs.Steps.{beforeSearch, outcomeOf, answerOf}
-use Rattle.translation.specs.declared.Answer.{Answer}
 use Rattle.translation.specs.declared.Early.{Early}
 use Rattle.translation.specs.declared.Early.the-variants.{Decided, Search}
 use Rattle.translation.specs.declared.Searched.{Searched}

@@ -1,10 +1,8 @@
 -- The plain finite map of document 01, one clause a call. It is fed arguments and lent lengths, and no table byte.
-use Prim.Native.Nat.{ℕ, suc, _+_, _^_}
+use Prim.Native.Nat.{ℕ, _+_, _^_}
 use mathlib.Core.Bool.{Bool, true, false, cond, _||_}
 use mathlib.Core.List.{List, [], _∷_}
 use mathlib.Core.Logic.{ite}
-use mathlib.Core.Option.{Option}
-use mathlib.Core.Path.{_≡_}
 use lib.Dec.{eqb}
 use Rattle.entry.specs.Entry.{secondWord}
 use Rattle.placement.specs.Lists.{oneIf}
@@ -18,7 +16,6 @@ use Rattle.groups.specs.Hash.{groupNumber}
 use Rattle.groups.proofs.Hash.{group-mirror}
 use Rattle.translation.specs.Access.{storing}
 use Rattle.translation.specs.Steps.{beforeSearch, outcomeOf, answerOf}
-use Rattle.translation.specs.declared.Answer.{Answer}
 use Rattle.translation.specs.declared.Early.{Early}
 use Rattle.translation.specs.declared.Early.the-variants.{Decided, Search}
 use Rattle.translation.specs.declared.Searched.{Searched}

@@ -3,7 +3,7 @@
 -- The tables here are one group of 64 bytes, group 0; what lies past their end reads as zero.
 use Prim.Native.Nat.{ℕ}
 use mathlib.Core.List.{List, [], _∷_}
-use mathlib.Core.Path.{_≡_, refl}
+use mathlib.Core.Path.{refl}
 use lib.ListN.{replicate, set}
 use Rattle.words.specs.Below.{everyBelow, firstBelow}
 use Rattle.words.specs.Ones.{bitLength, lowOnes}
@@ -24,10 +24,10 @@ use Rattle.translation.specs.Access.{userMode, fetching, storing, relocated, si
 use Rattle.translation.specs.Protection.{pageReadable, pageWritable, pageAllows, guarded}
 use Rattle.translation.specs.Fault.{causeWord, faultOf}
 use Rattle.translation.specs.Steps.{beforeSearch, pageOutcome, afterSearch, outcomeOf, answerOf}
-use Rattle.calls.specs.Request.{Request, clear, mapPage, unmap, protect, look, access, sdr1In, fed}
+use Rattle.calls.specs.Request.{clear, mapPage, unmap, protect, look, access, fed}
 use Rattle.calls.specs.Rules.{pageInRange, writeThroughInhibited, rules, refusal}
 use Rattle.calls.specs.Answers.{wordAnswer, accessAnswer, refusedAnswer, answerRefused}
-use Rattle.calls.specs.OnBytes.{Ended, ended, entryWord, searched, markedBy, bytesDo, onBytes}
+use Rattle.calls.specs.OnBytes.{ended, entryWord, searched, markedBy, bytesDo, onBytes}
 
 abbrev pageOf : ℕ → ℕ → Page
 pageOf vsid index = record { vsid = vsid; index = index }

@@ -4,7 +4,7 @@ use Prim.Native.Nat.{ℕ, _*_, _^_, _<_}
 use mathlib.Core.List.{List}
 use mathlib.Core.Path.{_≡_}
 use lib.ListN.{length, getD}
-use Rattle.groups.specs.Page.{Page, InRange, samePage}
+use Rattle.groups.specs.Page.{InRange, samePage}
 use Rattle.tables.specs.Represents.{Represents}
 use Rattle.calls.specs.OnBytes.{layout}
 use Rattle.calls.specs.OnMap.{PageFields, Map, fieldsWord}

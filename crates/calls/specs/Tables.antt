@@ -1,10 +1,9 @@
 -- Rows that pin what the calls without a table answer and leave, each closed by computation.
 use Prim.Native.Nat.{ℕ}
 use mathlib.Core.List.{List, [], _∷_}
-use mathlib.Core.Path.{_≡_, refl}
+use mathlib.Core.Path.{refl}
 use lib.ListN.{replicate, set}
 use Rattle.words.specs.Below.{everyBelow}
-use Rattle.words.specs.Bits.{bits}
 use Rattle.words.specs.Ones.{bitLength, lowOnes}
 use Rattle.words.specs.Rows.{Hold}
 use Rattle.words.specs.Words.{wordBytes, wordAt, withWord, bytesOf, wordsAt}
@@ -14,7 +13,7 @@ use Rattle.registers.specs.Sdr1.{sdr1Shape}
 use Rattle.registers.specs.Segment.{segmentShape}
 use Rattle.registers.specs.Block.{off, commonV, upperShape, lowerShape, blockShape, shareAddress, clash}
 use Rattle.registers.specs.Set.{segmentsShape, sideShape, pairApart, sideApart, checkWords, registerWords, replaced}
-use Rattle.calls.specs.Lent.{Left, left, ofLength}
+use Rattle.calls.specs.Lent.{left, ofLength}
 use Rattle.calls.specs.WithoutTable.{checkCall, setRegisterCall, packCall, unpackCall}
 
 -- n zero bytes

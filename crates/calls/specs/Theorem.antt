@@ -1,7 +1,7 @@
 -- Demand 3: over every history of calls after a first clear, the answers on the bytes are those of the plain finite map.
 use Prim.Native.Nat.{ℕ, _+_, _-_, _*_, _/_, _%_, _^_, _≤_, _<_}
 use mathlib.Core.List.{List, [], _∷_, _++_, map}
-use mathlib.Core.Option.{Option, none, some}
+use mathlib.Core.Option.{none, some}
 use mathlib.Core.Path.{_≡_}
 use lib.ListN.{length}
 use Rattle.words.specs.Bits.{bits, placed}
@@ -13,10 +13,10 @@ use Rattle.translation.specs.Steps.{beforeSearch, answerOf, doneAnswer}
 use Rattle.translation.specs.declared.Early.the-variants.{Search}
 use Rattle.translation.specs.declared.Outcome.the-variants.{NoMatch}
 use Rattle.translation.specs.declared.Wanted.{Wanted}
-use Rattle.calls.specs.Request.{Request, clear, mapPage, unmap, protect, look, access, sdr1In, fed}
+use Rattle.calls.specs.Request.{clear, mapPage, unmap, protect, look, access, sdr1In, fed}
 use Rattle.calls.specs.Rules.{refusal}
 use Rattle.calls.specs.Answers.{accessAnswer}
-use Rattle.calls.specs.OnBytes.{Ended, onBytes, wantedPage}
+use Rattle.calls.specs.OnBytes.{onBytes, wantedPage}
 use Rattle.calls.specs.OnMap.{PageFields, Map, Arranged}
 use Rattle.calls.specs.Histories.{Call, bytesStep, mapStep, fedCall, Under, NoneDone, Maps, TakesOut}
 

@@ -1,7 +1,7 @@
 -- What setting the marks and PP does to a second word: the fields asked for are set, and every other bit, the ignored ones too, is kept.
 use mathlib.Core.Bool.{Bool, true, false, cond, _||_}
 use mathlib.Core.List.{[], _∷_}
-use mathlib.Core.Path.{_≡_, refl, sym, ap, _∙_}
+use mathlib.Core.Path.{_≡_, refl, ap, _∙_}
 use Prim.Native.Nat.{ℕ, _+_, _-_, _*_, _/_, _%_, _^_, _≤_, _<_}
 use native.Mathlib.Nat.{le-refl}
 use native.Mathlib.Omega.{arith}
@@ -11,7 +11,7 @@ use Rattle.words.specs.Bits.{bits, withBits}
 use Rattle.words.proofs.Tests.{cond-by}
 use Rattle.entry.specs.Entry.{secondWord, ignoredBits, ppOf, setIf, referenced, changed, withMarks, withPP}
 use Rattle.words.proofs.Bits.{bits-in, bits-above, bits-below, withBits-lt, withBits-own}
-use Rattle.entry.proofs.Packing.{SecondFields, second-lt, second-packed, second-ignored, second-is, second-same, second-own}
+use Rattle.entry.proofs.Packing.{SecondFields, second-lt, second-packed, second-ignored, second-is, second-own}
 
 -- ---- one bit
 

@@ -7,7 +7,6 @@ use native.Mathlib.Numerals.{towards-numerals}
 use native.Mathlib.Omega.{arith}
 use lib.ListN.{length, getD}
 use lib.Seq.{sets, set-getD}
-use Rattle.words.specs.Bits.{bits}
 use Rattle.words.specs.Words.{wordBytes, wordOf, wordAt, withWord}
 use Rattle.words.proofs.Tests.{three}
 use Rattle.words.proofs.Words.{Bytes, word-lt, byte-0, byte-1, byte-2, byte-3, length-withWord, word-before, word-behind, word-same, withWord-bytes}

@@ -1,17 +1,15 @@
 -- What the shape of SDR1 says of its mask, and that every SDR1 made of an origin and k ones has the shape.
-use mathlib.Core.Path.{_≡_, refl, sym, ap, _∙_}
+use mathlib.Core.Path.{_≡_, refl, ap, _∙_}
 use mathlib.Core.Bool.{true}
-use Prim.Native.Nat.{ℕ, _+_, _-_, _*_, _/_, _%_, _^_, _≤_, _<_}
-use native.Mathlib.Nat.{div-one}
+use Prim.Native.Nat.{ℕ, _+_, _-_, _*_, _/_, _%_, _^_, _≤_}
 use native.Mathlib.Omega.{arith}
 use lib.Bits.{bitAnd, and-mask}
-use lib.Dec.{eqb}
 use lib.Pow.{pow-pos, pow-mono, mod-mod-pow}
-use borrow.Author.Tests.{eqb-true, eq-eqb}
+use borrow.Author.Tests.{eq-eqb}
 use Rattle.words.specs.Ones.{bitLength, lowOnes}
 use Rattle.words.proofs.Ones.{ones-true, true-ones, length-ones, ones-width}
 use Rattle.words.proofs.Tests.{both}
-use Rattle.registers.specs.Sdr1.{originOf, maskOf, sdr1Shape, tableLength, maskOnes, hashBits}
+use Rattle.registers.specs.Sdr1.{originOf, maskOf, sdr1Shape, tableLength, maskOnes}
 
 module _ (sdr1 : ℕ) (shape : sdr1Shape sdr1 ≡ true) where
   low-mask : lowOnes (maskOf sdr1) ≡ true

@@ -1,5 +1,5 @@
 -- Laws of Bool tests that every crate's proofs use: conjunctions taken apart, equal tests, a case by a test, the order of two numbers.
-use mathlib.Core.Bool.{Bool, true, false, cond, _&&_, _||_}
+use mathlib.Core.Bool.{Bool, true, false, cond, _&&_}
 use mathlib.Core.Logic.{_⊎_, inl, inr}
 use mathlib.Core.Path.{_≡_, refl, sym}
 use Prim.Native.Nat.{ℕ, _≤_, _<_}

@@ -2,7 +2,7 @@
 use mathlib.Core.Path.{_≡_}
 use native.Mathlib.Omega.{arith}
 use native.Mathlib.Nat.{div-one}
-use Prim.Native.Nat.{_+_, _*_, _/_, _%_, _^_, _<_}
+use Prim.Native.Nat.{_*_, _/_, _%_, _^_, _<_}
 use lib.Bits.{bitAnd, bitOr, and-mask, or-lt, and-le-l}
 use lib.Pow.{shr-mod}
 use Rattle.words.proofs.Masks.{or-sum}

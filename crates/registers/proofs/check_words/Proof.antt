@@ -1,6 +1,6 @@
 -- `registers::check_words` meets its contract: each test on the way is a rule of the set, in the rules' order.
 use mathlib.Core.Path.{_≡_, sym, ap, ap₂, _∙_}
-use mathlib.Core.Bool.{Bool, true, false, not, _&&_}
+use mathlib.Core.Bool.{Bool, not, _&&_}
 use Rattle.registers.specs.Set.{checkWords}
 use borrow.Author.Needs.{needs}
 use Rattle.registers.proofs.check_words.Statement.{statement}

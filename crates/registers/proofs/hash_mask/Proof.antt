@@ -1,11 +1,9 @@
 -- `registers::hash_mask` meets its contract: a mask 2 ^ k - 1 moved up by ten, and ten ones below it, are 2 ^ (10 + k) - 1.
 use mathlib.Core.Path.{_≡_}
 use native.Mathlib.Omega.{arith}
-use native.Mathlib.Nat.{div-one}
 use Prim.Native.Nat.{_*_, _%_, _^_}
 use lib.Bits.{and-mask}
 use lib.Pow.{pow-add, pow-pos}
-use Rattle.words.specs.Ones.{bitLength}
 use Rattle.words.proofs.Masks.{or-sum}
 use Rattle.registers.specs.Sdr1.{hashBits, maskOnes}
 use Rattle.registers.proofs.Sdr1.{mask-is}

@@ -1,5 +1,4 @@
 -- `registers::in_block` meets its contract: each mask leaves the field that the definition names.
-use mathlib.Core.Path.{_≡_}
 use native.Mathlib.Omega.{arith}
 use Prim.Native.Nat.{_/_, _^_}
 use lib.Bits.{and-mask, mask-lt}

@@ -1,11 +1,10 @@
 -- `words::low_ones` meets its contract. The field without its lowest bit is less than the field, so the field is the measure.
-use mathlib.Core.Path.{_≡_, refl, sym, _∙_}
+use mathlib.Core.Path.{_≡_, sym, _∙_}
 use Prim.Native.Nat.{ℕ, _%_, _<_}
 use native.Mathlib.Omega.{arith}
 use lib.Bits.{and-mask}
 use borrow.Fn.Kinds.{In}
 use borrow.Fn.PlainCycle.{Measures, is, falls, and}
-use Rattle.words.specs.Ones.{lowOnes}
 use Rattle.words.proofs.Ones.{ones-even, ones-odd, true-ones}
 use Rattle.words.proofs.low_ones.Reads as low-ones
 use Rattle.words.proofs.low_ones.Kinds as low-ones-kinds

@@ -1,5 +1,5 @@
 -- `groups::Search::one` meets its contract: a match alone has its own marks, and none to contradict it.
-use mathlib.Core.Path.{sym, _∙_}
+use mathlib.Core.Path.{sym}
 use Rattle.groups.proofs.Summary.{summary-one}
 use Rattle.groups.proofs.Search.one.Statement.{statement}
 use Rattle.groups.proofs.Search.one.Tie as tie

@@ -1,4 +1,6 @@
-// What the programs of cases share: the line of a case, and an entry in a lent table.
+// What the programs of cases share: the line of a case, an entry in a lent table, and what the cases lend (`lent`).
+pub mod lent;
+
 use libc::STDOUT_FILENO;
 
 // Writes a case's number, a space and `ok` or `bad`.

@@ -1,7 +1,7 @@
 // Blocks: the lengths of Table 7-7, the protection of Tables 7-8 and 7-9, shapes and shared addresses.
-use super::lent::SDR1;
-use super::lent::access_is;
-use super::lent::page_with;
+use report::lent::SDR1;
+use report::lent::access_is;
+use report::lent::page_with;
 use report::line;
 
 // A register page whose first instruction pair and first data pair are alike.

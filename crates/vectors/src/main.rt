@@ -1,14 +1,9 @@
-// Runs the cases of the manual, the refusals and the readings, without input: a line a case in order, its number, a space, `ok` or `bad`.
+// Runs the cases of the manual and of packing, without input: a line a case in order, its number, a space, `ok` or `bad`.
 // The file docs/CASES.md says what each number is and where its expected answer comes from.
-mod access_refusals;
 mod blocks;
-mod lent;
 mod manual;
 mod packing;
-mod page_refusals;
 mod protection;
-mod readings;
-mod refusals;
 
 // Runs the cases of the module `manual`.
 fn run_manual() {
@@ -67,64 +62,9 @@ fn run_packing() {
     packing::unpacked_2();
 }
 
-// Runs the cases of the module `refusals`.
-fn run_refusals() {
-    refusals::checks_1();
-    refusals::checks_2();
-    refusals::checks_3();
-    refusals::sets_done();
-    refusals::sets_refused();
-    refusals::sets_ordered();
-}
-
-// Runs the cases of the module `page_refusals`.
-fn run_page_refusals() {
-    page_refusals::clears_1();
-    page_refusals::clears_2();
-    page_refusals::map_arguments_1();
-    page_refusals::map_arguments_2();
-    page_refusals::maps_1();
-    page_refusals::maps_2();
-    page_refusals::maps_3();
-    page_refusals::unmaps_1();
-    page_refusals::unmaps_2();
-    page_refusals::unmaps_3();
-    page_refusals::protects_1();
-    page_refusals::protects_2();
-    page_refusals::looks_1();
-    page_refusals::looks_2();
-    page_refusals::looks_ordered_1();
-    page_refusals::looks_ordered_2();
-}
-
-// Runs the cases of the module `access_refusals`.
-fn run_access_refusals() {
-    access_refusals::alone();
-    access_refusals::numbers_first();
-    access_refusals::registers_next();
-    access_refusals::every_mode();
-}
-
-// Runs the cases of the module `readings`.
-fn run_readings() {
-    readings::secondary();
-    readings::fields_of_match();
-    readings::contradicting_1();
-    readings::contradicting_2();
-    readings::twins_used();
-    readings::merged();
-    readings::ignored();
-    readings::map_places();
-    readings::modes();
-}
-
 fn main() {
     run_manual();
     run_blocks();
     run_protection();
     run_packing();
-    run_refusals();
-    run_page_refusals();
-    run_access_refusals();
-    run_readings();
 }

@@ -1,5 +1,5 @@
 // Packing and unpacking of an entry.
-use super::lent::kept;
+use report::lent::kept;
 use report::line;
 
 // Whether nine fields pack into these two words.

@@ -1,7 +1,7 @@
 // Protection and marks of a page: Tables 7-15 and 7-16, 7-17, 7-14 and 7-3.
-use super::lent::SDR1;
-use super::lent::answer_is;
-use super::lent::page_with;
+use report::lent::SDR1;
+use report::lent::answer_is;
+use report::lent::page_with;
 use report::line;
 use report::put;
 

@@ -1,11 +1,11 @@
 // Readings that tempt, twins, ignored bits, the order of a search, and the modes.
-use super::lent::INDEX;
-use super::lent::SDR1;
-use super::lent::SEGMENT;
-use super::lent::VSID;
-use super::lent::access_is;
-use super::lent::answer_is;
-use super::lent::page_with;
+use report::lent::INDEX;
+use report::lent::SDR1;
+use report::lent::SEGMENT;
+use report::lent::VSID;
+use report::lent::access_is;
+use report::lent::answer_is;
+use report::lent::page_with;
 use report::line;
 use report::put;
 

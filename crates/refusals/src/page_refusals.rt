@@ -1,13 +1,13 @@
 // Each refusal of clear, map, unmap, protect and look, and each two that can hold together, in document 01's order. A refusal leaves the
 // whole table and, of an answer, the number and three zero words (11: the answer too).
-use super::lent::BAD_SDR1;
-use super::lent::INDEX;
-use super::lent::SDR1;
-use super::lent::Scene;
-use super::lent::VSID;
-use super::lent::answer_refused;
-use super::lent::kept;
-use super::lent::table_of;
+use report::lent::BAD_SDR1;
+use report::lent::INDEX;
+use report::lent::SDR1;
+use report::lent::Scene;
+use report::lent::VSID;
+use report::lent::answer_refused;
+use report::lent::kept;
+use report::lent::table_of;
 use report::line;
 
 // A clear lent so many bytes of a table.

@@ -1,17 +1,17 @@
 // Each refusal of an access, and each two that can hold together, in document 01's order. A refusal leaves the whole table and, of the
 // answer, the number and three zero words (11: the answer too).
-use super::lent::BAD_BLOCK;
-use super::lent::BAD_SDR1;
-use super::lent::BAD_SEGMENT;
-use super::lent::OFF;
-use super::lent::SDR1;
-use super::lent::SEGMENT;
-use super::lent::SHARED;
-use super::lent::Scene;
-use super::lent::answer_refused;
-use super::lent::kept;
-use super::lent::page_of;
-use super::lent::table_of;
+use report::lent::BAD_BLOCK;
+use report::lent::BAD_SDR1;
+use report::lent::BAD_SEGMENT;
+use report::lent::OFF;
+use report::lent::SDR1;
+use report::lent::SEGMENT;
+use report::lent::SHARED;
+use report::lent::Scene;
+use report::lent::answer_refused;
+use report::lent::kept;
+use report::lent::page_of;
+use report::lent::table_of;
 use report::line;
 
 // The lengths that an access is lent: of the register page, the answer and the table.

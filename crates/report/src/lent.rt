@@ -1,5 +1,5 @@
 // What the cases lend: entries in tables, register pages, parts of slices; and what an answer is held to.
-use report::put;
+use super::put;
 
 // The good value of each word that a refusal's case breaks, and a bad one.
 pub const SDR1: u32 = 0x0F980000;

@@ -1,13 +1,13 @@
 // Each refusal of check and set register, and each two that can hold together, in document 01's order; a refused set register leaves the page.
-use super::lent::BAD_BLOCK;
-use super::lent::BAD_SDR1;
-use super::lent::BAD_SEGMENT;
-use super::lent::OFF;
-use super::lent::SDR1;
-use super::lent::SEGMENT;
-use super::lent::SHARED;
-use super::lent::kept;
-use super::lent::page_of;
+use report::lent::BAD_BLOCK;
+use report::lent::BAD_SDR1;
+use report::lent::BAD_SEGMENT;
+use report::lent::OFF;
+use report::lent::SDR1;
+use report::lent::SEGMENT;
+use report::lent::SHARED;
+use report::lent::kept;
+use report::lent::page_of;
 use report::line;
 
 // A check lent so many bytes of a page.

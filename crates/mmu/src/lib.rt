@@ -1,6 +1,5 @@
 // The exported calls. Each contract gives the result number and every lent byte by a definition of the crate `calls`, for all inputs.
 mod access;
-mod located;
 mod pages;
 
 pub use access::mmu_access;

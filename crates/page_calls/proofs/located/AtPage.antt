@@ -1,0 +1,95 @@
+-- What the groups and the API that `locate` gives say of the table: both groups lie in it, and a search, an edit and a free entry there are the page's own.
+use mathlib.Core.Path.{_≡_, sym, ap, _∙_}
+use mathlib.Core.Bool.{Bool, true, false, cond}
+use mathlib.Core.List.{List}
+use Prim.Native.Nat.{ℕ, _+_, _*_, _^_, _≤_, _<_}
+use native.Mathlib.Omega.{arith}
+use mir.Val.{boolByte}
+use Rattle.entry.specs.Entry.{firstWord, apiOf}
+use Rattle.registers.specs.Sdr1.{sdr1Shape, tableLength, maskOnes, hashBits}
+use Rattle.groups.specs.Page.{Page}
+use Rattle.groups.specs.Hash.{groupNumber}
+use Rattle.groups.specs.Group.{groupOf, onGroup, putAt, freePlace}
+use Rattle.groups.specs.Search.{matchesOf, summary}
+use Rattle.groups.specs.Edit.{editMatches}
+use Rattle.groups.specs.declared.Edit.{Edit}
+use Rattle.groups.specs.declared.Place.{Place}
+use Rattle.groups.specs.declared.Place.the-variants.{Entry}
+use Rattle.groups.specs.declared.Search.{Search}
+use Rattle.groups.proofs.Hash.{group-lt, own-groups-differ, within-table}
+use Rattle.groups.proofs.Free.{PlaceCase, in-primary, in-secondary, nowhere, place-case}
+use Rattle.groups.proofs.Matches.{h-is}
+use Rattle.calls.specs.OnBytes.{entryWord}
+use Rattle.calls.proofs.PageCalls.{ownGroup, pageSearch, editedBoth}
+use Rattle.page_calls.specs.declared.located.Located.{Located}
+
+-- what `locate` answers
+abbrev pub located : ℕ → Page → Located
+located sdr1 page = record {
+  primary = groupNumber (10 + maskOnes sdr1) false page;
+  secondary = groupNumber (10 + maskOnes sdr1) true page;
+  api = apiOf (page .index);
+}
+
+module _ (sdr1 : ℕ) (page : Page) where
+  -- a page's groups lie in a table of right length
+  pub inside : (lent : ℕ) → sdr1Shape sdr1 ≡ true → lent ≡ tableLength sdr1 → (b : Bool) → 64 * groupNumber (10 + maskOnes sdr1) b page + 64 ≤ lent
+  unfolding hashBits
+  inside lent shape right b = rw right (within-table sdr1 (groupNumber (10 + maskOnes sdr1) b page) shape (group-lt (10 + maskOnes sdr1) page b))
+
+  module _ (at : Located) (e : at ≡ located sdr1 page) where
+    pub api-lt : page .index < 2 ^ 16 → at .api < 2 ^ 6
+    unfolding apiOf
+    api-lt h = rw e (omega arith)
+
+    pub both-inside : (lent : ℕ) → sdr1Shape sdr1 ≡ true → lent ≡ tableLength sdr1 → (64 * at .primary + 64 ≤ lent) × (64 * at .secondary + 64 ≤ lent)
+    both-inside lent shape right = rw e (inside lent shape right false, inside lent shape right true)
+
+    -- what a search of the page's groups asks
+    pub searchable : (lent : ℕ) → sdr1Shape sdr1 ≡ true → lent ≡ tableLength sdr1 → page .vsid < 2 ^ 24 → page .index < 2 ^ 16
+        → (64 * at .primary + 64 ≤ lent) × (64 * at .secondary + 64 ≤ lent) × (page .vsid < 2 ^ 24) × (at .api < 2 ^ 6)
+    searchable lent shape right v i = let (p, s) = both-inside lent shape right in (p, s, v, api-lt i)
+
+    pub groups-apart : at .primary ≡ at .secondary → ⊥
+    groups-apart q =
+        own-groups-differ (10 + maskOnes sdr1) page (omega arith) (sym (ap (λ (l : Located). l .secondary) e) ∙ sym q ∙ ap (λ (l : Located). l .primary) e)
+
+    pub group-is : (b : Bool) (g : ℕ) → g ≡ cond b (at .secondary) (at .primary) → g ≡ groupNumber (10 + maskOnes sdr1) b page
+    group-is true g q = q ∙ ap (λ (l : Located). l .secondary) e
+    group-is false g q = q ∙ ap (λ (l : Located). l .primary) e
+
+    pub group-inside : (lent : ℕ) → sdr1Shape sdr1 ≡ true → lent ≡ tableLength sdr1 → (b : Bool) (g : ℕ) → g ≡ cond b (at .secondary) (at .primary) → 64 * g + 64 ≤ lent
+    group-inside lent shape right b g q = rw (group-is b g q) (inside lent shape right b)
+
+    module _ (t : List ℕ) where
+      pub search-is : (s : Search) → s ≡ summary (matchesOf (page .vsid) (at .api) (groupOf t (at .primary)) (groupOf t (at .secondary)))
+          → s ≡ pageSearch (maskOnes sdr1) t page
+      search-is s q = q ∙ ap (λ (l : Located). summary (matchesOf (page .vsid) (l .api) (groupOf t (l .primary)) (groupOf t (l .secondary)))) e
+
+      pub free-is : (place found : Place) → place ≡ freePlace (groupOf t (at .primary)) (groupOf t (at .secondary)) → place ≡ found
+          → freePlace (ownGroup (maskOnes sdr1) t page false) (ownGroup (maskOnes sdr1) t page true) ≡ found
+      free-is place found q f = sym (q ∙ ap (λ (l : Located). freePlace (groupOf t (l .primary)) (groupOf t (l .secondary))) e) ∙ f
+
+      pub edited-is : (edit : Edit) (u : List ℕ)
+          → u ≡ onGroup (onGroup t (at .primary) (editMatches edit false (page .vsid) (at .api))) (at .secondary) (editMatches edit true (page .vsid) (at .api))
+          → u ≡ editedBoth (maskOnes sdr1) t page edit
+      edited-is edit u q =
+          q ∙ ap (λ (l : Located). onGroup (onGroup t (l .primary) (editMatches edit false (page .vsid) (l .api))) (l .secondary) (editMatches edit true (page .vsid) (l .api))) e
+
+      -- an entry written by the code's group and first word is the page's
+      pub placed-is : (b : Bool) (i g first second word : ℕ) (u : List ℕ) → g ≡ cond b (at .secondary) (at .primary) → first ≡ firstWord 1 (page .vsid) (boolByte b) (at .api)
+          → second ≡ word → u ≡ putAt t g i first second → u ≡ putAt t (groupNumber (10 + maskOnes sdr1) b page) i (entryWord b page) word
+      unfolding entryWord
+      placed-is b i g first second word u qg qf qs q =
+          let h = h-is b in
+          let api = ap (λ (l : Located). l .api) e in
+          q ∙ rw (group-is b g qg, qf, qs, h, api)
+
+-- a free place is one of a group's eight entries
+pub place-lt : (p s : List ℕ) (place : Place) (b : Bool) (i : ℕ) → place ≡ freePlace p s → place ≡ Entry b i → i < 8
+place-lt p s place b i q f = go (freePlace p s) (place-case p s) (sym q ∙ f)
+  where
+    go : (found : Place) → PlaceCase p s found → found ≡ Entry b i → i < 8
+    go found (in-primary j n l) e = let z : i ≡ j = cc in omega arith
+    go found (in-secondary j m n l) e = let z : i ≡ j = cc in omega arith
+    go found (nowhere m n) e = absurd (let z : _≡_ {A = ℕ} 0 1 = cc in omega arith)

@@ -1,0 +1,156 @@
+// The work of the page calls on a lent table: which refusal the arguments give, and map, unmap, protect and look in the page's two groups.
+pub mod located;
+
+use located::locate;
+ghost use mathlib.Core.Path.{_≡_};
+ghost use mathlib.Core.Bool.{true, not, _&&_};
+ghost use mathlib.Core.List.{[], _∷_};
+ghost use Prim.Native.Nat.{_<_, _^_};
+ghost use lib.Dec.{ltb};
+ghost use lib.ListN.{length};
+ghost use Rattle.registers.specs.Rules.{firstBroken};
+ghost use Rattle.registers.specs.Sdr1.{sdr1Shape, tableLength, maskOnes};
+ghost use Rattle.calls.specs.Request.{mapPage, unmap, protect, look};
+ghost use Rattle.calls.specs.Rules.{pageInRange, writeThroughInhibited, tableRules};
+ghost use Rattle.calls.specs.Answers.{wordAnswer};
+ghost use Rattle.calls.specs.OnBytes.{ended, bytesDo};
+
+// What unmap and look answer: the result number and the second entry word.
+pub struct WordAnswer {
+    pub result: u32,
+    pub word: u32,
+}
+
+// Whether a VSID and a page index are in their ranges.
+pub fn page_in_range(vsid: u32, index: u32) -> bool
+    ensures { λ r. ⌜ r ≡ pageInRange (record { vsid = vsid; index = index }) ⌝ }
+{
+    (vsid < 0x1000000) & (index < 0x10000)
+}
+
+// Whether map's arguments are in their ranges, W and I not both one.
+pub fn map_in_range(vsid: u32, index: u32, rpn: u32, wimg: u32, pp: u32) -> bool
+    ensures { λ r. ⌜ r ≡ (pageInRange (record { vsid = vsid; index = index })
+        && ltb rpn (2 ^ 20) && ltb wimg (2 ^ 4) && ltb pp (2 ^ 2) && not (writeThroughInhibited wimg)) ⌝ }
+{
+    page_in_range(vsid, index) & (rpn < 0x100000) & (wimg < 16) & (pp < 4) & (wimg >> 2 != 3)
+}
+
+// The refusal by the arguments' ranges, by SDR1 and by the table's length, in this order, or 0.
+pub fn page_refusal(fits: bool, sdr1: u32, lent: usize) -> u32
+    ensures { λ r. ⌜ r ≡ firstBroken ((not fits, 6) ∷ tableRules sdr1 lent) ⌝ }
+{
+    if !fits {
+        return 6;
+    }
+    if !registers::sdr1_shape(sdr1) {
+        return 2;
+    }
+    if lent != registers::table_length(sdr1) {
+        return 1;
+    }
+    0
+}
+
+// Maps a page that has no match: its entry goes into the first free place of its two groups.
+pub fn map_page(
+    sdr1: u32,
+    vsid: u32,
+    index: u32,
+    rpn: u32,
+    wimg: u32,
+    pp: u32,
+    table: &mut [u8],
+) -> u32
+    requires { ⌜ (sdr1Shape sdr1 ≡ true) × (length (now table) ≡ tableLength sdr1)
+        × (vsid < 2 ^ 24) × (index < 2 ^ 16) × (rpn < 2 ^ 20) × (wimg < 2 ^ 4) × (pp < 2 ^ 2) ⌝ }
+    ensures { λ r. ⌜ ended r (now (table .exit)) []
+        ≡ bytesDo (maskOnes sdr1) (mapPage sdr1 (record { vsid = vsid; index = index }) rpn wimg pp) (now (table .entry)) ⌝ }
+{
+    let at = locate(sdr1, vsid, index);
+    let search = groups::search_both(table, at.primary, at.secondary, vsid, at.api);
+    if search.found() {
+        return 7;
+    }
+    match groups::find_free(table, at.primary, at.secondary) {
+        groups::Place::Entry(secondary, entry) => {
+            let first = entry::first_word(1, vsid, secondary as u32, at.api);
+            let second = entry::second_word(rpn, 0, 0, wimg, pp);
+            groups::put_entry(table, at.group(secondary), entry, first, second);
+            0
+        }
+        groups::Place::Full => 9,
+    }
+}
+
+// Unmaps a page: each match becomes eight zero bytes.
+pub fn unmap_page(sdr1: u32, vsid: u32, index: u32, table: &mut [u8]) -> WordAnswer
+    requires { ⌜ (sdr1Shape sdr1 ≡ true) × (length (now table) ≡ tableLength sdr1) × (vsid < 2 ^ 24) × (index < 2 ^ 16) ⌝ }
+    ensures { λ r. ⌜ ended (r .result) (now (table .exit)) (wordAnswer (r .result) (r .word))
+        ≡ bytesDo (maskOnes sdr1) (unmap sdr1 (record { vsid = vsid; index = index }) []) (now (table .entry)) ⌝ }
+{
+    let at = locate(sdr1, vsid, index);
+    let search = groups::search_both(table, at.primary, at.secondary, vsid, at.api);
+    if !search.found() {
+        return WordAnswer { result: 8, word: 0 };
+    }
+    groups::edit_found(
+        table,
+        at.primary,
+        at.secondary,
+        vsid,
+        at.api,
+        search,
+        groups::Edit::Clear,
+    );
+    WordAnswer {
+        result: 0,
+        word: search.merged,
+    }
+}
+
+// Puts another PP into each match of a page.
+pub fn protect_page(sdr1: u32, vsid: u32, index: u32, pp: u32, table: &mut [u8]) -> u32
+    requires { ⌜ (sdr1Shape sdr1 ≡ true) × (length (now table) ≡ tableLength sdr1) × (vsid < 2 ^ 24) × (index < 2 ^ 16) × (pp < 2 ^ 2) ⌝ }
+    ensures { λ r. ⌜ ended r (now (table .exit)) []
+        ≡ bytesDo (maskOnes sdr1) (protect sdr1 (record { vsid = vsid; index = index }) pp) (now (table .entry)) ⌝ }
+{
+    let at = locate(sdr1, vsid, index);
+    let search = groups::search_both(table, at.primary, at.secondary, vsid, at.api);
+    if !search.found() {
+        return 8;
+    }
+    groups::edit_found(
+        table,
+        at.primary,
+        at.secondary,
+        vsid,
+        at.api,
+        search,
+        groups::Edit::Protect(pp),
+    );
+    0
+}
+
+// Looks a page up.
+pub fn look_page(sdr1: u32, vsid: u32, index: u32, table: &[u8]) -> WordAnswer
+    requires { ⌜ (sdr1Shape sdr1 ≡ true) × (length (now table) ≡ tableLength sdr1) × (vsid < 2 ^ 24) × (index < 2 ^ 16) ⌝ }
+    ensures { λ r. ⌜ ended (r .result) (now (table .entry)) (wordAnswer (r .result) (r .word))
+        ≡ bytesDo (maskOnes sdr1) (look sdr1 (record { vsid = vsid; index = index }) []) (now (table .entry)) ⌝ }
+{
+    let at = locate(sdr1, vsid, index);
+    let search = groups::search_both(table, at.primary, at.secondary, vsid, at.api);
+    if !search.found() {
+        return WordAnswer { result: 8, word: 0 };
+    }
+    if search.differs {
+        return WordAnswer {
+            result: 10,
+            word: 0,
+        };
+    }
+    WordAnswer {
+        result: 0,
+        word: search.second,
+    }
+}

@@ -6,7 +6,8 @@ empty lines, `module` and `unfolding` lines do not. With --list it prints each d
 definitions are N lines or more.
 
 Not followed: the statements themselves and their rows, which are proved and not believed; and what is proved by its type
-(`Decision`: a decision of type `Dec (Arrangement ..)` is right whatever its text).
+(`Decision`: a decision of type `Dec (Arrangement ..)` is right whatever its text). Not counted either: the structs and enums of the code that
+definitions name, and what `represents` and `TwelveCases` cite beyond this. README gives the counts with them.
 """
 import glob
 import os

@@ -9,14 +9,14 @@ use lib.ListN.{length}
 use borrow.Author.Tests.{eq-eqb, ne-eqb, eqb-true}
 use Rattle.entry.specs.Entry.{withMarks}
 use Rattle.registers.specs.Rules.{firstBroken}
-use Rattle.registers.specs.Sdr1.{sdr1Shape, tableLength, maskOnes}
+use Rattle.register_words.specs.Sdr1.{sdr1Shape, tableLength, maskOnes}
 use Rattle.registers.specs.Set.{sdr1Of, segmentsShape, sideShape, sideApart, registerRules, checkWords, registerWords}
 use Rattle.registers.proofs.Set.{checked}
 use Rattle.groups.specs.Hash.{groupNumber}
 use Rattle.groups.specs.Group.{firstOf, putAt}
-use Rattle.groups.specs.Search as groups
-use Rattle.groups.specs.declared.Search.{Search as Summary}
-use Rattle.groups.proofs.Summary.{Summarised, summarised, summary-none, place-found, place-secondary, place-entry}
+use Rattle.matches.specs.Search as search
+use Rattle.matches.specs.declared.Search.{Search as Summary}
+use Rattle.matches.proofs.Summary.{Summarised, summarised, summary-none, place-found, place-secondary, place-entry}
 use Rattle.tables.specs.Matches.{Match}
 use Rattle.tables.specs.Layout.{matchesOf, overwrite}
 use Rattle.tables.proofs.Groups.{MatchOf, members-of}
@@ -101,38 +101,38 @@ module _ (words : List ℕ) (mode kind lent : ℕ) where
 
 module _ (s : Summary) where
   -- by the list that was passed over: none, or the first match and the others
-  by-list : (P : List Match → Type 0) (ms : List Match) → s ≡ groups.summary ms
-      → (s ≡ groups.summary [] → P []) → ((x : Match) (xs : List Match) → Summarised x xs s → P (x ∷ xs)) → P ms
+  by-list : (P : List Match → Type 0) (ms : List Match) → s ≡ search.summary ms
+      → (s ≡ search.summary [] → P []) → ((x : Match) (xs : List Match) → Summarised x xs s → P (x ∷ xs)) → P ms
   by-list P [] e none found = none e
   by-list P (x ∷ xs) e none found = found x xs (rw e (summarised x xs))
 
-  module _ (ms : List Match) (e : s ≡ groups.summary ms) where
-    pub searched-nothing : groups.found s ≡ false → searched ms ≡ Nothing
+  module _ (ms : List Match) (e : s ≡ search.summary ms) where
+    pub searched-nothing : search.found s ≡ false → searched ms ≡ Nothing
     unfolding searched
     searched-nothing f = by-list (λ l. searched l ≡ Nothing) ms e (λ z. refl) (λ x xs m. absurd (true≢false (sym (place-found s x (m .place)) ∙ f)))
 
-    pub searched-contradicting : groups.found s ≡ true → s .differs ≡ true → searched ms ≡ Contradicting
+    pub searched-contradicting : search.found s ≡ true → s .differs ≡ true → searched ms ≡ Contradicting
     unfolding searched
     searched-contradicting f d =
-        by-list (λ l. searched l ≡ Contradicting) ms e (λ z. absurd (true≢false (sym f ∙ ap groups.found z ∙ summary-none)))
+        by-list (λ l. searched l ≡ Contradicting) ms e (λ z. absurd (true≢false (sym f ∙ ap search.found z ∙ summary-none)))
         (λ x xs m. rw (← m .differs, d))
 
-    pub searched-at : groups.found s ≡ true → s .differs ≡ false → searched ms ≡ At (s .second)
+    pub searched-at : search.found s ≡ true → s .differs ≡ false → searched ms ≡ At (s .second)
     unfolding searched
     searched-at f d =
-        by-list (λ l. searched l ≡ At (s .second)) ms e (λ z. absurd (true≢false (sym f ∙ ap groups.found z ∙ summary-none)))
+        by-list (λ l. searched l ≡ At (s .second)) ms e (λ z. absurd (true≢false (sym f ∙ ap search.found z ∙ summary-none)))
         (λ x xs m. rw (← m .differs, d) (ap At (sym (m .second))))
 
     -- an access is done only by the first match
     pub record ByFirst (second : ℕ) : Type 0 where
-      pub found : groups.found s ≡ true
+      pub found : search.found s ≡ true
       pub word : s .second ≡ second
 
     pub done-by-first : (kind : ℕ) (key : Bool) (second : ℕ) → afterSearch kind key (searched ms) ≡ Done second → ByFirst second
     done-by-first kind key second done =
-        go (groups.found s) (s .differs) refl refl (done-passes kind key (searched ms) second done .found)
+        go (search.found s) (s .differs) refl refl (done-passes kind key (searched ms) second done .found)
       where
-        go : (t d : Bool) → groups.found s ≡ t → s .differs ≡ d → searched ms ≡ At second → ByFirst second
+        go : (t d : Bool) → search.found s ≡ t → s .differs ≡ d → searched ms ≡ At second → ByFirst second
         go true false f g a = record { found = f; word = let same = sym (searched-at f g) ∙ a in cc }
         go true true f g a = let other = sym (searched-contradicting f g) ∙ a in absurd (true≢false (cc))
         go false d f g a = let other = sym (searched-nothing f) ∙ a in absurd (true≢false (cc))
@@ -168,18 +168,18 @@ pub unmarked-decided : (k kind : ℕ) (outcome : Outcome) (result : ℕ) (t : Li
 unfolding markedBy
 unmarked-decided k kind outcome result t = refl
 
-module _ (k : ℕ) (wanted : Wanted) (t : List ℕ) (s : Summary) (e : s ≡ groups.summary (matchesOf (layout k) t (wantedPage wanted))) where
+module _ (k : ℕ) (wanted : Wanted) (t : List ℕ) (s : Summary) (e : s ≡ search.summary (matchesOf (layout k) t (wantedPage wanted))) where
   -- an access done by the page marks the first match, where the search told
-  pub marked-done : (kind : ℕ) → groups.found s ≡ true
-      → let g = groupNumber (10 + k) (groups.inSecondary s) (wantedPage wanted) in
+  pub marked-done : (kind : ℕ) → search.found s ≡ true
+      → let g = groupNumber (10 + k) (search.inSecondary s) (wantedPage wanted) in
       markedBy k kind (Search wanted) 0 t
-      ≡ putAt t g (groups.entryOf s) (firstOf t g (groups.entryOf s)) (withMarks true (storing kind) (s .second))
+      ≡ putAt t g (search.entryOf s) (firstOf t g (search.entryOf s)) (withMarks true (storing kind) (s .second))
   unfolding markedBy overwrite
   marked-done kind f =
       by-list s (λ l. ((x : Match) → List·Memᴰ x l → MatchOf (layout k) t (wantedPage wanted) x)
-      → byMatches l t (λ x xs. overwrite (layout k) (wantedPage wanted) x (x .first) (withMarks true (storing kind) (x .second)) t) ≡ marked (groups.inSecondary s) (groups.entryOf s))
+      → byMatches l t (λ x xs. overwrite (layout k) (wantedPage wanted) x (x .first) (withMarks true (storing kind) (x .second)) t) ≡ marked (search.inSecondary s) (search.entryOf s))
       (matchesOf (layout k) t (wantedPage wanted)) e
-      (λ z h. absurd (true≢false (sym f ∙ ap groups.found z ∙ summary-none)))
+      (λ z h. absurd (true≢false (sym f ∙ ap search.found z ∙ summary-none)))
       (λ x xs m h.
       let own = h x (List·Memᴰ·head refl) in
       rw (place-secondary s x (m .place) (own .in-range), place-entry s x (m .place) (own .in-range), m .second)

@@ -5,7 +5,7 @@ use mathlib.Core.Path.{_≡_, refl, sym, ap, ap₂, _∙_, subst}
 use mathlib.Core.Bool.{Bool, true, false, cond, _&&_}
 use mathlib.Core.Logic.{ite, if-pos, if-neg}
 use borrow.Author.Tests.{eqb-true, eqb-false}
-use Rattle.registers.specs.Sdr1.{maskOnes}
+use Rattle.register_words.specs.Sdr1.{maskOnes}
 use mathlib.Core.List.{List, [], _∷_, _++_, map}
 use mathlib.Core.Option.{Option, none, some, Option·some-ne-none}
 use native.Mathlib.Omega.{arith}

@@ -9,8 +9,8 @@ use native.Mathlib.Omega.{arith}
 use lib.Dec.{eqb}
 use lib.ListN.{length}
 use borrow.Author.Tests.{eqb-true, eqb-false, eq-eqb, ne-eqb}
-use Rattle.registers.specs.Sdr1.{tableLength, maskOnes}
-use Rattle.registers.proofs.Sdr1.{made-ones, made-length}
+use Rattle.register_words.specs.Sdr1.{tableLength, maskOnes}
+use Rattle.register_words.proofs.Sdr1.{made-ones, made-length}
 use Rattle.tables.specs.Runs.{run, after, Each}
 use Rattle.tables.proofs.Runs.{runs-related, run-fed, after-fed}
 use Rattle.calls.specs.Request.{Request, clear, mapPage, unmap, protect, look, access, fed, sdr1In}

@@ -6,11 +6,11 @@ use Prim.Native.Nat.{ℕ, _+_}
 use lib.ListN.{length}
 use borrow.Author.Tests.{eq-eqb, ne-eqb}
 use Rattle.entry.specs.Entry.{apiOf}
-use Rattle.registers.specs.Sdr1.{maskOnes}
+use Rattle.register_words.specs.Sdr1.{maskOnes}
 use Rattle.groups.specs.Page.{Page}
 use Rattle.groups.specs.Hash.{groupNumber}
 use Rattle.groups.specs.Group.{groupOf, firstOf, secondOf}
-use Rattle.groups.specs.Search as groups
+use Rattle.matches.specs.Search as search
 use Rattle.tables.specs.Layout.{matchesIn, matchesOf}
 use Rattle.calls.specs.Request.{Request, sdr1In, fed}
 use Rattle.calls.specs.Rules.{refusal}
@@ -32,6 +32,6 @@ module _ (request : Request (List ℕ)) (t : List ℕ) where
 -- the matches of a page, by its two groups' bytes
 pub matches-by-groups : (k : ℕ) (t : List ℕ) (page : Page)
     → matchesOf (layout k) t page
-    ≡ groups.matchesOf (page .vsid) (apiOf (page .index)) (groupOf t (groupNumber (10 + k) false page)) (groupOf t (groupNumber (10 + k) true page))
-unfolding matchesOf matchesIn groups.matchesOf groups.matchesIn firstOf secondOf
+    ≡ search.matchesOf (page .vsid) (apiOf (page .index)) (groupOf t (groupNumber (10 + k) false page)) (groupOf t (groupNumber (10 + k) true page))
+unfolding matchesOf matchesIn search.matchesOf search.matchesIn firstOf secondOf
 matches-by-groups k t page = refl

@@ -12,24 +12,24 @@ use borrow.Author.Tests.{eqb-true, ltb-true, ne-eqb, not-false}
 use Rattle.words.proofs.Tests.{both}
 use Rattle.entry.specs.Entry.{secondWord, apiOf}
 use Rattle.registers.specs.Rules.{firstBroken}
-use Rattle.registers.specs.Sdr1.{sdr1Shape, tableLength, maskOnes}
+use Rattle.register_words.specs.Sdr1.{sdr1Shape, tableLength, maskOnes}
 use Rattle.registers.proofs.Set.{rule-kept}
 use Rattle.groups.specs.Page.{Page}
 use Rattle.groups.specs.Hash.{groupNumber}
 use Rattle.groups.specs.Group as groups
 use Rattle.groups.specs.Group.{groupOf, onGroup, firstOf, putAt}
-use Rattle.groups.specs.Search as search
-use Rattle.groups.specs.Search.{summary, found, contradict, merged}
-use Rattle.groups.specs.Edit as edits
-use Rattle.groups.specs.Edit.{edited, editMatches}
-use Rattle.groups.specs.declared.Edit.{Edit}
-use Rattle.groups.specs.declared.Edit.the-variants.{Clear, Protect}
+use Rattle.matches.specs.Search as search
+use Rattle.matches.specs.Search.{summary, found, contradict, merged}
+use Rattle.matches.specs.Edit as edits
+use Rattle.matches.specs.Edit.{edited, editMatches}
+use Rattle.matches.specs.declared.Edit.{Edit}
+use Rattle.matches.specs.declared.Edit.the-variants.{Clear, Protect}
 use Rattle.groups.specs.declared.Place.{Place}
 use Rattle.groups.specs.declared.Place.the-variants.{Entry, Full}
-use Rattle.groups.specs.declared.Search.{Search}
+use Rattle.matches.specs.declared.Search.{Search}
 use Rattle.groups.proofs.Hash.{own-groups-differ}
-use Rattle.groups.proofs.Summary.{Summarised, summarised, summary-none, found-none}
-use Rattle.groups.proofs.Edits.{edit-both-each}
+use Rattle.matches.proofs.Summary.{Summarised, summarised, summary-none, found-none}
+use Rattle.matches.proofs.Edits.{edit-both-each}
 use Rattle.tables.specs.Matches.{Match}
 use Rattle.tables.specs.Layout.{freeEntry, freePlace, matchesOf, overwrite, overwriteEach}
 use Rattle.calls.specs.Request.{Request, clear, mapPage, unmap, protect, look, sdr1In, fed}

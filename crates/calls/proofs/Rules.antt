@@ -7,7 +7,7 @@ use lib.Dec.{eqb, ltb}
 use lib.ListN.{length}
 use borrow.Author.Tests.{not-false, ltb-true, lt-ltb, eqb-true, eq-eqb, ne-eqb}
 use Rattle.words.proofs.Tests.{both}
-use Rattle.registers.specs.Sdr1.{sdr1Shape, tableLength}
+use Rattle.register_words.specs.Sdr1.{sdr1Shape, tableLength}
 use Rattle.registers.specs.Set.{sdr1Of, sideShape, sideApart, segmentsShape, registerWords}
 use Rattle.registers.proofs.Set.{rule-kept}
 use Rattle.groups.specs.Page.{Page, InRange}

@@ -10,13 +10,13 @@ use Rattle.placement.specs.FiniteMap.{fieldsAt, takeOut, revise, mappedPages}
 use Rattle.placement.proofs.FiniteMap.{revise-unmapped}
 use Rattle.registers.specs.Set.{registerWords}
 use Rattle.groups.proofs.Hash.{samePage-refl, samePage-eq}
-use Rattle.groups.proofs.Summary.{merged-one}
+use Rattle.matches.proofs.Summary.{merged-one}
 use Rattle.entry.specs.Entry.{apiOf, referenced, changed, withMarks, withPP}
 use Rattle.entry.proofs.Addresses.{api-lt}
 use Rattle.entry.proofs.Matches.{match-own, free-zero}
 use Rattle.entry.proofs.Packing.{first-lt}
 use Rattle.groups.specs.Page.{Page, InRange, samePage}
-use Rattle.groups.specs.Search.{hOf, contradict}
+use Rattle.matches.specs.Search.{hOf, contradict}
 use Rattle.tables.specs.Layout.{matchesOf, freePlace, overwriteEach}
 use Rattle.tables.proofs.Represented.{OneMatch, unmapped-matches, mapped-match, full-branch, free-branch}
 use Rattle.tables.proofs.Steps.{represents-putIn, represents-takeOut, represents-revise, represents-revise-first}

@@ -8,9 +8,9 @@ use lib.ListN.{length, replicate, length-replicate}
 use Rattle.entry.specs.Entry.{apiOf, free}
 use Rattle.entry.proofs.Matches.{match-used, free-zero}
 use Rattle.groups.specs.Page.{InRange, samePage}
-use Rattle.groups.specs.Search.{hOf}
+use Rattle.matches.specs.Search.{hOf}
 use Rattle.groups.proofs.Hash.{group-mirror, samePage-refl, samePage-eq, within-bytes}
-use Rattle.groups.proofs.Matches.{tells}
+use Rattle.matches.proofs.Matches.{tells}
 use Rattle.groups.proofs.Stored.{words-fit, stored-keeps-bytes, stored-length, stored-same, stored-other-entry, stored-elsewhere, zeroed-words, zeroed-bytes}
 use Rattle.tables.specs.Layout.{groups, LayoutLaws}
 use Rattle.tables.proofs.Steps.{represents-empty}

@@ -7,8 +7,8 @@ use mathlib.Core.Logic.{ite, if-pos, if-neg}
 use mathlib.Core.Option.{Option, none, some}
 use lib.ListN.{length, replicate}
 use Rattle.placement.specs.FiniteMap.{fieldsAt, putIn, mappedPages}
-use Rattle.registers.specs.Sdr1.{sdr1Shape, tableLength}
-use Rattle.registers.proofs.Sdr1.{made-length, made-shape}
+use Rattle.register_words.specs.Sdr1.{sdr1Shape, tableLength}
+use Rattle.register_words.proofs.Sdr1.{made-length, made-shape}
 use Rattle.groups.specs.Page.{Page, InRange, samePage}
 use Rattle.tables.specs.Runs.{Each}
 use Rattle.calls.specs.Request.{Request, clear, mapPage, unmap, protect, look, fed, sdr1In}

@@ -6,12 +6,12 @@ use mathlib.Core.Option.{Option, none, some}
 use lib.Dec.{eqb}
 use lib.ListN.{length, replicate}
 use Rattle.entry.specs.Entry.{firstWord, secondWord, matches, free, apiOf, withMarks, withPP}
-use Rattle.registers.specs.Sdr1.{maskOnes}
+use Rattle.register_words.specs.Sdr1.{maskOnes}
 use Rattle.registers.specs.Set.{registerWords}
 use Rattle.groups.specs.Page.{Page}
 use Rattle.groups.specs.Hash.{groupNumber}
 use Rattle.groups.specs.Group.{firstOf, secondOf, putAt}
-use Rattle.groups.specs.Search.{hOf, contradict, merged}
+use Rattle.matches.specs.Search.{hOf, contradict, merged}
 use Rattle.tables.specs.Matches.{Match}
 use Rattle.tables.specs.Layout.{Layout, matchesOf, freePlace, overwrite, overwriteEach}
 use Rattle.translation.specs.Access.{storing}

@@ -9,7 +9,7 @@ use Rattle.placement.specs.Lists.{oneIf}
 use Rattle.placement.specs.Placement.{Arrangement}
 use Rattle.placement.specs.Decision.{arrangement?}
 use Rattle.placement.specs.FiniteMap.{fieldsAt, putIn, takeOut, revise, mappedPages}
-use Rattle.registers.specs.Sdr1.{maskOnes}
+use Rattle.register_words.specs.Sdr1.{maskOnes}
 use Rattle.registers.specs.Set.{registerWords}
 use Rattle.groups.specs.Page.{Page, samePage}
 use Rattle.groups.specs.Hash.{groupNumber}

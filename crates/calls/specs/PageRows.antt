@@ -10,14 +10,14 @@ use Rattle.words.specs.Ones.{bitLength, lowOnes}
 use Rattle.words.specs.Rows.{Hold}
 use Rattle.words.specs.Words.{wordBytes, wordAt, withWord, bytesOf, wordsAt}
 use Rattle.entry.specs.Entry.{firstWord, secondWord, matches, free, apiOf, pageIndex, referenced, changed, withMarks, withPP, physicalAddress}
-use Rattle.registers.specs.Sdr1.{sdr1Shape, tableLength}
-use Rattle.registers.specs.Segment.{segmentShape, keyOf, noExecute, segmentVsid}
-use Rattle.registers.specs.Block.{off, validFor, commonV, upperShape, lowerShape, blockShape, inBlock, shareAddress, clash, covers}
+use Rattle.register_words.specs.Sdr1.{sdr1Shape, tableLength}
+use Rattle.register_words.specs.Segment.{segmentShape, keyOf, noExecute, segmentVsid}
+use Rattle.register_words.specs.Block.{off, validFor, commonV, upperShape, lowerShape, blockShape, inBlock, shareAddress, clash, covers}
 use Rattle.registers.specs.Set.{segmentsShape, sideShape, pairApart, sideApart, pairCovers, coveringPair, registerWords}
 use Rattle.groups.specs.Page.{Page}
 use Rattle.groups.specs.Hash.{hashOf, primaryGroup, secondaryGroup, groupNumber}
 use Rattle.groups.specs.Group.{groupOf, putGroup, onGroup, firstAt, secondAt, putEntry, firstOf, secondOf, putAt}
-use Rattle.groups.specs.Search.{agree, contradict, merged}
+use Rattle.matches.specs.Search.{agree, contradict, merged}
 use Rattle.tables.specs.Matches.{matchesBelow}
 use Rattle.tables.specs.Layout.{matchesIn, matchesOf, freeEntry, freePlace, overwrite, overwriteEach}
 use Rattle.translation.specs.Access.{userMode, fetching, storing, relocated, sideOf}

@@ -5,7 +5,7 @@ use mathlib.Core.List.{List, [], _∷_, _++_}
 use lib.Dec.{eqb, ltb}
 use lib.ListN.{length}
 use Rattle.registers.specs.Rules.{firstBroken}
-use Rattle.registers.specs.Sdr1.{sdr1Shape, tableLength}
+use Rattle.register_words.specs.Sdr1.{sdr1Shape, tableLength}
 use Rattle.registers.specs.Set.{sdr1Of, registerRules, registerWords}
 use Rattle.groups.specs.Page.{Page}
 use Rattle.calls.specs.Request.{Request, clear, mapPage, unmap, protect, look, access}

@@ -9,9 +9,9 @@ use Rattle.words.specs.Rows.{Hold}
 use Rattle.words.specs.Words.{wordBytes, wordAt, withWord, bytesOf, wordsAt}
 use Rattle.entry.specs.Entry.{firstWord, secondWord, withinWidths, packed, unpacked}
 use Rattle.entry.specs.Tables.{fields}
-use Rattle.registers.specs.Sdr1.{sdr1Shape}
-use Rattle.registers.specs.Segment.{segmentShape}
-use Rattle.registers.specs.Block.{off, commonV, upperShape, lowerShape, blockShape, shareAddress, clash}
+use Rattle.register_words.specs.Sdr1.{sdr1Shape}
+use Rattle.register_words.specs.Segment.{segmentShape}
+use Rattle.register_words.specs.Block.{off, commonV, upperShape, lowerShape, blockShape, shareAddress, clash}
 use Rattle.registers.specs.Set.{segmentsShape, sideShape, pairApart, sideApart, checkWords, registerWords, replaced}
 use Rattle.calls.specs.Lent.{left, ofLength}
 use Rattle.calls.specs.WithoutTable.{checkCall, setRegisterCall, packCall, unpackCall}

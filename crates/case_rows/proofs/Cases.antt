@@ -5,13 +5,13 @@ use Rattle.words.specs.Below.{everyBelow, firstBelow}
 use Rattle.words.specs.Ones.{bitLength, lowOnes}
 use Rattle.words.specs.Words.{wordBytes, wordAt, withWord, bytesOf, wordsAt}
 use Rattle.entry.specs.Entry.{firstWord, secondWord, matches, free, apiOf, pageIndex, withMarks, physicalAddress}
-use Rattle.registers.specs.Sdr1.{sdr1Shape, tableLength, maskOnes, hashBits}
-use Rattle.registers.specs.Segment.{segmentShape, keyOf, noExecute, segmentVsid}
-use Rattle.registers.specs.Block.{off, validFor, commonV, upperShape, lowerShape, blockShape, inBlock, shareAddress, clash, covers, blockAttributes, blockPP, blockPhysical}
+use Rattle.register_words.specs.Sdr1.{sdr1Shape, tableLength, maskOnes, hashBits}
+use Rattle.register_words.specs.Segment.{segmentShape, keyOf, noExecute, segmentVsid}
+use Rattle.register_words.specs.Block.{off, validFor, commonV, upperShape, lowerShape, blockShape, inBlock, shareAddress, clash, covers, blockAttributes, blockPP, blockPhysical}
 use Rattle.registers.specs.Set.{segmentsShape, sideShape, pairApart, sideApart, pairCovers, coveringPair, checkWords, registerWords}
 use Rattle.groups.specs.Page.{samePage}
 use Rattle.groups.specs.Hash.{hashOf, primaryGroup, secondaryGroup, groupNumber, groupAddress}
-use Rattle.groups.specs.Search.{agree, contradict}
+use Rattle.matches.specs.Search.{agree, contradict}
 use Rattle.groups.specs.Group.{firstAt, secondAt, putEntry}
 use Rattle.tables.specs.Matches.{matchesBelow}
 use Rattle.tables.specs.Layout.{matchesIn, matchesOf, freeEntry, freePlace, overwrite}

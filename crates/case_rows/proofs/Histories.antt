@@ -9,8 +9,8 @@ use lib.Dec.{eqb}
 use lib.ListN.{length, replicate}
 use borrow.Author.Tests.{eqb-true}
 use Rattle.words.proofs.Tests.{both}
-use Rattle.registers.specs.Sdr1.{tableLength}
-use Rattle.registers.proofs.Sdr1.{made-length, made-shape}
+use Rattle.register_words.specs.Sdr1.{tableLength}
+use Rattle.register_words.proofs.Sdr1.{made-length, made-shape}
 use Rattle.tables.specs.Runs.{run, Each}
 use Rattle.calls.specs.Request.{Request, clear, sdr1In, fed}
 use Rattle.calls.specs.Answers.{compared}

@@ -14,13 +14,13 @@ use borrow.Author.Tests.{eqb-true}
 use Rattle.words.specs.Words.{bytesOf}
 use Rattle.words.proofs.Tests.{both, cond-by}
 use Rattle.entry.specs.Entry.{secondWord, matches, free, apiOf, withMarks, withPP}
-use Rattle.registers.specs.Sdr1.{tableLength, maskOnes}
-use Rattle.registers.proofs.Sdr1.{made-ones, made-length}
+use Rattle.register_words.specs.Sdr1.{tableLength, maskOnes}
+use Rattle.register_words.proofs.Sdr1.{made-ones, made-length}
 use Rattle.registers.specs.Set.{registerWords}
 use Rattle.groups.specs.Page.{Page}
 use Rattle.groups.specs.Hash.{groupNumber}
 use Rattle.groups.specs.Group.{groupOf, firstAt, secondAt, firstOf, secondOf, putEntry, putAt}
-use Rattle.groups.specs.Search.{hOf, contradict, merged}
+use Rattle.matches.specs.Search.{hOf, contradict, merged}
 use Rattle.groups.proofs.Hash.{within-bytes}
 use Rattle.groups.proofs.Stored.{stored-length, stored-group, stored-other-group}
 use Rattle.tables.specs.Matches.{Match}

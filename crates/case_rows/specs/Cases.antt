@@ -8,7 +8,7 @@ use mathlib.Core.Path.{_≡_}
 use lib.ListN.{length, replicate}
 use Rattle.words.specs.Words.{bytesOf}
 use Rattle.entry.specs.Entry.{pageIndex}
-use Rattle.registers.specs.Sdr1.{tableLength, hashBits}
+use Rattle.register_words.specs.Sdr1.{tableLength, hashBits}
 use Rattle.groups.specs.Page.{Page}
 use Rattle.groups.specs.Hash.{hashOf, groupNumber, groupAddress}
 use Rattle.groups.specs.Group.{groupOf}

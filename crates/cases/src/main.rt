@@ -127,7 +127,7 @@ fn maps_after(one: u32, vsid: u32, index: u32) -> bool {
 
 fn case1() -> bool {
     let hash = groups::hash_of(VSID, INDEX);
-    let numbers = groups::groups_of(registers::hash_mask(0x0F980007), hash);
+    let numbers = groups::groups_of(register_words::hash_mask(0x0F980007), hash);
     let primary = groups::group_address(0x0F980007, numbers.primary);
     let secondary = groups::group_address(0x0F980007, numbers.secondary);
     (hash == 0x47FE6) & (primary == 0x0F9FF980) & (secondary == 0x0F980640)
@@ -177,7 +177,7 @@ fn case5() -> bool {
 
 fn case6() -> bool {
     let hash = groups::hash_of(VSID, INDEX);
-    let numbers = groups::groups_of(registers::hash_mask(SDR1), hash);
+    let numbers = groups::groups_of(register_words::hash_mask(SDR1), hash);
     (numbers.primary == 0x3E6) & (numbers.secondary == 0x019)
 }
 

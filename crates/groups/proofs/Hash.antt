@@ -15,8 +15,8 @@ use Rattle.words.specs.Ones.{lowOnes}
 use Rattle.words.proofs.Masks.{or-sum}
 use Rattle.words.proofs.Tests.{both}
 use Rattle.entry.specs.Entry.{apiOf}
-use Rattle.registers.specs.Sdr1.{originOf, maskOf, sdr1Shape, tableLength, maskOnes, hashBits}
-use Rattle.registers.proofs.Sdr1.{mask-is, ones-at-most-9, length-is}
+use Rattle.register_words.specs.Sdr1.{originOf, maskOf, sdr1Shape, tableLength, maskOnes, hashBits}
+use Rattle.register_words.proofs.Sdr1.{mask-is, ones-at-most-9, length-is}
 use Rattle.groups.specs.Page.{Page, samePage}
 use Rattle.groups.specs.Hash.{hashOf, primaryGroup, secondaryGroup, groupsOf, groupNumber, groupAddress}
 

@@ -5,8 +5,4 @@ pub mod Entries
 pub mod Stored
 pub mod Lent
 pub mod Free
-pub mod Matches
-pub mod Summary
-pub mod Edits
-pub mod Alone
 pub mod Tables

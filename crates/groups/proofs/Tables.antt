@@ -3,28 +3,22 @@ use mathlib.Core.Path.{refl}
 use Rattle.words.specs.Below.{firstBelow}
 use Rattle.words.specs.Ones.{bitLength}
 use Rattle.words.specs.Words.{wordBytes, wordAt, withWord, bytesOf}
-use Rattle.entry.specs.Entry.{matches, free, referenced, changed, withMarks, withPP}
-use Rattle.registers.specs.Sdr1.{maskOnes, hashBits}
-use Rattle.tables.specs.Matches.{matchesBelow}
+use Rattle.entry.specs.Entry.{free}
+use Rattle.register_words.specs.Sdr1.{maskOnes, hashBits}
 use Rattle.groups.specs.Page.{samePage}
 use Rattle.groups.specs.Hash.{hashOf, primaryGroup, secondaryGroup, groupNumber, groupAddress}
 use Rattle.groups.specs.Group.{groupOf, putGroup, onGroup, firstAt, secondAt, putEntry, freeAt, freeEntry, freePlace, firstOf, secondOf, putAt}
-use Rattle.groups.specs.Search.{matchesIn, matchesOf, agree, contradict, merged, summary}
-use Rattle.groups.specs.Edit.{edited, editEach, editMatches}
 use Rattle.groups.specs.Tables.{GroupsTables}
 
 pub groups-tables : GroupsTables
-unfolding hashOf primaryGroup secondaryGroup groupNumber groupAddress samePage bitLength maskOnes hashBits wordBytes wordAt withWord bytesOf firstBelow matches free referenced changed withMarks withPP matchesBelow groupOf putGroup onGroup firstAt secondAt putEntry freeAt freeEntry freePlace firstOf secondOf putAt matchesIn matchesOf agree contradict merged summary edited editEach editMatches
+unfolding hashOf primaryGroup secondaryGroup groupNumber groupAddress samePage bitLength maskOnes hashBits wordBytes wordAt withWord bytesOf firstBelow free groupOf putGroup onGroup firstAt secondAt putEntry freeAt freeEntry freePlace firstOf secondOf putAt
 groups-tables = record {
   hashes = record { equal = refl };
   case-1 = record { equal = refl };
   same-group = refl;
   groups = record { equal = refl };
   pages = record { equal = refl };
-  found = record { equal = refl };
-  summaries = record { equal = refl };
   free-places = record { equal = refl };
-  edits = record { equal = refl };
   stored = record { equal = refl };
   words = record { equal = refl };
 }

@@ -3,7 +3,7 @@ use Prim.Native.Nat.{ℕ, _+_, _-_, _*_, _%_, _^_}
 use mathlib.Core.Bool.{Bool, cond}
 use lib.Bits.{bitXor}
 use Rattle.words.specs.Bits.{placed}
-use Rattle.registers.specs.Sdr1.{originOf}
+use Rattle.register_words.specs.Sdr1.{originOf}
 use Rattle.groups.specs.Page.{Page}
 use Rattle.groups.specs.declared.Groups.{Groups}
 

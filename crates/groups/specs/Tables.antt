@@ -1,32 +1,20 @@
--- Worked examples of hash, groups, search and edits, each row closed by computation: document 01's cases 1, 6 and 11, the manual's group addresses,
--- and a group of 64 bytes with twins, a match that contradicts, matches of the other H and free entries.
+-- Worked examples of hash, groups and free entries, each row closed by computation: document 01's cases 1, 6 and 11, the manual's group addresses,
+-- and a group of 64 bytes with used and free entries.
 use Prim.Native.Nat.{ℕ, _^_}
-use mathlib.Core.Bool.{Bool, true, false}
+use mathlib.Core.Bool.{true, false}
 use mathlib.Core.List.{List, [], _∷_, _++_, map}
 use mathlib.Core.Path.{_≡_}
 use lib.ListN.{replicate}
 use Rattle.words.specs.Rows.{Hold}
 use Rattle.words.specs.Words.{bytesOf}
-use Rattle.registers.specs.Sdr1.{hashBits}
-use Rattle.tables.specs.Matches.{Match}
+use Rattle.register_words.specs.Sdr1.{hashBits}
 use Rattle.groups.specs.Page.{Page, samePage}
 use Rattle.groups.specs.Hash.{hashOf, groupNumber, groupAddress}
 use Rattle.groups.specs.Group.{groupOf, firstOf, secondOf, putAt, freePlace}
-use Rattle.groups.specs.Search.{matchesIn, matchesOf, summary}
-use Rattle.groups.specs.Edit.{editMatches}
 use Rattle.groups.specs.declared.Place.the-variants.{Entry, Full}
-use Rattle.groups.specs.declared.Edit.the-variants.{Clear, Protect}
-use Rattle.groups.specs.declared.Search.{Search}
 
 abbrev pub page : ℕ → ℕ → Page
 page vsid index = record { vsid = vsid; index = index }
-
-abbrev pub matched : Bool → ℕ → ℕ → ℕ → Match
-matched secondary entry first second = record { secondary = secondary; entry = entry; first = first; second = second }
-
--- what a search tells: place and second word of the first match, that word merged, whether there is a further match, whether one contradicts
-abbrev pub told : ℕ → ℕ → ℕ → Bool → Bool → Search
-told place second merged several differs = record { place = place; second = second; merged = merged; several = several; differs = differs }
 
 -- VSID 0x0C701C and API 3 match in entries 1, 3 and 6 with H = 0 and in entry 0 with H = 1; entries 2 and 5 are free
 abbrev pub mixed : ℕ → ℕ → ℕ → ℕ → ℕ → ℕ → List ℕ
@@ -92,33 +80,6 @@ pub record GroupsTables : Type 0 where
       ∷ (samePage (page 1 2) (page 1 3), false)
       ∷ []
       )
-  -- every match is found, in order, and H tells which
-  pub found : Hold (
-      (matchesIn true 0x0C701C 3 example, matched true 0 0x86380E43 0x12345012 ∷ [])
-      ∷ (
-        matchesIn false 0x0C701C 3 example,
-        matched false 1 0x86380E03 0x12345E96 ∷ matched false 3 0x86380E03 0x12345E96 ∷ matched false 6 0x86380E03 0x12345112 ∷ [],
-      )
-      ∷ (matchesIn false 0x0C701D 3 example, matched false 4 0x86380E83 0x12345E96 ∷ [])
-      ∷ (matchesIn true 0xFFFFFF 63 example, matched true 7 0xFFFFFFFF 0xFFFFFFFF ∷ [])
-      ∷ (matchesIn false 0xFFFFFF 63 example, [])
-      ∷ (matchesIn false 0x0C701C 2 example, [])
-      ∷ []
-      )
-  -- the first match in search order, its second word with R and C of any, a further one, and one that contradicts; twins do not contradict
-  pub summaries : Hold (
-      (summary (matchesOf 0x0C701C 3 example example), told 17 0x12345E96 0x12345F96 true true)
-      ∷ (summary (matchesOf 0x0C701C 3 full example), told 24 0x12345012 0x12345012 false false)
-      ∷ (summary (matched false 1 0x86380E03 0x12345E96 ∷ matched false 3 0x86380E03 0x12345E96 ∷ []), told 17 0x12345E96 0x12345E96 true false)
-      ∷ (summary (matched false 6 0x86380E03 0x12345112 ∷ matched true 0 0x86380E43 0x12345012 ∷ []), told 22 0x12345112 0x12345112 true true)
-      ∷ (summary (matched true 0 0x86380E43 0x12345012 ∷ matched true 6 0x86380E43 0x12345E96 ∷ []), told 24 0x12345012 0x12345092 true true)
-      ∷ (
-        summary (matched false 1 0x86380E03 0x12345012 ∷ matched false 2 0x86380E03 0x12345016 ∷ matched true 0 0x86380E43 0x12345012 ∷ []),
-        told 17 0x12345012 0x12345012 true true,
-      )
-      ∷ (summary (matchesOf 0x0C701C 2 example example), told 0 0 0 false false)
-      ∷ []
-      )
   -- the first free entry: of the primary group, of the secondary where the primary is full, or none
   pub free-places : Hold (
       (freePlace example last, Entry false 2)
@@ -128,14 +89,6 @@ pub record GroupsTables : Type 0 where
       ∷ (freePlace (replicate 64 0) example, Entry false 0)
       ∷ (freePlace full (replicate 64 0), Entry true 0)
       ∷ (freePlace full full, Full)
-      ∷ []
-      )
-  -- eight zero bytes over each match; another PP in each, every other bit kept, the ignored ones too; and the match of the other H alone
-  pub edits : Hold (
-      (editMatches Clear false 0x0C701C 3 example, mixed 0 0 0 0 0 0)
-      ∷ (editMatches (Protect 1) false 0x0C701C 3 example, mixed 0x86380E03 0x12345E95 0x86380E03 0x12345E95 0x86380E03 0x12345111)
-      ∷ (editMatches Clear true 0xFFFFFF 63 full, replicate 64 0)
-      ∷ (editMatches Clear false 0xFFFFFF 63 full, full)
       ∷ []
       )
   -- groups of a table, and an entry put in one

@@ -9,7 +9,7 @@ ghost use Prim.Native.Nat.{_<_, _^_};
 ghost use lib.Dec.{ltb};
 ghost use lib.ListN.{length};
 ghost use Rattle.registers.specs.Rules.{firstBroken};
-ghost use Rattle.registers.specs.Sdr1.{sdr1Shape, tableLength, maskOnes};
+ghost use Rattle.register_words.specs.Sdr1.{sdr1Shape, tableLength, maskOnes};
 ghost use Rattle.calls.specs.Request.{mapPage, unmap, protect, look};
 ghost use Rattle.calls.specs.Rules.{pageInRange, writeThroughInhibited, tableRules};
 ghost use Rattle.calls.specs.Answers.{wordAnswer};
@@ -43,10 +43,10 @@ pub fn page_refusal(fits: bool, sdr1: u32, lent: usize) -> u32
     if !fits {
         return 6;
     }
-    if !registers::sdr1_shape(sdr1) {
+    if !register_words::sdr1_shape(sdr1) {
         return 2;
     }
-    if lent != registers::table_length(sdr1) {
+    if lent != register_words::table_length(sdr1) {
         return 1;
     }
     0
@@ -68,7 +68,7 @@ pub fn map_page(
         ≡ bytesDo (maskOnes sdr1) (mapPage sdr1 (record { vsid = vsid; index = index }) rpn wimg pp) (now (table .entry)) ⌝ }
 {
     let at = locate(sdr1, vsid, index);
-    let search = groups::search_both(table, at.primary, at.secondary, vsid, at.api);
+    let search = matches::search_both(table, at.primary, at.secondary, vsid, at.api);
     if search.found() {
         return 7;
     }
@@ -90,18 +90,18 @@ pub fn unmap_page(sdr1: u32, vsid: u32, index: u32, table: &mut [u8]) -> WordAns
         ≡ bytesDo (maskOnes sdr1) (unmap sdr1 (record { vsid = vsid; index = index }) []) (now (table .entry)) ⌝ }
 {
     let at = locate(sdr1, vsid, index);
-    let search = groups::search_both(table, at.primary, at.secondary, vsid, at.api);
+    let search = matches::search_both(table, at.primary, at.secondary, vsid, at.api);
     if !search.found() {
         return WordAnswer { result: 8, word: 0 };
     }
-    groups::edit_found(
+    matches::edit_found(
         table,
         at.primary,
         at.secondary,
         vsid,
         at.api,
         search,
-        groups::Edit::Clear,
+        matches::Edit::Clear,
     );
     WordAnswer {
         result: 0,
@@ -116,18 +116,18 @@ pub fn protect_page(sdr1: u32, vsid: u32, index: u32, pp: u32, table: &mut [u8])
         ≡ bytesDo (maskOnes sdr1) (protect sdr1 (record { vsid = vsid; index = index }) pp) (now (table .entry)) ⌝ }
 {
     let at = locate(sdr1, vsid, index);
-    let search = groups::search_both(table, at.primary, at.secondary, vsid, at.api);
+    let search = matches::search_both(table, at.primary, at.secondary, vsid, at.api);
     if !search.found() {
         return 8;
     }
-    groups::edit_found(
+    matches::edit_found(
         table,
         at.primary,
         at.secondary,
         vsid,
         at.api,
         search,
-        groups::Edit::Protect(pp),
+        matches::Edit::Protect(pp),
     );
     0
 }
@@ -139,7 +139,7 @@ pub fn look_page(sdr1: u32, vsid: u32, index: u32, table: &[u8]) -> WordAnswer
         ≡ bytesDo (maskOnes sdr1) (look sdr1 (record { vsid = vsid; index = index }) []) (now (table .entry)) ⌝ }
 {
     let at = locate(sdr1, vsid, index);
-    let search = groups::search_both(table, at.primary, at.secondary, vsid, at.api);
+    let search = matches::search_both(table, at.primary, at.secondary, vsid, at.api);
     if !search.found() {
         return WordAnswer { result: 8, word: 0 };
     }

@@ -3,7 +3,7 @@ ghost use mathlib.Core.Path.{_≡_};
 ghost use mathlib.Core.Bool.{true, false, cond};
 ghost use Prim.Native.Nat.{_+_};
 ghost use Rattle.entry.specs.Entry.{apiOf};
-ghost use Rattle.registers.specs.Sdr1.{sdr1Shape, maskOnes};
+ghost use Rattle.register_words.specs.Sdr1.{sdr1Shape, maskOnes};
 ghost use Rattle.groups.specs.Hash.{groupNumber};
 
 // A page's two groups and the API of its entries.
@@ -22,7 +22,7 @@ pub fn locate(sdr1: u32, vsid: u32, index: u32) -> Located
       api = apiOf index;
     } ⌝ }
 {
-    let ones = registers::hash_mask(sdr1);
+    let ones = register_words::hash_mask(sdr1);
     let numbers = groups::groups_of(ones, groups::hash_of(vsid, index));
     Located {
         primary: numbers.primary as usize,

@@ -7,7 +7,7 @@ use native.Mathlib.Omega.{arith}
 use lib.Dec.{ltb, lit≤}
 use borrow.Author.Tests.{not-false, ltb-true}
 use Rattle.words.proofs.Tests.{both}
-use Rattle.registers.specs.Sdr1.{sdr1Shape}
+use Rattle.register_words.specs.Sdr1.{sdr1Shape}
 use Rattle.registers.specs.Set.{sdr1Of, segmentsShape, sideStart, sideShape, sideApart, checkWords, replaced}
 use Rattle.registers.specs.declared.Registers.{Registers}
 

@@ -5,7 +5,7 @@ use mathlib.Core.List.{List}
 use mathlib.Core.Logic.{_↔_}
 use mathlib.Core.Path.{_≡_}
 use Rattle.words.specs.Ones.{bitLength}
-use Rattle.registers.specs.Block.{blOf, upperShape, inBlock, shareAddress}
+use Rattle.register_words.specs.Block.{blOf, upperShape, inBlock, shareAddress}
 use Rattle.registers.specs.Set.{checkWords, pairCovers}
 
 pub record BlocksDecide (pairs width : ℕ) : Type 0 where

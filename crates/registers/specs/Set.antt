@@ -8,9 +8,9 @@ use lib.ListN.{getD, set}
 use Rattle.words.specs.Below.{everyBelow, firstBelow}
 use Rattle.words.specs.Words.{wordsAt}
 use Rattle.registers.specs.Rules.{firstBroken}
-use Rattle.registers.specs.Sdr1.{sdr1Shape}
-use Rattle.registers.specs.Segment.{segmentShape}
-use Rattle.registers.specs.Block.{blockShape, clash, covers}
+use Rattle.register_words.specs.Sdr1.{sdr1Shape}
+use Rattle.register_words.specs.Segment.{segmentShape}
+use Rattle.register_words.specs.Block.{blockShape, clash, covers}
 use Rattle.registers.specs.declared.Registers.{Registers}
 use Rattle.registers.specs.declared.Replaced.{Replaced}
 

@@ -1,12 +1,8 @@
 // The register set: SDR1, sixteen segment registers and four block pairs a side, its check and the block that covers an address.
 ghost use mathlib.Core.Path.{_≡_};
-ghost use mathlib.Core.Bool.{true};
-ghost use Prim.Native.Nat.{_-_, _<_, _^_};
+ghost use Prim.Native.Nat.{_<_};
 ghost use lib.ListN.{length};
-ghost use Rattle.registers.specs.Sdr1.{sdr1Shape, tableLength, hashBits};
-ghost use Rattle.registers.specs.Segment.{segmentShape};
 ghost use Rattle.registers.specs.Set.{segmentOf, segmentsShape, sideStart, upperOf, lowerOf, sideShape, pairApart, sideApart, checkWords, replaced, registerWords, coveringPair};
-ghost use Rattle.registers.specs.Block.{blockShape, clash, covers, inBlock, blockPhysical};
 
 // The words of the register page in order: SDR1, segments 0 to 15, four instruction pairs, four data pairs.
 pub struct Registers {
@@ -17,89 +13,6 @@ pub struct Registers {
 pub struct Replaced {
     pub result: u32,
     pub set: Registers,
-}
-
-// Whether SDR1 has its shape.
-pub fn sdr1_shape(sdr1: u32) -> bool
-    ensures { λ r. ⌜ r ≡ sdr1Shape sdr1 ⌝ }
-{
-    let mask = sdr1 & 0x1FF;
-    words::low_ones(mask) & ((sdr1 >> 9) & 0x7F == 0) & ((sdr1 >> 16) & mask == 0)
-}
-
-// The length in bytes of the table of an SDR1.
-pub fn table_length(sdr1: u32) -> usize
-    ensures { λ r. ⌜ r ≡ tableLength sdr1 ⌝ }
-{
-    65536 * ((sdr1 % 512) as usize + 1)
-}
-
-// The ones that a hash is masked with: the mask of SDR1 and ten ones below it.
-pub fn hash_mask(sdr1: u32) -> u32
-    requires { ⌜ sdr1Shape sdr1 ≡ true ⌝ }
-    ensures { λ r. ⌜ r ≡ 2 ^ hashBits sdr1 - 1 ⌝ }
-{
-    ((sdr1 & 0x1FF) << 10) | 0x3FF
-}
-
-// Whether a segment register has its shape.
-pub fn segment_shape(word: u32) -> bool
-    ensures { λ r. ⌜ r ≡ segmentShape word ⌝ }
-{
-    (word >> 31 == 0) & ((word >> 24) & 0xF == 0)
-}
-
-// Whether a block pair has the shape of its side; a pair that is off may hold anything.
-pub fn block_shape(side: bool, upper: u32, lower: u32) -> bool
-    ensures { λ r. ⌜ r ≡ blockShape 11 side upper lower ⌝ }
-{
-    if upper & 3 == 0 {
-        return true;
-    }
-    let bl = (upper >> 2) & 0x7FF;
-    if !words::low_ones(bl) {
-        return false;
-    }
-    // W and G, which are zero in an instruction block; a mask by the side, since one mask serves all blocks of a side.
-    let side_zeros = if side { 0 } else { 0x48 };
-    let upper_good = ((upper >> 13) & 0xF == 0) & ((upper >> 17) & bl == 0);
-    let lower_good = ((lower >> 17) & bl == 0)
-        & ((lower >> 7) & 0x3FF == 0)
-        & ((lower >> 2) & 1 == 0)
-        & ((lower >> 5) & 3 != 3)
-        & (lower & side_zeros == 0);
-    upper_good & lower_good
-}
-
-// Whether two blocks have a V bit in common and share an effective address.
-pub fn blocks_clash(first: u32, second: u32) -> bool
-    ensures { λ r. ⌜ r ≡ clash 11 first second ⌝ }
-{
-    let either = ((first >> 2) & 0x7FF) | ((second >> 2) & 0x7FF);
-    ((first & 3) & (second & 3) != 0) & (either | (first >> 17) == either | (second >> 17))
-}
-
-// Whether the address with the block's BL bits and the low 17 removed is the block's start.
-pub fn in_block(upper: u32, address: u32) -> bool
-    ensures { λ r. ⌜ r ≡ inBlock 11 upper address ⌝ }
-{
-    (address >> 17) & (0x7FFF - ((upper >> 2) & 0x7FF)) == upper >> 17
-}
-
-// Whether a block is valid for the user or the supervisor and holds the address.
-pub fn block_covers(user: bool, upper: u32, address: u32) -> bool
-    ensures { λ r. ⌜ r ≡ covers 11 user upper address ⌝ }
-{
-    let valid = if user { upper & 1 } else { (upper >> 1) & 1 };
-    (valid == 1) & in_block(upper, address)
-}
-
-// The physical address of an address in a block.
-pub fn block_physical(upper: u32, lower: u32, address: u32) -> u32
-    ensures { λ r. ⌜ r ≡ blockPhysical 11 upper lower address ⌝ }
-{
-    let start = (lower >> 17) | ((address >> 17) & ((upper >> 2) & 0x7FF));
-    (start << 17) | (address & 0x1FFFF)
 }
 
 // The number of the first word of a side's pairs; the side is true for data and false for instructions.
@@ -117,7 +30,7 @@ pub fn side_shape(words: &[u32; 33], side: bool) -> bool
     let mut i: usize = 0;
     while i < 4 {
         let at = start + 2 * i;
-        if !block_shape(side, words[at], words[at + 1]) {
+        if !register_words::block_shape(side, words[at], words[at + 1]) {
             return false;
         }
         i += 1;
@@ -138,7 +51,7 @@ pub fn pair_apart(words: &[u32; 33], side: bool, j: usize) -> bool
     }
     let mut i: usize = 0;
     while i < j {
-        if blocks_clash(words[start + 2 * i], own) {
+        if register_words::blocks_clash(words[start + 2 * i], own) {
             return false;
         }
         i += 1;
@@ -166,7 +79,7 @@ pub fn segments_shape(words: &[u32; 33]) -> bool
 {
     let mut i: usize = 0;
     while i < 16 {
-        if !segment_shape(words[1 + i]) {
+        if !register_words::segment_shape(words[1 + i]) {
             return false;
         }
         i += 1;
@@ -178,7 +91,7 @@ pub fn segments_shape(words: &[u32; 33]) -> bool
 pub fn check_words(words: &[u32; 33]) -> u32
     ensures { λ r. ⌜ r ≡ checkWords 4 11 (now (words .entry)) ⌝ }
 {
-    if !sdr1_shape(words[0]) {
+    if !register_words::sdr1_shape(words[0]) {
         return 2;
     }
     if !(side_shape(words, false) & side_shape(words, true)) {
@@ -226,7 +139,7 @@ pub fn covering_pair(words: &[u32; 33], side: bool, user: bool, address: u32) ->
     let start = side_start(side);
     let mut i: usize = 0;
     while i < 4 {
-        if block_covers(user, words[start + 2 * i], address) {
+        if register_words::block_covers(user, words[start + 2 * i], address) {
             return i;
         }
         i += 1;

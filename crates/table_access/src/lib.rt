@@ -7,9 +7,9 @@ ghost use Prim.Native.Nat.{ℕ, _<_, _^_};
 ghost use lib.Dec.{eqb, ltb};
 ghost use lib.ListN.{length};
 ghost use Rattle.registers.specs.Rules.{firstBroken};
-ghost use Rattle.registers.specs.Sdr1.{sdr1Shape, tableLength, maskOnes};
+ghost use Rattle.register_words.specs.Sdr1.{sdr1Shape, tableLength, maskOnes};
 ghost use Rattle.registers.specs.Set.{sdr1Of, registerRules};
-ghost use Rattle.groups.specs.Search.{summary};
+ghost use Rattle.matches.specs.Search.{summary};
 ghost use Rattle.tables.specs.Matches.{Match};
 ghost use Rattle.tables.specs.Layout.{matchesOf};
 ghost use Rattle.translation.specs.Steps.{afterSearch, outcomeOf, answerOf};
@@ -31,14 +31,14 @@ fn refusal(words: &[u32; 33], mode: u32, kind: u32, lent: usize) -> u32
     if broken != 0 {
         return broken;
     }
-    if lent != registers::table_length(words[0]) {
+    if lent != register_words::table_length(words[0]) {
         return 1;
     }
     0
 }
 
 // What the matches that a search noted come to.
-fn searched_of(search: groups::Search) -> translation::Searched
+fn searched_of(search: matches::Search) -> translation::Searched
     ensures { λ r. ⌜ ((ms : List Match) → search ≡ summary ms → r ≡ searched ms) ⌝ }
 {
     if !search.found() {
@@ -62,7 +62,7 @@ fn by_page(
         × ((address : ℕ) → now (table .exit) ≡ markedBy (maskOnes sdr1) kind (Search wanted) (answerOf kind address r .result) (now (table .entry))) ⌝ }
 {
     let at = locate(sdr1, wanted.vsid, wanted.index);
-    let search = groups::search_both(table, at.primary, at.secondary, wanted.vsid, at.api);
+    let search = matches::search_both(table, at.primary, at.secondary, wanted.vsid, at.api);
     let outcome = translation::after_search(kind, wanted.key, searched_of(search));
     if let translation::Outcome::Done(second) = outcome {
         let group = at.group(search.in_secondary());

@@ -14,7 +14,7 @@ use Rattle.words.proofs.Below.{first-found, first-none}
 use Rattle.words.proofs.Masks.{or-sum}
 use Rattle.words.proofs.Ones.{ones-true, ones-width}
 use Rattle.words.proofs.Tests.{both}
-use Rattle.registers.specs.Block.{brpnOf, blOf, upperShape, lowerShape, blockPhysical}
+use Rattle.register_words.specs.Block.{brpnOf, blOf, upperShape, lowerShape, blockPhysical}
 use Rattle.registers.specs.Set.{checkWords, pairCovers, coveringPair}
 use Rattle.registers.proofs.Blocks.{blocks-decide}
 

@@ -10,6 +10,7 @@ use borrow.Author.Tests.{eqb-true, eqb-false, eq-eqb, ne-eqb, lt-ltb, le-ltb, no
 use Rattle.entry.specs.Entry.{rpnOf, ppOf, physicalAddress}
 use Rattle.entry.proofs.RoundTrip.{packing-agrees}
 use Rattle.entry.proofs.Tables.{entry-tables}
+use Rattle.register_words.proofs.Tables.{register-words-tables}
 use Rattle.registers.proofs.Tables.{registers-tables}
 use Rattle.registers.specs.Set.{checkWords, pairCovers, coveringPair}
 use Rattle.registers.proofs.Blocks.{blocks-decide}
@@ -114,6 +115,7 @@ pub access-as-stated : AccessAsStated
 access-as-stated = record {
   packing = packing-agrees;
   entries = entry-tables;
+  register-words = register-words-tables;
   registers = registers-tables;
   blocks = blocks-decide 4 11 (lit≤ tt);
   block-physical = λ side upper lower address shape-u shape-l. block-offset 11 (lit≤ tt) side upper lower address shape-u shape-l;

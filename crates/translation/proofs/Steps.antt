@@ -9,8 +9,8 @@ use borrow.Author.Tests.{eqb-true}
 use Rattle.words.proofs.Tests.{both}
 use Rattle.entry.specs.Entry.{wimgOf, ppOf}
 use Rattle.entry.proofs.Addresses.{index-lt}
-use Rattle.registers.specs.Segment.{noExecute, segmentVsid}
-use Rattle.registers.specs.Block.{blockAttributes, blockPP, blockPhysical}
+use Rattle.register_words.specs.Segment.{noExecute, segmentVsid}
+use Rattle.register_words.specs.Block.{blockAttributes, blockPP, blockPhysical}
 use Rattle.registers.specs.Set.{upperOf, lowerOf, coveringPair}
 use Rattle.translation.specs.Access.{userMode, fetching, relocated, sideOf}
 use Rattle.translation.specs.Protection.{pageAllows, blockAllows, guarded}

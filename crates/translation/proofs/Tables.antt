@@ -2,8 +2,8 @@
 use mathlib.Core.Path.{refl}
 use Rattle.words.specs.Below.{firstBelow}
 use Rattle.entry.specs.Entry.{pageIndex, physicalAddress}
-use Rattle.registers.specs.Segment.{keyOf, noExecute, segmentVsid}
-use Rattle.registers.specs.Block.{blockAttributes, blockPP, blockPhysical, validFor, inBlock, covers}
+use Rattle.register_words.specs.Segment.{keyOf, noExecute, segmentVsid}
+use Rattle.register_words.specs.Block.{blockAttributes, blockPP, blockPhysical, validFor, inBlock, covers}
 use Rattle.registers.specs.Set.{pairCovers, coveringPair}
 use Rattle.registers.specs.Tables.{blank, one, two, three}
 use Rattle.translation.specs.Access.{userMode, fetching, storing, relocated, sideOf}

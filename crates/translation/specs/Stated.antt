@@ -9,9 +9,10 @@ use Rattle.words.specs.Ones.{bitLength}
 use Rattle.entry.specs.Entry.{rpnOf, wimgOf, ppOf}
 use Rattle.entry.specs.RoundTrip.{PackingAgrees}
 use Rattle.entry.specs.Tables.{EntryTables}
+use Rattle.register_words.specs.Tables.{RegisterWordsTables}
 use Rattle.registers.specs.Tables.{RegistersTables}
-use Rattle.registers.specs.Segment.{noExecute}
-use Rattle.registers.specs.Block.{brpnOf, blOf, upperShape, lowerShape, blockAttributes, blockPP, blockPhysical}
+use Rattle.register_words.specs.Segment.{noExecute}
+use Rattle.register_words.specs.Block.{brpnOf, blOf, upperShape, lowerShape, blockAttributes, blockPP, blockPhysical}
 use Rattle.registers.specs.Blocks.{BlocksDecide}
 use Rattle.registers.specs.Set.{upperOf, lowerOf, checkWords, pairCovers}
 use Rattle.translation.specs.Access.{userMode, fetching, relocated, sideOf}
@@ -115,6 +116,7 @@ pub record AnswersStated (kind address : ℕ) : Type 0 where
 pub record AccessAsStated : Type 0 where
   pub packing : PackingAgrees
   pub entries : EntryTables
+  pub register-words : RegisterWordsTables
   pub registers : RegistersTables
   pub blocks : BlocksDecide 4 11
   -- in a block of right shape the physical address is its physical start and the address's 17 + k low bits, where BL has k ones

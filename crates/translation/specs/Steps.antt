@@ -6,8 +6,8 @@ use mathlib.Core.List.{List}
 use lib.Dec.{ltb}
 use Rattle.words.specs.Bits.{bits}
 use Rattle.entry.specs.Entry.{wimgOf, ppOf, pageIndex, physicalAddress}
-use Rattle.registers.specs.Segment.{keyOf, noExecute, segmentVsid}
-use Rattle.registers.specs.Block.{blockAttributes, blockPP, blockPhysical}
+use Rattle.register_words.specs.Segment.{keyOf, noExecute, segmentVsid}
+use Rattle.register_words.specs.Block.{blockAttributes, blockPP, blockPhysical}
 use Rattle.registers.specs.Set.{segmentOf, upperOf, lowerOf, coveringPair}
 use Rattle.translation.specs.Access.{userMode, fetching, relocated, sideOf}
 use Rattle.translation.specs.Protection.{pageAllows, blockAllows, guarded}

@@ -5,7 +5,7 @@ use mathlib.Core.Bool.{Bool, true, false, cond, _&&_}
 use mathlib.Core.List.{List, [], _∷_, map}
 use lib.Dec.{eqb}
 use Rattle.words.specs.Rows.{Hold}
-use Rattle.registers.specs.Segment.{keyOf}
+use Rattle.register_words.specs.Segment.{keyOf}
 use Rattle.registers.specs.Tables.{one, two, three}
 use Rattle.translation.specs.Access.{userMode, relocated, sideOf}
 use Rattle.translation.specs.Protection.{pageAllows, blockAllows, guarded}

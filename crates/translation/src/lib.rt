@@ -1,7 +1,7 @@
 // One access without a table's bytes: the steps before the search, those after it, protection, fault words, and what an outcome answers.
 ghost use mathlib.Core.Path.{_≡_};
 ghost use Prim.Native.Nat.{_<_};
-ghost use Rattle.registers.specs.Segment.{keyOf};
+ghost use Rattle.register_words.specs.Segment.{keyOf};
 ghost use Rattle.translation.specs.Access.{relocated};
 ghost use Rattle.translation.specs.Protection.{pageAllows, blockAllows};
 ghost use Rattle.translation.specs.Fault.{faultOf};
@@ -155,7 +155,7 @@ fn block_outcome(words: &[u32; 33], kind: u32, address: u32, pair: usize) -> Out
     if block_allows(lower & 3, kind) {
         Outcome::Block(
             pair as u32,
-            registers::block_physical(upper, lower, address),
+            register_words::block_physical(upper, lower, address),
             (lower >> 3) & 0xF,
         )
     } else {

@@ -53,7 +53,7 @@ fn clears(word: u32, length: isize) -> u32 {
 // Whether SDR1 is good and names a table of so many bytes, and what clears lent 65,536 and 131,072 bytes answer.
 fn sized(word: u32, length: usize, first: u32, second: u32) -> bool {
     (sdr1(word) == 0)
-        & (registers::table_length(word) == length)
+        & (register_words::table_length(word) == length)
         & (clears(word, 65536) == first)
         & (clears(word, 131072) == second)
 }

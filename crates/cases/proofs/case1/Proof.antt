@@ -3,7 +3,7 @@ use borrow.Author.Needs.{needs}
 use mathlib.Core.Path.{_≡_, refl}
 use mathlib.Core.Bool.{true}
 use Rattle.words.specs.Ones.{bitLength, lowOnes}
-use Rattle.registers.specs.Sdr1.{sdr1Shape, hashBits}
+use Rattle.register_words.specs.Sdr1.{sdr1Shape, hashBits}
 use Rattle.groups.specs.Hash.{groupsOf}
 use Rattle.groups.proofs.Hash.{primary-lt, secondary-lt}
 use Rattle.cases.proofs.case1.Statement.{statement}

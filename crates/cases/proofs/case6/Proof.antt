@@ -2,7 +2,7 @@
 use borrow.Author.Needs.{needs}
 use mathlib.Core.Path.{refl}
 use Rattle.words.specs.Ones.{bitLength, lowOnes}
-use Rattle.registers.specs.Sdr1.{sdr1Shape}
+use Rattle.register_words.specs.Sdr1.{sdr1Shape}
 use Rattle.cases.proofs.case6.Statement.{statement}
 use Rattle.cases.proofs.case6.Tie as tie
 

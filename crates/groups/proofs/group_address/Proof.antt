@@ -5,8 +5,8 @@ use native.Mathlib.Omega.{arith}
 use lib.Dec.{lit≤}
 use lib.Pow.{pow-add, pow-mono}
 use Rattle.words.proofs.Masks.{and-top}
-use Rattle.registers.specs.Sdr1.{maskOnes, hashBits}
-use Rattle.registers.proofs.Sdr1.{ones-at-most-9}
+use Rattle.register_words.specs.Sdr1.{maskOnes, hashBits}
+use Rattle.register_words.proofs.Sdr1.{ones-at-most-9}
 use Rattle.groups.proofs.Hash.{address-bits}
 use Rattle.groups.proofs.group_address.Statement.{statement}
 use Rattle.groups.proofs.group_address.Tie as tie

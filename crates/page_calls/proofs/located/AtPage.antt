@@ -6,19 +6,19 @@ use Prim.Native.Nat.{ℕ, _+_, _*_, _^_, _≤_, _<_}
 use native.Mathlib.Omega.{arith}
 use mir.Val.{boolByte}
 use Rattle.entry.specs.Entry.{firstWord, apiOf}
-use Rattle.registers.specs.Sdr1.{sdr1Shape, tableLength, maskOnes, hashBits}
+use Rattle.register_words.specs.Sdr1.{sdr1Shape, tableLength, maskOnes, hashBits}
 use Rattle.groups.specs.Page.{Page}
 use Rattle.groups.specs.Hash.{groupNumber}
 use Rattle.groups.specs.Group.{groupOf, onGroup, putAt, freePlace}
-use Rattle.groups.specs.Search.{matchesOf, summary}
-use Rattle.groups.specs.Edit.{editMatches}
-use Rattle.groups.specs.declared.Edit.{Edit}
+use Rattle.matches.specs.Search.{matchesOf, summary}
+use Rattle.matches.specs.Edit.{editMatches}
+use Rattle.matches.specs.declared.Edit.{Edit}
 use Rattle.groups.specs.declared.Place.{Place}
 use Rattle.groups.specs.declared.Place.the-variants.{Entry}
-use Rattle.groups.specs.declared.Search.{Search}
+use Rattle.matches.specs.declared.Search.{Search}
 use Rattle.groups.proofs.Hash.{group-lt, own-groups-differ, within-table}
 use Rattle.groups.proofs.Free.{PlaceCase, in-primary, in-secondary, nowhere, place-case}
-use Rattle.groups.proofs.Matches.{h-is}
+use Rattle.matches.proofs.Matches.{h-is}
 use Rattle.calls.specs.OnBytes.{entryWord}
 use Rattle.calls.proofs.PageCalls.{ownGroup, pageSearch, editedBoth}
 use Rattle.page_calls.specs.declared.located.Located.{Located}

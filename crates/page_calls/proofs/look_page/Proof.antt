@@ -1,7 +1,7 @@
 -- `page_calls::look_page` meets its contract: it answers by what the one search told of the page's matches.
 use mathlib.Core.Path.{_≡_, sym, _∙_}
 use borrow.Author.Tests.{not-true, not-false}
-use Rattle.registers.specs.Sdr1.{maskOnes}
+use Rattle.register_words.specs.Sdr1.{maskOnes}
 use Rattle.calls.proofs.PageCalls.{pageSearch, look-missing, look-contradicted, look-done}
 use Rattle.page_calls.proofs.located.AtPage.{searchable, search-is}
 use borrow.Author.Needs.{needs}

@@ -4,10 +4,10 @@ use mathlib.Core.List.{List, []}
 use Prim.Native.Nat.{ℕ}
 use native.Mathlib.Omega.{arith}
 use Rattle.entry.specs.Entry.{secondWord}
-use Rattle.registers.specs.Sdr1.{maskOnes}
+use Rattle.register_words.specs.Sdr1.{maskOnes}
 use Rattle.calls.specs.OnBytes.{ended}
 use Rattle.calls.proofs.PageCalls.{pageSearch, map-matched, map-full, map-placed}
-use Rattle.groups.proofs.Matches.{h-lt}
+use Rattle.matches.proofs.Matches.{h-lt}
 use Rattle.page_calls.proofs.located.AtPage.{both-inside, searchable, api-lt, group-inside, search-is, free-is, placed-is, place-lt}
 use borrow.Author.Needs.{needs}
 use Rattle.page_calls.proofs.map_page.Statement.{statement}

@@ -7,7 +7,7 @@ use Prim.Native.Nat.{ℕ, _+_, _*_, _≤_, _<_, _-_}
 use native.Mathlib.Omega.{arith}
 use lib.ListN.{getD}
 use Rattle.words.proofs.Below.{first-found, first-none}
-use Rattle.registers.specs.Block.{covers}
+use Rattle.register_words.specs.Block.{covers}
 use Rattle.registers.specs.Set.{pairCovers, coveringPair}
 use Rattle.registers.proofs.Set.{start-at-most}
 use Rattle.registers.proofs.covering_pair.Statement.{statement}

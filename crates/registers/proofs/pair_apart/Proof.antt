@@ -10,7 +10,7 @@ use lib.Bits.{bitAnd, and-mask, and-zero-r}
 use lib.ListN.{getD}
 use Rattle.words.specs.Below.{everyBelow}
 use Rattle.words.proofs.Below.{every-more, every-not, every-all}
-use Rattle.registers.specs.Block.{commonV, clash}
+use Rattle.register_words.specs.Block.{commonV, clash}
 use Rattle.registers.specs.Set.{upperOf, pairApart}
 use Rattle.registers.proofs.Set.{start-at-most}
 use Rattle.registers.proofs.pair_apart.Statement.{statement}

@@ -7,7 +7,7 @@ use Prim.Native.Nat.{_≤_, _-_}
 use native.Mathlib.Omega.{arith}
 use Rattle.words.specs.Below.{everyBelow}
 use Rattle.words.proofs.Below.{every-more, every-not}
-use Rattle.registers.specs.Segment.{segmentShape}
+use Rattle.register_words.specs.Segment.{segmentShape}
 use Rattle.registers.specs.Set.{segmentOf, segmentsShape}
 use Rattle.registers.proofs.segments_shape.Statement.{statement}
 use Rattle.registers.proofs.segments_shape.Tie as tie

@@ -9,7 +9,7 @@ use native.Mathlib.Omega.{arith}
 use lib.ListN.{getD}
 use Rattle.words.specs.Below.{everyBelow}
 use Rattle.words.proofs.Below.{every-more, every-not}
-use Rattle.registers.specs.Block.{blockShape}
+use Rattle.register_words.specs.Block.{blockShape}
 use Rattle.registers.specs.Set.{upperOf, lowerOf, sideShape}
 use Rattle.registers.proofs.Set.{start-at-most}
 use Rattle.registers.proofs.side_shape.Statement.{statement}

@@ -8,11 +8,11 @@ use mathlib.Core.List.{List, [], _∷_}
 use Prim.Native.Nat.{ℕ, _+_, _*_, _≤_}
 use lib.ListN.{length}
 use Rattle.entry.specs.Entry.{withMarks}
-use Rattle.registers.specs.Sdr1.{maskOnes}
+use Rattle.register_words.specs.Sdr1.{maskOnes}
 use Rattle.groups.specs.Group.{firstOf, putAt}
 use Rattle.groups.specs.Hash.{groupNumber}
-use Rattle.groups.specs.Search.{summary, inSecondary, entryOf}
-use Rattle.groups.proofs.Summary.{summary-entry-lt}
+use Rattle.matches.specs.Search.{summary, inSecondary, entryOf}
+use Rattle.matches.proofs.Summary.{summary-entry-lt}
 use Rattle.tables.specs.Layout.{matchesOf}
 use Rattle.translation.specs.Access.{storing}
 use Rattle.translation.specs.Steps.{afterSearch, answerOf}

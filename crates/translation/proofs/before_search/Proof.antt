@@ -7,7 +7,7 @@ use Prim.Native.Nat.{ℕ, _/_, _^_}
 use lib.Bits.{bitAnd, and-mask}
 use lib.Dec.{eqb, ltb}
 use lib.Pow.{shr-mod}
-use Rattle.registers.specs.Segment.{noExecute}
+use Rattle.register_words.specs.Segment.{noExecute}
 use Rattle.registers.specs.Set.{segmentOf, coveringPair}
 use Rattle.translation.specs.Access.{userMode, fetching, relocated, sideOf}
 use Rattle.translation.specs.Steps.{segmentAt, blockOutcome}

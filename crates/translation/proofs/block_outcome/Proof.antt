@@ -2,7 +2,7 @@
 use borrow.Author.Needs.{needs}
 use mathlib.Core.Path.{_≡_, sym, ap, _∙_}
 use Prim.Native.Nat.{ℕ}
-use Rattle.registers.specs.Block.{blockAttributes, blockPP}
+use Rattle.register_words.specs.Block.{blockAttributes, blockPP}
 use Rattle.registers.specs.Set.{upperOf, lowerOf}
 use Rattle.translation.specs.Access.{fetching, sideOf}
 use Rattle.translation.specs.Protection.{blockAllows}

@@ -1,7 +1,7 @@
 -- `translation::key_of` meets its contract: the mask leaves Kp or Ks.
 use Prim.Native.Nat.{_/_, _^_}
 use lib.Bits.{and-mask}
-use Rattle.registers.specs.Segment.{keyOf}
+use Rattle.register_words.specs.Segment.{keyOf}
 use Rattle.translation.proofs.key_of.Statement.{statement}
 use Rattle.translation.proofs.key_of.Tie as tie
 

@@ -2,7 +2,7 @@
 use borrow.Author.Needs.{needs}
 use native.Mathlib.Nat.{div-one}
 use lib.Bits.{and-mask}
-use Rattle.registers.specs.Segment.{segmentVsid}
+use Rattle.register_words.specs.Segment.{segmentVsid}
 use Rattle.translation.proofs.wanted_of.Statement.{statement}
 use Rattle.translation.proofs.wanted_of.Tie as tie
 

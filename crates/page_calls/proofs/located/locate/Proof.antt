@@ -1,6 +1,6 @@
 -- `page_calls::located::locate` meets its contract: under 10 + k ones the hash names the two groups.
 use Prim.Native.Nat.{_+_}
-use Rattle.registers.specs.Sdr1.{maskOnes, hashBits}
+use Rattle.register_words.specs.Sdr1.{maskOnes, hashBits}
 use Rattle.groups.specs.Hash.{groupNumber, groupsOf}
 use borrow.Author.Needs.{needs}
 use Rattle.page_calls.proofs.located.locate.Statement.{statement}

@@ -1,0 +1,80 @@
+-- `matches::search_both` meets its contract: the parts that are lent are the two groups, searched one after the other.
+use Prim.Native.Nat.{ℕ}
+use mathlib.Core.Path.{ap, _∙_}
+use mathlib.Core.Bool.{true, false}
+use mathlib.Core.List.{List}
+use Rattle.groups.specs.Group.{groupOf}
+use Rattle.matches.specs.Search.{matchesIn, matchesOf, summary}
+use Rattle.groups.proofs.Lent.{lent-group}
+use borrow.Author.Needs.{needs}
+use Rattle.matches.proofs.search_both.Statement.{statement}
+use Rattle.matches.proofs.search_both.Tie as tie
+
+mul-from : tie.Need-mul-from
+mul-from c = search needs
+
+add-to : tie.Need-add-to
+add-to c = search needs
+
+sub-search-group : tie.Need-sub-search-group
+sub-search-group c = search needs
+
+part-search-group-start : tie.Need-part-search-group-start
+part-search-group-start c = search needs
+
+part-search-group-end : tie.Need-part-search-group-end
+part-search-group-end c = search needs
+
+search-group-requires : tie.Need-search-group-requires
+search-group-requires c κs = search needs
+
+mul-next : tie.Need-mul-next
+mul-next c = search needs
+
+add-end : tie.Need-add-end
+add-end c = search needs
+
+sub-search-group-2 : tie.Need-sub-search-group-2
+sub-search-group-2 c = search needs
+
+part-search-group-start-2 : tie.Need-part-search-group-start-2
+part-search-group-start-2 c = search needs
+
+part-search-group-end-2 : tie.Need-part-search-group-end-2
+part-search-group-end-2 c = search needs
+
+search-group-requires-2 : tie.Need-search-group-requires-2
+search-group-requires-2 c κs = search needs
+
+then-requires : tie.Need-then-requires
+then-requires c κs = search needs
+
+returns : tie.Need-returns
+unfolding matchesOf
+returns c =
+    let second = c .before in
+    let first = second .before .before in
+    let a = first .before .before .before .args in
+    let t = a .table .now in
+    c .then .ensures (matchesIn false (a .vsid) (a .api) (groupOf t (a .primary))) (matchesIn true (a .vsid) (a .api) (groupOf t (a .secondary)))
+    (first .search-group .ensures ∙ ap (λ (group : List ℕ). summary (matchesIn false (a .vsid) (a .api) group)) (lent-group t (a .primary)))
+    (second .search-group2 .ensures ∙ ap (λ (group : List ℕ). summary (matchesIn true (a .vsid) (a .api) group)) (lent-group t (a .secondary)))
+
+pub search-both-spec : {M : Type 1} → statement M
+search-both-spec =
+    tie.close
+    (tie.spec
+    mul-from
+    add-to
+    sub-search-group
+    part-search-group-start
+    part-search-group-end
+    search-group-requires
+    mul-next
+    add-end
+    sub-search-group-2
+    part-search-group-start-2
+    part-search-group-end-2
+    search-group-requires-2
+    then-requires
+    returns)

@@ -1,0 +1,57 @@
+-- Worked examples of searches and edits, each row closed by computation: a group of 64 bytes with twins, a match that contradicts and matches of
+-- the other H.
+use Prim.Native.Nat.{ℕ}
+use mathlib.Core.Bool.{Bool, true, false}
+use mathlib.Core.List.{[], _∷_}
+use lib.ListN.{replicate}
+use Rattle.words.specs.Rows.{Hold}
+use Rattle.tables.specs.Matches.{Match}
+use Rattle.groups.specs.Tables.{mixed, example, full}
+use Rattle.matches.specs.Search.{matchesIn, matchesOf, summary}
+use Rattle.matches.specs.Edit.{editMatches}
+use Rattle.matches.specs.declared.Edit.the-variants.{Clear, Protect}
+use Rattle.matches.specs.declared.Search.{Search}
+
+abbrev pub matched : Bool → ℕ → ℕ → ℕ → Match
+matched secondary entry first second = record { secondary = secondary; entry = entry; first = first; second = second }
+
+-- what a search tells: place and second word of the first match, that word merged, whether there is a further match, whether one contradicts
+abbrev pub told : ℕ → ℕ → ℕ → Bool → Bool → Search
+told place second merged several differs = record { place = place; second = second; merged = merged; several = several; differs = differs }
+
+pub record MatchesTables : Type 0 where
+  -- every match is found, in order, and H tells which
+  pub found : Hold (
+      (matchesIn true 0x0C701C 3 example, matched true 0 0x86380E43 0x12345012 ∷ [])
+      ∷ (
+        matchesIn false 0x0C701C 3 example,
+        matched false 1 0x86380E03 0x12345E96 ∷ matched false 3 0x86380E03 0x12345E96 ∷ matched false 6 0x86380E03 0x12345112 ∷ [],
+      )
+      ∷ (matchesIn false 0x0C701D 3 example, matched false 4 0x86380E83 0x12345E96 ∷ [])
+      ∷ (matchesIn true 0xFFFFFF 63 example, matched true 7 0xFFFFFFFF 0xFFFFFFFF ∷ [])
+      ∷ (matchesIn false 0xFFFFFF 63 example, [])
+      ∷ (matchesIn false 0x0C701C 2 example, [])
+      ∷ []
+      )
+  -- the first match in search order, its second word with R and C of any, a further one, and one that contradicts; twins do not contradict
+  pub summaries : Hold (
+      (summary (matchesOf 0x0C701C 3 example example), told 17 0x12345E96 0x12345F96 true true)
+      ∷ (summary (matchesOf 0x0C701C 3 full example), told 24 0x12345012 0x12345012 false false)
+      ∷ (summary (matched false 1 0x86380E03 0x12345E96 ∷ matched false 3 0x86380E03 0x12345E96 ∷ []), told 17 0x12345E96 0x12345E96 true false)
+      ∷ (summary (matched false 6 0x86380E03 0x12345112 ∷ matched true 0 0x86380E43 0x12345012 ∷ []), told 22 0x12345112 0x12345112 true true)
+      ∷ (summary (matched true 0 0x86380E43 0x12345012 ∷ matched true 6 0x86380E43 0x12345E96 ∷ []), told 24 0x12345012 0x12345092 true true)
+      ∷ (
+        summary (matched false 1 0x86380E03 0x12345012 ∷ matched false 2 0x86380E03 0x12345016 ∷ matched true 0 0x86380E43 0x12345012 ∷ []),
+        told 17 0x12345012 0x12345012 true true,
+      )
+      ∷ (summary (matchesOf 0x0C701C 2 example example), told 0 0 0 false false)
+      ∷ []
+      )
+  -- eight zero bytes over each match; another PP in each, every other bit kept, the ignored ones too; and the match of the other H alone
+  pub edits : Hold (
+      (editMatches Clear false 0x0C701C 3 example, mixed 0 0 0 0 0 0)
+      ∷ (editMatches (Protect 1) false 0x0C701C 3 example, mixed 0x86380E03 0x12345E95 0x86380E03 0x12345E95 0x86380E03 0x12345111)
+      ∷ (editMatches Clear true 0xFFFFFF 63 full, replicate 64 0)
+      ∷ (editMatches Clear false 0xFFFFFF 63 full, full)
+      ∷ []
+      )

@@ -1,0 +1,4 @@
+-- What callers' proofs cite of a register word.
+pub mod Sdr1
+pub mod Blocks
+pub mod Tables

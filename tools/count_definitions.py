@@ -1,13 +1,13 @@
 #!/usr/bin/env python3
 """Counts the lines of the definitions that a reader of the contracts and statements must believe.
 
-From the names below it follows what each definition cites, over the files of crates/*/specs. A line counts if it is text: imports, comments,
-empty lines, `module` and `unfolding` lines do not. With --list it prints each definition and its lines; with --under N it fails where the
-definitions are N lines or more.
+From the names below it follows what each definition cites, over the files of crates/*/specs, and the structs and enums of the code that definitions
+name. A line counts if it is text: imports, comments, empty lines, `module` and `unfolding` lines do not. With --list it prints each definition and
+its lines; with --under N it fails where the definitions are N lines or more.
 
-Not followed: the statements themselves and their rows, which are proved and not believed; and what is proved by its type
-(`Decision`: a decision of type `Dec (Arrangement ..)` is right whatever its text). Not counted either: the structs and enums of the code that
-definitions name, and what `represents` and `TwelveCases` cite beyond this. README gives the counts with them.
+Counted apart: the statements. Not followed: their rows, which are proved and not believed; and what is proved by its type (`Decision`: a decision of
+type `Dec (Arrangement ..)` is right whatever its text). What `represents` and `TwelveCases` cite beyond this is not counted; README gives the counts
+with them.
 """
 import glob
 import os
@@ -28,13 +28,27 @@ STATEMENTS = {"Theorem", "Stated", "RoundTrip", "Blocks"}
 PROVED_BY_TYPE = {"Decision"}
 ROWS = {"Tables", "PageRows", "FourGroups", "Rows", "Cases"}
 
+TYPE = "the type "
+
 WORD = re.compile(r"[^\s(){},;.]+")
 USE = re.compile(r"use Rattle·(\w+)(?:·specs)?\.(?:specs\.)+(?:declared\.)?(\w+)(?:\.the-variants)?\.\{([^}]*)\}")
+DECLARED = re.compile(r"use Rattle·(\w+)(?:·specs)?\.(?:specs\.)+declared\.(\w+)(?:\.the-variants)?\.\{([^}]*)\}")
 HEAD = re.compile(r"(?:abbrev |unfoldable )?(?:pub )?(?:record |data )?([^\s(){}:]+)\s*(?:[({:]|$)")
 
 
 def is_text(line):
     return bool(line) and not line.startswith(("--", "use ", "unfolding ", "module _ "))
+
+
+def read_types():
+    """The structs and enums of the code: crate and name to their lines."""
+    types = {}
+    for path in glob.glob(os.path.join(ROOT, "*", "src", "*.rt")):
+        text = open(path, encoding="utf-8").read()
+        for name, body in re.findall(r"^pub (?:struct|enum) (\w+) (\{.*?^\})", text, re.M | re.S):
+            lines = [line.strip() for line in body.split("\n")]
+            types[(path.split(os.sep)[-3], name)] = tuple(line for line in lines if line and not line.startswith("//"))
+    return types
 
 
 def read(path):
@@ -44,6 +58,9 @@ def read(path):
     for crate, module, names in USE.findall(text):
         for name in names.split(","):
             imported[name.strip()] = (crate, module)
+    for crate, declared, names in DECLARED.findall(text):
+        for name in names.split(","):
+            imported[name.strip()] = (crate, TYPE + declared)
     definitions, block = {}, []
     for line in [each.strip() for each in text.split("\n")] + [""]:
         if is_text(line):
@@ -61,10 +78,13 @@ def main():
     files = {}
     for path in glob.glob(os.path.join(ROOT, "*", "specs", "*.antt")):
         files[(path.split(os.sep)[-3], os.path.basename(path)[:-5])] = read(path)
+    types = read_types()
     queue = [(crate, module, name) for crate, module, names in START for name in names]
     seen, kept = set(), {}
     while queue:
         crate, module, name = queue.pop()
+        if module.startswith(TYPE):
+            kept[(crate, module, types[(crate, module[len(TYPE):])])] = module[len(TYPE):]
         if (crate, module, name) in seen or (crate, module) not in files or module in PROVED_BY_TYPE | ROWS:
             continue
         seen.add((crate, module, name))
@@ -75,16 +95,17 @@ def main():
             kept[(crate, module, lines)] = name
             for word in words:
                 queue.append((*imported[word], word) if word in imported else (crate, module, word))
-    count, listed = {"definitions": 0, "statements": 0}, []
+    count, listed = {"definitions": 0, "types": 0, "statements": 0}, []
     for (crate, module, lines), name in kept.items():
-        kind = "statements" if module in STATEMENTS else "definitions"
+        kind = "statements" if module in STATEMENTS else "types" if module.startswith(TYPE) else "definitions"
         count[kind] += len(lines)
         listed.append((kind, crate, module, name, len(lines)))
     if "--list" in sys.argv[1:]:
         for kind, crate, module, name, lines in sorted(listed):
             print(f"{lines:4} {kind:12} {crate}/{module} {name}")
-    print(f"{count['definitions']} lines of definitions, {count['statements']} lines of statements")
-    if "--under" in sys.argv[1:] and count["definitions"] >= int(sys.argv[sys.argv.index("--under") + 1]):
+    total = count["definitions"] + count["types"]
+    print(f"{total} lines of definitions, {count['types']} of them structs and enums of the code; beside them {count['statements']} lines of statements")
+    if "--under" in sys.argv[1:] and total >= int(sys.argv[sys.argv.index("--under") + 1]):
         sys.exit("that is too much for a reader")
 
 

@@ -101,7 +101,7 @@ pub table-refines-map : TableRefinesMap
 table-refines-map = record {
   clear-done = λ o k t start. ap (λ (e : Ended (List ℕ)). e .number) (clear-is o k t start);
   answers = λ o k t start cs each. runs-follow o k (start .few) (start .whole) cs each (cleared o k t) [] (cleared-represents o k t start) .0;
-  not-mapped = λ o k t start cs each page rpn wimg pp valid arguments e. unmapped-answers o k t start cs each page rpn wimg pp valid arguments e;
+  not-mapped = λ o k t start cs each page rpn wimg pp v i arguments e. unmapped-answers o k t start cs each page rpn wimg pp (record { vsid-lt = v; index-lt = i }) arguments e;
   mapped = λ o k t start cs each page f e. (
     map-7 o k t start cs each page f e,
     unmap-0 o k t start cs each page f e,

@@ -20,8 +20,7 @@ pub record Call : Type 0 where
 -- a call on the table: what is compared of its answer, and the table that it leaves
 unfoldable pub bytesStep : Call → List ℕ → (ℕ × List ℕ) × List ℕ
 bytesStep c t =
-    byOption (c .lent)
-    (let e = onBytes (c .request) t in (compared (e .number) (e .answer), e .state))
+    byOption (c .lent) (let e = onBytes (c .request) t in (compared (e .number) (e .answer), e .state))
     (λ other. let e = onBytes (c .request) other in (compared (e .number) (e .answer), t))
 
 -- what the finite map is fed of a call on a table of `size` bytes: the request with lengths for slices, and the length of what is lent as the table

@@ -76,8 +76,7 @@ module _ (k : ℕ) where
   markedBy kind (Search wanted) result t =
       let page = wantedPage wanted in
       cond (eqb result 0)
-      (byMatches (matchesOf (layout k) t page) t (λ x xs. overwrite (layout k) page x (x .first) (withMarks true (storing kind) (x .second)) t))
-      t
+      (byMatches (matchesOf (layout k) t page) t (λ x xs. overwrite (layout k) page x (x .first) (withMarks true (storing kind) (x .second)) t)) t
 
   -- a call that its arguments do not refuse
   unfoldable pub bytesDo : Request (List ℕ) → List ℕ → Ended (List ℕ)

@@ -42,12 +42,10 @@ fieldsWord f = secondWord (f .frame) (oneIf (f .referenced)) (oneIf (f .changed)
 
 -- R is set, and C too on a store
 abbrev pub markFields : Bool → PageFields → PageFields
-markFields store f =
-    record { frame = f .frame; attributes = f .attributes; protection = f .protection; referenced = true; changed = store || f .changed }
+markFields store f = record { frame = f .frame; attributes = f .attributes; protection = f .protection; referenced = true; changed = store || f .changed }
 
 abbrev pub protectFields : ℕ → PageFields → PageFields
-protectFields pp f =
-    record { frame = f .frame; attributes = f .attributes; protection = pp; referenced = f .referenced; changed = f .changed }
+protectFields pp f = record { frame = f .frame; attributes = f .attributes; protection = pp; referenced = f .referenced; changed = f .changed }
 
 -- an arrangement of pages for a mask of k ones: groups of eight entries
 abbrev pub Arranged : ℕ → List Page → Type 0
@@ -71,11 +69,9 @@ module _ (k : ℕ) where
   unfoldable pub mapDoes : Request ℕ → Map → Ended Map
   mapDoes (clear sdr1) m = ended 0 [] []
   mapDoes (mapPage sdr1 page rpn wimg pp) m =
-      byOption (fieldsAt samePage page m)
-      (ite (arranged? k (page ∷ mappedPages m))
+      byOption (fieldsAt samePage page m) (ite (arranged? k (page ∷ mappedPages m))
       (ended 0 (putIn page (record { frame = rpn; attributes = wimg; protection = pp; referenced = false; changed = false }) m) [])
-      (ended 9 m []))
-      (λ f. ended 7 m [])
+      (ended 9 m [])) (λ f. ended 7 m [])
   mapDoes (unmap sdr1 page answer) m =
       byOption (fieldsAt samePage page m) (ended 8 m (wordAnswer 8 0)) (λ f. ended 0 (takeOut samePage page m) (wordAnswer 0 (fieldsWord f)))
   mapDoes (protect sdr1 page pp) m =

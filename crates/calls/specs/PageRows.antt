@@ -6,7 +6,8 @@ use mathlib.Core.List.{List, [], _∷_}
 use mathlib.Core.Path.{refl}
 use lib.ListN.{replicate, set}
 use Rattle.words.specs.Below.{everyBelow, firstBelow}
-use Rattle.words.specs.Ones.{bitLength, lowOnes}
+use lib.Ieee.{size, span, climb}
+use Rattle.words.specs.Ones.{lowOnes}
 use Rattle.words.specs.Rows.{Hold}
 use Rattle.words.specs.Words.{wordBytes, wordAt, withWord, bytesOf, wordsAt}
 use Rattle.entry.specs.Entry.{firstWord, secondWord, matches, free, apiOf, pageIndex, referenced, changed, withMarks, withPP, physicalAddress}
@@ -73,7 +74,7 @@ page-refusals : Hold (
     ∷ (refusal (look 0 inside 16) 0, 1)
     ∷ []
     )
-unfolding refusal rules pageInRange writeThroughInhibited sdr1Shape tableLength lowOnes bitLength
+unfolding refusal rules pageInRange writeThroughInhibited sdr1Shape tableLength lowOnes size span climb
 page-refusals = record { equal = refl }
 
 -- a register page of zeros with bytes changed: SDR1 of mask 5; a block of BL 2; two data blocks at 0; segment 15 with T = 1
@@ -106,7 +107,7 @@ access-refusals : Hold (
     ∷ (refusal (access blank 0 0 0 16) 65537, 1)
     ∷ []
     )
-unfolding refusal rules registerWords wordsAt wordAt sdr1Shape tableLength segmentsShape segmentShape sideShape blockShape off upperShape lowerShape sideApart pairApart clash commonV shareAddress everyBelow lowOnes bitLength
+unfolding refusal rules registerWords wordsAt wordAt sdr1Shape tableLength segmentsShape segmentShape sideShape blockShape off upperShape lowerShape sideApart pairApart clash commonV shareAddress everyBelow lowOnes size span climb
 access-refusals = record { equal = refl }
 
 -- after a refusal table and answer: nothing at 11, else the number and three zero words
@@ -123,7 +124,7 @@ left-rows : Hold (
     ∷ (onBytes (protect 5 inside 0) (7 ∷ []), ended 2 (7 ∷ []) [])
     ∷ []
     )
-unfolding onBytes fed refusal rules answerRefused refusedAnswer pageInRange writeThroughInhibited registerWords wordsAt wordAt sdr1Shape tableLength segmentsShape segmentShape sideShape blockShape off upperShape lowerShape sideApart pairApart clash commonV shareAddress everyBelow lowOnes bitLength
+unfolding onBytes fed refusal rules answerRefused refusedAnswer pageInRange writeThroughInhibited registerWords wordsAt wordAt sdr1Shape tableLength segmentsShape segmentShape sideShape blockShape off upperShape lowerShape sideApart pairApart clash commonV shareAddress everyBelow lowOnes size span climb
 left-rows = record { equal = refl }
 
 -- one group: two twins of VSID 0x400, page 0, ignored bits set; an entry of VSID 0; an entry of VSID 0x400 with H = 1; then free entries that are not zero

@@ -8,7 +8,7 @@ use Rattle.words.specs.Bits.{bits, placed}
 use Rattle.placement.specs.FiniteMap.{fieldsAt, mappedPages}
 use Rattle.registers.specs.Set.{registerWords}
 use Rattle.tables.specs.Runs.{run, after, Each}
-use Rattle.groups.specs.Page.{Page, InRange, samePage}
+use Rattle.groups.specs.Page.{Page, samePage}
 use Rattle.translation.specs.Steps.{beforeSearch, answerOf, doneAnswer}
 use Rattle.translation.specs.declared.Early.the-variants.{Search}
 use Rattle.translation.specs.declared.Outcome.the-variants.{NoMatch}
@@ -56,7 +56,7 @@ pub record TableRefinesMap : Type 0 where
       → run bytesStep cs (cleared o k t) ≡ run mapStep (map (fedCall (65536 * 2 ^ k)) cs) []
   -- a page that is not mapped is mapped where an arrangement of the mapped pages and this one exists, and refused 9 where none does
   pub not-mapped : (o k : ℕ) (t : List ℕ) → Start o k t → (cs : List Call) → Each (Under (sdr1With o k) (65536 * 2 ^ k)) cs
-      → (page : Page) (rpn wimg pp : ℕ) → InRange page → MapArguments rpn wimg pp → fieldsAt samePage page (mapAfter k cs) ≡ none
+      → (page : Page) (rpn wimg pp : ℕ) → page .vsid < 2 ^ 24 → page .index < 2 ^ 16 → MapArguments rpn wimg pp → fieldsAt samePage page (mapAfter k cs) ≡ none
       → (Arranged k (page ∷ mappedPages (mapAfter k cs)) → onBytes (mapPage (sdr1With o k) page rpn wimg pp) (tableAfter o k t cs) .number ≡ 0)
       × ((Arranged k (page ∷ mappedPages (mapAfter k cs)) → ⊥) → onBytes (mapPage (sdr1With o k) page rpn wimg pp) (tableAfter o k t cs) .number ≡ 9)
   -- for a page that is mapped, map answers 7, and unmap, protect and look are done

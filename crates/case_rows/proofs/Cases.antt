@@ -2,7 +2,8 @@
 use mathlib.Core.Path.{refl}
 use native.Mathlib.Omega.{arith}
 use Rattle.words.specs.Below.{everyBelow, firstBelow}
-use Rattle.words.specs.Ones.{bitLength, lowOnes}
+use lib.Ieee.{size, span, climb}
+use Rattle.words.specs.Ones.{lowOnes}
 use Rattle.words.specs.Words.{wordBytes, wordAt, withWord, bytesOf, wordsAt}
 use Rattle.entry.specs.Entry.{firstWord, secondWord, matches, free, apiOf, pageIndex, withMarks, physicalAddress}
 use Rattle.register_words.specs.Sdr1.{sdr1Shape, tableLength, maskOnes, hashBits}
@@ -41,7 +42,7 @@ first : Setting 0 0 0 0x3FF
 first = record { few = omega arith; whole = refl; mirror = refl }
 
 pub twelve-cases : TwelveCases
-unfolding mapStep compared onMap mapDoes arranged? fed sdr1In refusal rules pageInRange writeThroughInhibited sdr1Shape tableLength maskOnes hashBits lowOnes bitLength samePage hashOf primaryGroup secondaryGroup groupNumber groupAddress wordAnswer accessAnswer foundIn mapMarked fieldsWord outcomeOf blockOutcome beforeSearch afterSearch pageOutcome answerOf userMode fetching storing relocated sideOf keyOf pageReadable pageWritable pageAllows guarded blockAllows causeWord faultOf checkCall registerWords checkWords segmentsShape segmentShape sideShape blockShape off upperShape lowerShape sideApart pairApart clash commonV shareAddress everyBelow coveringPair pairCovers covers validFor inBlock blockAttributes blockPP blockPhysical firstBelow noExecute segmentVsid pageIndex physicalAddress secondWord wordsAt wordAt bytesOf wordBytes pairDo pairMarked matchesOf matchesIn matchesBelow freePlace freeEntry free matches apiOf entryWord firstWord firstAt secondAt putEntry withWord searched contradict agree overwrite withMarks
+unfolding mapStep compared onMap mapDoes arranged? fed sdr1In refusal rules pageInRange writeThroughInhibited sdr1Shape tableLength maskOnes hashBits lowOnes size span climb samePage hashOf primaryGroup secondaryGroup groupNumber groupAddress wordAnswer accessAnswer foundIn mapMarked fieldsWord outcomeOf blockOutcome beforeSearch afterSearch pageOutcome answerOf userMode fetching storing relocated sideOf keyOf pageReadable pageWritable pageAllows guarded blockAllows causeWord faultOf checkCall registerWords checkWords segmentsShape segmentShape sideShape blockShape off upperShape lowerShape sideApart pairApart clash commonV shareAddress everyBelow coveringPair pairCovers covers validFor inBlock blockAttributes blockPP blockPhysical firstBelow noExecute segmentVsid pageIndex physicalAddress secondWord wordsAt wordAt bytesOf wordBytes pairDo pairMarked matchesOf matchesIn matchesBelow freePlace freeEntry free matches apiOf entryWord firstWord firstAt secondAt putEntry withWord searched contradict agree overwrite withMarks
 twelve-cases =
     let hash = rows-hold 0x0F98 3 0x1FE6 0x0019 large case1 (refl, (refl, (refl, (refl, (refl, (refl, tt)))))) in
     let page-8192 = rows-hold 0x0F98 3 0x1FE6 0x0019 large (cases2to5 0x0F980007 0x1FE6 0x0019) (refl, (refl, (refl, (refl, (refl, (refl, (refl, (refl, (refl, tt))))))))) in

@@ -6,23 +6,22 @@ use Prim.Native.Nat.{ℕ, _^_, _<_}
 use native.Mathlib.Omega.{arith}
 use Rattle.words.proofs.Tests.{cond-by}
 use Rattle.entry.specs.declared.Fields.{Fields}
-use Rattle.entry.specs.declared.Packed.{Packed}
-use Rattle.entry.specs.Entry.{firstWord, secondWord, ignoredBits, withinWidths, packedAs, packingRefused, packed, unpacked}
+use Rattle.entry.specs.Entry.{firstWord, secondWord, ignoredBits, withinWidths, packed, unpacked}
 use Rattle.entry.specs.RoundTrip.{PackingAgrees}
 use Rattle.entry.proofs.Widths.{within, widths}
 use Rattle.entry.proofs.Packing.{first-own, first-packed, first-is, second-own, second-packed, second-ignored, second-is}
 
 -- what is packed, by the test of the widths
 pub packed-done : (f : Fields) → withinWidths f ≡ true
-    → packed f ≡ packedAs (firstWord (f .v) (f .vsid) (f .h) (f .api)) (secondWord (f .rpn) (f .r) (f .c) (f .wimg) (f .pp))
+    → packed f ≡ (0, (firstWord (f .v) (f .vsid) (f .h) (f .api), secondWord (f .rpn) (f .r) (f .c) (f .wimg) (f .pp)))
 unfolding packed
 packed-done f e = rw e
 
-pub packed-refused : (f : Fields) → withinWidths f ≡ false → packed f ≡ packingRefused
+pub packed-refused : (f : Fields) → withinWidths f ≡ false → packed f ≡ (6, (0, 0))
 unfolding packed
 packed-refused f e = rw e
 
-unpack-packed : (f : Fields) → withinWidths f ≡ true → unpacked (packed f .words .first) (packed f .words .second) ≡ f
+unpack-packed : (f : Fields) → withinWidths f ≡ true → unpacked (packed f .1 .0) (packed f .1 .1) ≡ f
 unfolding unpacked
 unpack-packed f e =
     let w = within f e in
@@ -41,11 +40,11 @@ unpack-packed f e =
       pp = y .has-pp i;
     })
 
-ignored-zero : (f : Fields) → ignoredBits (packed f .words .second) ≡ 0 ∷ 0 ∷ []
+ignored-zero : (f : Fields) → ignoredBits (packed f .1 .1) ≡ 0 ∷ 0 ∷ []
 unfolding packed ignoredBits
 ignored-zero f =
-    cond-by (λ (p : Packed). ignoredBits (p .words .second) ≡ 0 ∷ 0 ∷ []) (withinWidths f)
-    (packedAs (firstWord (f .v) (f .vsid) (f .h) (f .api)) (secondWord (f .rpn) (f .r) (f .c) (f .wimg) (f .pp))) packingRefused
+    cond-by (λ (p : ℕ × (ℕ × ℕ)). ignoredBits (p .1 .1) ≡ 0 ∷ 0 ∷ []) (withinWidths f)
+    (0, (firstWord (f .v) (f .vsid) (f .h) (f .api), secondWord (f .rpn) (f .r) (f .c) (f .wimg) (f .pp))) (6, (0, 0))
     (λ e. let w = within f e in second-ignored (f .rpn) (f .r) (f .c) (f .wimg) (f .pp) (w .rpn) (w .r) (w .c) (w .wimg) (w .pp)) (λ e. refl)
 
 unpacked-within : (first second : ℕ) → withinWidths (unpacked first second) ≡ true
@@ -53,11 +52,11 @@ unfolding unpacked
 unpacked-within first second = widths (unpacked first second) (omega arith)
 
 pack-unpacked : (first second : ℕ) → first < 2 ^ 32 → second < 2 ^ 32 → ignoredBits second ≡ 0 ∷ 0 ∷ []
-    → packed (unpacked first second) ≡ packedAs first second
+    → packed (unpacked first second) ≡ (0, (first, second))
 unfolding unpacked
 pack-unpacked first second h l e =
     packed-done (unpacked first second) (unpacked-within first second)
-    ∙ ap₂ packedAs (sym (first-is (first-own first) h)) (sym (second-is (second-own second) l e))
+    ∙ ap₂ (λ u v. (0, (u, v))) (sym (first-is (first-own first) h)) (sym (second-is (second-own second) l e))
 
 pub packing-agrees : PackingAgrees
 packing-agrees = record {

@@ -5,7 +5,6 @@ use mathlib.Core.List.{List, [], _∷_}
 use lib.Dec.{eqb, ltb}
 use Rattle.words.specs.Bits.{bits, placed, withBits}
 use Rattle.entry.specs.declared.Fields.{Fields}
-use Rattle.entry.specs.declared.Packed.{Packed}
 
 -- the first word: V bit 0, VSID bits 1 to 24, H bit 25, API bits 26 to 31
 unfoldable pub firstWord : ℕ → ℕ → ℕ → ℕ → ℕ
@@ -25,18 +24,9 @@ withinWidths f =
     ltb (f .v) (2 ^ 1) && ltb (f .vsid) (2 ^ 24) && ltb (f .h) (2 ^ 1) && ltb (f .api) (2 ^ 6)
     && ltb (f .rpn) (2 ^ 20) && ltb (f .r) (2 ^ 1) && ltb (f .c) (2 ^ 1) && ltb (f .wimg) (2 ^ 4) && ltb (f .pp) (2 ^ 2)
 
--- packing done: 0 and the two words
-abbrev pub packedAs : ℕ → ℕ → Packed
-packedAs first second = record { result = 0; words = record { first = first; second = second } }
-
--- packing refused: 6 and zero words
-abbrev pub packingRefused : Packed
-packingRefused = record { result = 6; words = record { first = 0; second = 0 } }
-
--- packing: the words of fields each within its width
-unfoldable pub packed : Fields → Packed
-packed f =
-    cond (withinWidths f) (packedAs (firstWord (f .v) (f .vsid) (f .h) (f .api)) (secondWord (f .rpn) (f .r) (f .c) (f .wimg) (f .pp))) packingRefused
+-- packing: 0 and the two words of fields each within its width; else 6 and zero words
+unfoldable pub packed : Fields → ℕ × (ℕ × ℕ)
+packed f = cond (withinWidths f) (0, (firstWord (f .v) (f .vsid) (f .h) (f .api), secondWord (f .rpn) (f .r) (f .c) (f .wimg) (f .pp))) (6, (0, 0))
 
 -- the fields of a second word that an access reads
 abbrev pub rpnOf : ℕ → ℕ
@@ -64,8 +54,7 @@ unpacked first second = record {
 
 -- an entry matches: V is one, and VSID, H and API agree
 unfoldable pub matches : ℕ → ℕ → ℕ → ℕ → Bool
-matches vsid h api first =
-    eqb (bits 0 0 first) 1 && eqb (bits 1 24 first) vsid && eqb (bits 25 25 first) h && eqb (bits 26 31 first) api
+matches vsid h api first = eqb (bits 0 0 first) 1 && eqb (bits 1 24 first) vsid && eqb (bits 25 25 first) h && eqb (bits 26 31 first) api
 
 -- an entry that map may write in: V is zero
 unfoldable pub free : ℕ → Bool

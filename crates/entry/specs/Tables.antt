@@ -4,7 +4,7 @@ use mathlib.Core.Bool.{true, false}
 use mathlib.Core.List.{[], _∷_}
 use mathlib.Core.Path.{_≡_}
 use Rattle.entry.specs.declared.Fields.{Fields}
-use Rattle.entry.specs.Entry.{ignoredBits, packedAs, packingRefused, packed, unpacked, matches, free, pageIndex, apiOf}
+use Rattle.entry.specs.Entry.{ignoredBits, packed, unpacked, matches, free, pageIndex, apiOf}
 use Rattle.entry.specs.Entry.{referenced, changed, withMarks, withPP, physicalAddress}
 
 -- fields in document 01's order
@@ -15,31 +15,31 @@ fields v vsid h api rpn r c wimg pp =
 pub record EntryTables : Type 0 where
   -- case 2, in the primary group and in the secondary
   pub case-2 :
-      (packed (fields 1 0x0C701C 0 3 0x12345 0 0 2 2) ≡ packedAs 0x86380E03 0x12345012)
-      × (packed (fields 1 0x0C701C 1 3 0x12345 0 0 2 2) ≡ packedAs 0x86380E43 0x12345012)
+      (packed (fields 1 0x0C701C 0 3 0x12345 0 0 2 2) ≡ (0, (0x86380E03, 0x12345012)))
+      × (packed (fields 1 0x0C701C 1 3 0x12345 0 0 2 2) ≡ (0, (0x86380E43, 0x12345012)))
   -- a one in each field alone
   pub places :
-      (packed (fields 1 0 0 0 0 0 0 0 0) ≡ packedAs 0x80000000 0)
-      × (packed (fields 0 1 0 0 0 0 0 0 0) ≡ packedAs 0x00000080 0)
-      × (packed (fields 0 0 1 0 0 0 0 0 0) ≡ packedAs 0x00000040 0)
-      × (packed (fields 0 0 0 1 0 0 0 0 0) ≡ packedAs 0x00000001 0)
-      × (packed (fields 0 0 0 0 1 0 0 0 0) ≡ packedAs 0 0x00001000)
-      × (packed (fields 0 0 0 0 0 1 0 0 0) ≡ packedAs 0 0x00000100)
-      × (packed (fields 0 0 0 0 0 0 1 0 0) ≡ packedAs 0 0x00000080)
-      × (packed (fields 0 0 0 0 0 0 0 1 0) ≡ packedAs 0 0x00000008)
-      × (packed (fields 0 0 0 0 0 0 0 0 1) ≡ packedAs 0 0x00000001)
+      (packed (fields 1 0 0 0 0 0 0 0 0) ≡ (0, (0x80000000, 0)))
+      × (packed (fields 0 1 0 0 0 0 0 0 0) ≡ (0, (0x00000080, 0)))
+      × (packed (fields 0 0 1 0 0 0 0 0 0) ≡ (0, (0x00000040, 0)))
+      × (packed (fields 0 0 0 1 0 0 0 0 0) ≡ (0, (0x00000001, 0)))
+      × (packed (fields 0 0 0 0 1 0 0 0 0) ≡ (0, (0, 0x00001000)))
+      × (packed (fields 0 0 0 0 0 1 0 0 0) ≡ (0, (0, 0x00000100)))
+      × (packed (fields 0 0 0 0 0 0 1 0 0) ≡ (0, (0, 0x00000080)))
+      × (packed (fields 0 0 0 0 0 0 0 1 0) ≡ (0, (0, 0x00000008)))
+      × (packed (fields 0 0 0 0 0 0 0 0 1) ≡ (0, (0, 0x00000001)))
   -- each field at its largest, W and I both one among them, and each alone one past it
   pub widths :
-      (packed (fields 1 0xFFFFFF 1 63 0xFFFFF 1 1 15 3) ≡ packedAs 0xFFFFFFFF 0xFFFFF1FB)
-      × (packed (fields 2 0 0 0 0 0 0 0 0) ≡ packingRefused)
-      × (packed (fields 0 0x1000000 0 0 0 0 0 0 0) ≡ packingRefused)
-      × (packed (fields 0 0 2 0 0 0 0 0 0) ≡ packingRefused)
-      × (packed (fields 0 0 0 64 0 0 0 0 0) ≡ packingRefused)
-      × (packed (fields 0 0 0 0 0x100000 0 0 0 0) ≡ packingRefused)
-      × (packed (fields 0 0 0 0 0 2 0 0 0) ≡ packingRefused)
-      × (packed (fields 0 0 0 0 0 0 2 0 0) ≡ packingRefused)
-      × (packed (fields 0 0 0 0 0 0 0 16 0) ≡ packingRefused)
-      × (packed (fields 0 0 0 0 0 0 0 0 4) ≡ packingRefused)
+      (packed (fields 1 0xFFFFFF 1 63 0xFFFFF 1 1 15 3) ≡ (0, (0xFFFFFFFF, 0xFFFFF1FB)))
+      × (packed (fields 2 0 0 0 0 0 0 0 0) ≡ (6, (0, 0)))
+      × (packed (fields 0 0x1000000 0 0 0 0 0 0 0) ≡ (6, (0, 0)))
+      × (packed (fields 0 0 2 0 0 0 0 0 0) ≡ (6, (0, 0)))
+      × (packed (fields 0 0 0 64 0 0 0 0 0) ≡ (6, (0, 0)))
+      × (packed (fields 0 0 0 0 0x100000 0 0 0 0) ≡ (6, (0, 0)))
+      × (packed (fields 0 0 0 0 0 2 0 0 0) ≡ (6, (0, 0)))
+      × (packed (fields 0 0 0 0 0 0 2 0 0) ≡ (6, (0, 0)))
+      × (packed (fields 0 0 0 0 0 0 0 16 0) ≡ (6, (0, 0)))
+      × (packed (fields 0 0 0 0 0 0 0 0 4) ≡ (6, (0, 0)))
   -- unpacking, with the ignored bits one
   pub fields-read :
       (unpacked 0x86380E43 0x12345E16 ≡ fields 1 0x0C701C 1 3 0x12345 0 0 2 2)

@@ -63,7 +63,7 @@ pub fn within_widths(f: Fields) -> bool
 
 // Packs fields into the two words of an entry.
 pub fn pack(f: Fields) -> Packed
-    ensures { λ r. ⌜ r ≡ packed f ⌝ }
+    ensures { λ r. ⌜ (r .result, (r .words .first, r .words .second)) ≡ packed f ⌝ }
 {
     if within_widths(f) {
         Packed {

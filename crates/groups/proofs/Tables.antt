@@ -1,7 +1,7 @@
 -- Every row of the tables of groups holds: both sides compute to the same.
 use mathlib.Core.Path.{refl}
 use Rattle.words.specs.Below.{firstBelow}
-use Rattle.words.specs.Ones.{bitLength}
+use lib.Ieee.{size, span, climb}
 use Rattle.words.specs.Words.{wordBytes, wordAt, withWord, bytesOf}
 use Rattle.entry.specs.Entry.{free}
 use Rattle.register_words.specs.Sdr1.{maskOnes, hashBits}
@@ -11,7 +11,7 @@ use Rattle.groups.specs.Group.{groupOf, putGroup, onGroup, firstAt, seco
 use Rattle.groups.specs.Tables.{GroupsTables}
 
 pub groups-tables : GroupsTables
-unfolding hashOf primaryGroup secondaryGroup groupNumber groupAddress samePage bitLength maskOnes hashBits wordBytes wordAt withWord bytesOf firstBelow free groupOf putGroup onGroup firstAt secondAt putEntry freeAt freeEntry freePlace firstOf secondOf putAt
+unfolding hashOf primaryGroup secondaryGroup groupNumber groupAddress samePage size span climb maskOnes hashBits wordBytes wordAt withWord bytesOf firstBelow free groupOf putGroup onGroup firstAt secondAt putEntry freeAt freeEntry freePlace firstOf secondOf putAt
 groups-tables = record {
   hashes = record { equal = refl };
   case-1 = record { equal = refl };

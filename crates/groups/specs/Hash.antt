@@ -25,9 +25,7 @@ groupsOf n hash = record { primary = primaryGroup n hash; secondary = secondaryG
 
 -- the number of a page's primary group (false) or of its secondary group (true)
 unfoldable pub groupNumber : ℕ → Bool → Page → ℕ
-groupNumber n secondary page =
-    let hash = hashOf (page .vsid) (page .index) in
-    cond secondary (secondaryGroup n hash) (primaryGroup n hash)
+groupNumber n secondary page = let hash = hashOf (page .vsid) (page .index) in cond secondary (secondaryGroup n hash) (primaryGroup n hash)
 
 -- the address of group g: the origin bits followed by 16 zeros, and 64 × g bytes from there
 unfoldable pub groupAddress : ℕ → ℕ → ℕ

@@ -1,7 +1,7 @@
 -- The search for a page's matches (document 01, "Entries and groups"), and what one pass over them tells.
 use Prim.Native.Nat.{ℕ, _+_, _%_}
 use mathlib.Core.Bool.{Bool, true, false, cond, not, _||_}
-use mathlib.Core.List.{List, [], _∷_, _++_}
+use mathlib.Core.List.{List, [], _∷_, _++_, foldr}
 use lib.Dec.{eqb, leb}
 use Rattle.entry.specs.Entry.{matches, referenced, changed, withMarks}
 use Rattle.tables.specs.Matches.{Match, matchesBelow}
@@ -26,8 +26,7 @@ agree second other = eqb second other
 
 -- some match of a list passes a test
 abbrev pub anyMatch : (Match → Bool) → List Match → Bool
-anyMatch test [] = false
-anyMatch test (m ∷ ms) = test m || anyMatch test ms
+anyMatch test ms = foldr (λ m others. test m || others) false ms
 
 -- the matches contradict: some other one's second word does not agree with the first's
 unfoldable pub contradict : Match → List Match → Bool
@@ -35,8 +34,7 @@ contradict m ms = anyMatch (λ x. not (agree (m .second) (x .second))) ms
 
 -- the first match's second word, with R and C each set if any match had it
 unfoldable pub merged : Match → List Match → ℕ
-merged m ms =
-    withMarks (anyMatch (λ x. referenced (x .second)) (m ∷ ms)) (anyMatch (λ x. changed (x .second)) (m ∷ ms)) (m .second)
+merged m ms = withMarks (anyMatch (λ x. referenced (x .second)) (m ∷ ms)) (anyMatch (λ x. changed (x .second)) (m ∷ ms)) (m .second)
 
 -- every match passes
 abbrev pub each : Match → Bool

@@ -9,7 +9,6 @@ pub use pages::mmu_map;
 pub use pages::mmu_protect;
 pub use pages::mmu_unmap;
 ghost use mathlib.Core.Path.{_≡_};
-ghost use Rattle.calls.specs.Lent.{left};
 ghost use Rattle.calls.specs.WithoutTable.{checkCall, setRegisterCall, packCall, unpackCall};
 
 // Checks a register page.
@@ -28,7 +27,7 @@ pub extern "C" fn mmu_check(page: &[u8]) -> u32
 // Replaces one register word of a page.
 #[no_mangle]
 pub extern "C" fn mmu_set_register(page: &mut [u8], number: u32, word: u32) -> u32
-    ensures { λ r. ⌜ left r (now (page .exit)) ≡ setRegisterCall (now (page .entry)) number word ⌝ }
+    ensures { λ r. ⌜ (r, now (page .exit)) ≡ setRegisterCall (now (page .entry)) number word ⌝ }
 {
     if page.len() != 132 {
         return 11;
@@ -56,7 +55,7 @@ pub extern "C" fn mmu_pack(
     pp: u32,
     entry: &mut [u8],
 ) -> u32
-    ensures { λ n. ⌜ left n (now (entry .exit))
+    ensures { λ n. ⌜ (n, now (entry .exit))
         ≡ packCall (record { v = v; vsid = vsid; h = h; api = api; rpn = rpn; r = r; c = c; wimg = wimg; pp = pp }) (now (entry .entry)) ⌝ }
 {
     if entry.len() != 8 {
@@ -81,7 +80,7 @@ pub extern "C" fn mmu_pack(
 // Unpacks the two words of an entry into nine fields.
 #[no_mangle]
 pub extern "C" fn mmu_unpack(first: u32, second: u32, fields: &mut [u8]) -> u32
-    ensures { λ n. ⌜ left n (now (fields .exit)) ≡ unpackCall first second (now (fields .entry)) ⌝ }
+    ensures { λ n. ⌜ (n, now (fields .exit)) ≡ unpackCall first second (now (fields .entry)) ⌝ }
 {
     if fields.len() != 36 {
         return 11;

@@ -1,6 +1,6 @@
 -- How many elements of a list pass a test, and which.
 use mathlib.Core.Bool.{Bool, cond}
-use mathlib.Core.List.{List, [], _∷_}
+use mathlib.Core.List.{List, [], _∷_, foldr}
 use Prim.Native.Nat.{ℕ, _+_}
 
 -- what an element adds to a count: one if its test holds
@@ -14,5 +14,4 @@ module _ {A : Type 0} (test : A → Bool) where
 
   -- the elements that pass, in their order
   abbrev pub selected : List A → List A
-  selected [] = []
-  selected (x ∷ l) = cond (test x) (x ∷ selected l) (selected l)
+  selected l = foldr (λ x rest. cond (test x) (x ∷ rest) rest) [] l

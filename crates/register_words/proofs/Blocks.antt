@@ -10,7 +10,8 @@ use lib.Dec.{eqb}
 use lib.Pow.{pow-pos, pow-mono, split, shl-shr, shr-shr, shr-mod}
 use borrow.Author.Tests.{eqb-true, eq-eqb, ne-eqb}
 use Rattle.words.specs.Bits.{bits}
-use Rattle.words.specs.Ones.{bitLength, lowOnes}
+use lib.Ieee.{size}
+use Rattle.words.specs.Ones.{lowOnes}
 use Rattle.words.proofs.Ones.{ones-true, ones-width}
 use Rattle.words.proofs.Tests.{both}
 use Rattle.words.proofs.Masks.{and-not-in}
@@ -113,8 +114,8 @@ module _ (width : ℕ) (wide : width ≤ 15) (upper address : ℕ) (hu : upper <
       )
 
   pub holds-range : (inBlock width upper address ≡ true)
-      ↔ (address / 2 ^ (17 + bitLength (blOf width upper)) ≡ upper / 2 ^ (17 + bitLength (blOf width upper)))
-  holds-range = range (bitLength (blOf width upper)) (ones-true (blOf width upper) low-bl) (ones-width (blOf width upper) 15 low-bl (bl-lt width wide upper))
+      ↔ (address / 2 ^ (17 + size (blOf width upper)) ≡ upper / 2 ^ (17 + size (blOf width upper)))
+  holds-range = range (size (blOf width upper)) (ones-true (blOf width upper) low-bl) (ones-width (blOf width upper) 15 low-bl (bl-lt width wide upper))
 
 module _ (width : ℕ) (wide : width ≤ 15) where
   -- two blocks that cover one address for one privilege clash

@@ -6,8 +6,9 @@ use native.Mathlib.Omega.{arith}
 use lib.Bits.{bitAnd, and-mask}
 use lib.Pow.{pow-pos, pow-mono, mod-mod-pow}
 use borrow.Author.Tests.{eq-eqb}
-use Rattle.words.specs.Ones.{bitLength, lowOnes}
-use Rattle.words.proofs.Ones.{ones-true, true-ones, length-ones, ones-width}
+use lib.Ieee.{size}
+use Rattle.words.specs.Ones.{lowOnes}
+use Rattle.words.proofs.Ones.{ones-true, true-ones, size-ones, ones-width}
 use Rattle.words.proofs.Tests.{both}
 use Rattle.register_words.specs.Sdr1.{originOf, maskOf, sdr1Shape, tableLength, maskOnes}
 
@@ -48,7 +49,7 @@ module _ (o k : ℕ) (few : k ≤ 9) (whole : o % 2 ^ k ≡ 0) where
 
   pub made-ones : maskOnes (o * 65536 + (2 ^ k - 1)) ≡ k
   unfolding maskOnes
-  made-ones = ap bitLength made-mask ∙ length-ones k
+  made-ones = ap size made-mask ∙ size-ones k
 
   pub made-length : tableLength (o * 65536 + (2 ^ k - 1)) ≡ 65536 * 2 ^ k
   unfolding tableLength

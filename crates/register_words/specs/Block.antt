@@ -64,9 +64,7 @@ module _ (width : ℕ) where
 
   -- two blocks share an effective address: their starts agree outside the BL bits of both (`Shares` says what this decides)
   unfoldable pub shareAddress : ℕ → ℕ → Bool
-  shareAddress upper₁ upper₂ =
-      let either = bitOr (blOf upper₁) (blOf upper₂) in
-      eqb (bitOr either (bepiOf upper₁)) (bitOr either (bepiOf upper₂))
+  shareAddress upper₁ upper₂ = let either = bitOr (blOf upper₁) (blOf upper₂) in eqb (bitOr either (bepiOf upper₁)) (bitOr either (bepiOf upper₂))
 
   -- what refusal 4 forbids of two blocks of a side
   unfoldable pub clash : ℕ → ℕ → Bool

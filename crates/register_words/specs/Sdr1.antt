@@ -4,7 +4,8 @@ use mathlib.Core.Bool.{Bool, _&&_}
 use lib.Bits.{bitAnd}
 use lib.Dec.{eqb}
 use Rattle.words.specs.Bits.{bits}
-use Rattle.words.specs.Ones.{bitLength, lowOnes}
+use lib.Ieee.{size}
+use Rattle.words.specs.Ones.{lowOnes}
 
 -- the table's origin, bits 0 to 15
 abbrev pub originOf : ℕ → ℕ
@@ -24,7 +25,7 @@ tableLength sdr1 = 65536 * (maskOf sdr1 + 1)
 
 -- k, the number of ones of the mask
 unfoldable pub maskOnes : ℕ → ℕ
-maskOnes sdr1 = bitLength (maskOf sdr1)
+maskOnes sdr1 = size (maskOf sdr1)
 
 -- n = 10 + k, the number of hash bits that name a group
 unfoldable pub hashBits : ℕ → ℕ

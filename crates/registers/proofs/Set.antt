@@ -8,8 +8,7 @@ use lib.Dec.{ltb, lit≤}
 use borrow.Author.Tests.{not-false, ltb-true}
 use Rattle.words.proofs.Tests.{both}
 use Rattle.register_words.specs.Sdr1.{sdr1Shape}
-use Rattle.registers.specs.Set.{sdr1Of, segmentsShape, sideStart, sideShape, sideApart, checkWords, replaced}
-use Rattle.registers.specs.declared.Registers.{Registers}
+use Rattle.registers.specs.Set.{sdr1Of, segmentsShape, sideStart, sideShape, sideApart, checkWords, replacing}
 
 -- a side's pairs end with the set
 pub start-at-most : (side : Bool) → sideStart 4 side ≤ 25
@@ -52,9 +51,9 @@ checked pairs width words passed =
     }
 
 -- a word is replaced only under a number below 33
-pub replaced-number : (registers : Registers) (number word : ℕ) → replaced registers number word .result ≡ 0 → number < 33
-unfolding replaced
-replaced-number registers number word done = go (ltb number 33) refl
+pub replaced-number : (words : List ℕ) (number word : ℕ) → replacing words number word ≡ 0 → number < 33
+unfolding replacing
+replaced-number words number word done = go (ltb number 33) refl
   where
     go : (t : Bool) → ltb number 33 ≡ t → number < 33
     go true e = ltb-true number 33 e

@@ -4,7 +4,7 @@ use mathlib.Core.Bool.{Bool, true}
 use mathlib.Core.List.{List}
 use mathlib.Core.Logic.{_↔_}
 use mathlib.Core.Path.{_≡_}
-use Rattle.words.specs.Ones.{bitLength}
+use lib.Ieee.{size}
 use Rattle.register_words.specs.Block.{blOf, upperShape, inBlock, shareAddress}
 use Rattle.registers.specs.Set.{checkWords, pairCovers}
 
@@ -12,7 +12,7 @@ pub record BlocksDecide (pairs width : ℕ) : Type 0 where
   -- a block of right shape whose BL has k ones holds the 2 ^ (17 + k) addresses that agree with its start above them
   pub holds : (upper address : ℕ) → upper < 2 ^ 32 → address < 2 ^ 32 → upperShape width upper ≡ true
       → (inBlock width upper address ≡ true)
-      ↔ (address / 2 ^ (17 + bitLength (blOf width upper)) ≡ upper / 2 ^ (17 + bitLength (blOf width upper)))
+      ↔ (address / 2 ^ (17 + size (blOf width upper)) ≡ upper / 2 ^ (17 + size (blOf width upper)))
   -- two blocks of right shape share an address by the test exactly when some effective address lies in both
   pub shares : (upper₁ upper₂ : ℕ) → upperShape width upper₁ ≡ true → upperShape width upper₂ ≡ true
       → (shareAddress width upper₁ upper₂ ≡ true)

@@ -69,12 +69,15 @@ module _ (pairs : ℕ) where
     unfoldable pub coveringPair : List ℕ → Bool → Bool → ℕ → ℕ
     coveringPair words side user address = firstBelow pairs (pairCovers words side user address)
 
--- replacing one register word: the new set, with the word of that number changed, or the refusal and the old set
+-- replacing the word of a number: 0, or the refusal, 6 for the number, then 2, 3, 4, 5 of the new set
+unfoldable pub replacing : List ℕ → ℕ → ℕ → ℕ
+replacing words number word = cond (ltb number 33) (checkWords 4 11 (set words number word)) 6
+
+-- the set with the word replaced, or the refusal and the old set
 unfoldable pub replaced : Registers → ℕ → ℕ → Replaced
 replaced registers number word =
-    let words = set (registers .words) number word in
-    let refusal = cond (ltb number 33) (checkWords 4 11 words) 6 in
-    cond (eqb refusal 0) (record { result = 0; set = record { words = words } }) (record { result = refusal; set = registers })
+    let result = replacing (registers .words) number word in
+    record { result = result; set = cond (eqb result 0) (record { words = set (registers .words) number word }) registers }
 
 -- the words of a register page of 132 bytes
 unfoldable pub registerWords : List ℕ → List ℕ

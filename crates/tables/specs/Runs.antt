@@ -1,5 +1,5 @@
 -- Runs of a machine over a list of calls, for any calls, states and answers.
-use mathlib.Core.List.{List, [], _∷_}
+use mathlib.Core.List.{List, [], _∷_, foldl}
 
 module _ {C S A : Type 0} (step : C → S → A × S) where
   -- the answers to a list of calls, each made in the state that the one before left
@@ -9,8 +9,7 @@ module _ {C S A : Type 0} (step : C → S → A × S) where
 
   -- the state after a list of calls
   abbrev pub after : List C → S → S
-  after [] s = s
-  after (c ∷ cs) s = after cs (step c s .1)
+  after cs s = foldl (λ t c. step c t .1) s cs
 
 -- a condition holds of each call of a list
 abbrev pub Each : {C : Type 0} → (C → Type 0) → List C → Type 0

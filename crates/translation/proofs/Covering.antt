@@ -9,7 +9,8 @@ use lib.Bits.{bitAnd, bitOr, and-mask}
 use lib.Pow.{pow-pos, mod-pow-add, mod-mod-pow}
 use borrow.Author.Tests.{eqb-true}
 use Rattle.words.specs.Bits.{bits, placed}
-use Rattle.words.specs.Ones.{bitLength, lowOnes}
+use lib.Ieee.{size}
+use Rattle.words.specs.Ones.{lowOnes}
 use Rattle.words.proofs.Below.{first-found, first-none}
 use Rattle.words.proofs.Masks.{or-sum}
 use Rattle.words.proofs.Ones.{ones-true, ones-width}
@@ -44,7 +45,7 @@ module _ (width : ℕ) (wide : width ≤ 15) (side : Bool) (upper lower address 
   unfolding lowerShape
   clear-brpn = eqb-true _ 0 (both _ _ (both _ _ (both _ _ (both _ _ lower-shape .0) .0) .0) .0)
 
-  few : bitLength (blOf width upper) ≤ 15
+  few : size (blOf width upper) ≤ 15
   few =
       let w = 29 + 1 - (30 - width) in
       let at-most : w ≤ 15 = omega arith in
@@ -67,6 +68,6 @@ module _ (width : ℕ) (wide : width ≤ 15) (side : Bool) (upper lower address 
       let order : 17 + k ≡ k + 17 = omega arith in
       rw (sum, order, low, div-one address) (omega arith)
 
-  pub block-offset : blockPhysical width upper lower address ≡ placed 14 (brpnOf lower) + address % 2 ^ (17 + bitLength (blOf width upper))
+  pub block-offset : blockPhysical width upper lower address ≡ placed 14 (brpnOf lower) + address % 2 ^ (17 + size (blOf width upper))
   unfolding blockPhysical
-  block-offset = put-in (bitLength (blOf width upper)) (ones-true (blOf width upper) low-bl) few
+  block-offset = put-in (size (blOf width upper)) (ones-true (blOf width upper) low-bl) few

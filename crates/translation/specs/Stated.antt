@@ -5,7 +5,7 @@ use mathlib.Core.List.{List}
 use mathlib.Core.Logic.{_↔_}
 use mathlib.Core.Path.{_≡_}
 use Rattle.words.specs.Bits.{placed}
-use Rattle.words.specs.Ones.{bitLength}
+use lib.Ieee.{size}
 use Rattle.entry.specs.Entry.{rpnOf, wimgOf, ppOf}
 use Rattle.entry.specs.RoundTrip.{PackingAgrees}
 use Rattle.entry.specs.Tables.{EntryTables}
@@ -121,7 +121,7 @@ pub record AccessAsStated : Type 0 where
   pub blocks : BlocksDecide 4 11
   -- in a block of right shape the physical address is its physical start and the address's 17 + k low bits, where BL has k ones
   pub block-physical : (side : Bool) (upper lower address : ℕ) → upperShape 11 upper ≡ true → lowerShape 11 side upper lower ≡ true
-      → blockPhysical 11 upper lower address ≡ placed 14 (brpnOf lower) + address % 2 ^ (17 + bitLength (blOf 11 upper))
+      → blockPhysical 11 upper lower address ≡ placed 14 (brpnOf lower) + address % 2 ^ (17 + size (blOf 11 upper))
   pub before : (words : List ℕ) (mode kind address : ℕ) → StepsBefore 4 11 words mode kind address
   pub after : (kind : ℕ) (key : Bool) → StepsAfter kind key
   pub answers : (kind address : ℕ) → AnswersStated kind address

@@ -28,8 +28,7 @@ segmentAt words address = segmentOf words (bits 0 3 address)
 
 -- what the search looks for, at the segment's VSID and the page index, and the key of step 6
 abbrev pub wantedOf : Bool → ℕ → ℕ → Wanted
-wantedOf user segment address =
-    record { vsid = segmentVsid segment; index = pageIndex address; key = keyOf user segment }
+wantedOf user segment address = record { vsid = segmentVsid segment; index = pageIndex address; key = keyOf user segment }
 
 module _ (pairs width : ℕ) where
   -- step 2, by the block of pair i of the access's side

@@ -2,7 +2,8 @@
 use borrow.Author.Needs.{needs}
 use mathlib.Core.Path.{_≡_, refl}
 use mathlib.Core.Bool.{true}
-use Rattle.words.specs.Ones.{bitLength, lowOnes}
+use lib.Ieee.{size, span, climb}
+use Rattle.words.specs.Ones.{lowOnes}
 use Rattle.register_words.specs.Sdr1.{sdr1Shape, hashBits}
 use Rattle.groups.specs.Hash.{groupsOf}
 use Rattle.groups.proofs.Hash.{primary-lt, secondary-lt}
@@ -10,7 +11,7 @@ use Rattle.cases.proofs.case1.Statement.{statement}
 use Rattle.cases.proofs.case1.Tie as tie
 
 shape : sdr1Shape 0x0F980007 ≡ true
-unfolding sdr1Shape lowOnes bitLength
+unfolding sdr1Shape lowOnes size span climb
 shape = refl
 
 hash-of-requires : tie.Need-hash-of-requires

@@ -1,7 +1,8 @@
 -- `cases::case6` is safe: SDR1 0F980000 has its shape.
 use borrow.Author.Needs.{needs}
 use mathlib.Core.Path.{refl}
-use Rattle.words.specs.Ones.{bitLength, lowOnes}
+use lib.Ieee.{size, span, climb}
+use Rattle.words.specs.Ones.{lowOnes}
 use Rattle.register_words.specs.Sdr1.{sdr1Shape}
 use Rattle.cases.proofs.case6.Statement.{statement}
 use Rattle.cases.proofs.case6.Tie as tie
@@ -10,7 +11,7 @@ hash-of-requires : tie.Need-hash-of-requires
 hash-of-requires c κs = search needs
 
 hash-mask-requires : tie.Need-hash-mask-requires
-unfolding sdr1Shape lowOnes bitLength
+unfolding sdr1Shape lowOnes size span climb
 hash-mask-requires c κs = refl
 
 groups-of-requires : tie.Need-groups-of-requires

@@ -1,9 +1,8 @@
 -- `mmu::mmu_pack` meets its contract: two words fill eight bytes.
-use mathlib.Core.Path.{_≡_, sym, ap}
+use mathlib.Core.Path.{_≡_, sym}
 use lib.ListN.{length}
-use Rattle.calls.specs.Lent.{left}
 use Rattle.calls.specs.WithoutTable.{packCall}
-use Rattle.calls.proofs.Lent.{right-length, wrong-length}
+use Rattle.calls.proofs.Lent.{right-length, wrong-length, beside}
 use borrow.Author.Needs.{needs}
 use Rattle.mmu.proofs.mmu_pack.Statement.{statement}
 use Rattle.mmu.proofs.mmu_pack.Tie as tie
@@ -29,7 +28,7 @@ unfolding packCall
 returns-2 c =
     let at-pack = c .before .before .before .before .before in
     let len : length (at-pack .before .before .before .args .entry .now) ≡ 8 = at-pack .before .if1 .left in
-    rw (right-length, ← at-pack .pack .ensures) (ap (left _) (c .before .before .write-words .ensures))
+    rw (right-length, ← at-pack .pack .ensures) (beside _ (c .before .before .write-words .ensures))
 
 pub mmu-pack-spec : {M : Type 1} → statement M
 mmu-pack-spec =

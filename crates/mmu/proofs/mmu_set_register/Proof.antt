@@ -5,11 +5,10 @@ use native.Mathlib.Omega.{arith}
 use lib.ListN.{length}
 use Rattle.registers.specs.declared.Registers.{Registers}
 use Rattle.registers.specs.declared.Replaced.{Replaced}
-use Rattle.registers.specs.Set.{registerWords, replaced}
+use Rattle.registers.specs.Set.{registerWords, replacing, replaced}
 use Rattle.registers.proofs.Set.{replaced-number}
-use Rattle.calls.specs.Lent.{left}
 use Rattle.calls.specs.WithoutTable.{setRegisterCall}
-use Rattle.calls.proofs.Lent.{right-length, wrong-length}
+use Rattle.calls.proofs.Lent.{right-length, wrong-length, beside}
 use borrow.Author.Needs.{needs}
 use Rattle.mmu.proofs.mmu_set_register.Statement.{statement}
 use Rattle.mmu.proofs.mmu_set_register.Tie as tie
@@ -17,7 +16,8 @@ use Rattle.mmu.proofs.mmu_set_register.Tie as tie
 -- what the method answered is the definition's number for the page's set
 result-is : (c : tie.After-with-word) →
     let start = c .before .before .before .before .before in
-    c .with-word .result .result ≡ replaced (record { words = registerWords (start .args .page .now) }) (start .args .number) (start .args .word) .result
+    c .with-word .result .result ≡ replacing (registerWords (start .args .page .now)) (start .args .number) (start .args .word)
+unfolding replaced
 result-is c =
     let start = c .before .before .before .before .before in
     ap (λ (p : Replaced). p .result) (c .with-word .ensures
@@ -40,7 +40,7 @@ write-word-requires : tie.Need-write-word-requires
 write-word-requires c κs =
     let at-with = c .before .before in
     let start = at-with .before .before .before .before .before in
-    let below = replaced-number (record { words = registerWords (start .args .page .now) }) (start .args .number) (start .args .word) (sym (result-is at-with) ∙ c .before .if2 .taken) in
+    let below = replaced-number (registerWords (start .args .page .now)) (start .args .number) (start .args .word) (sym (result-is at-with) ∙ c .before .if2 .taken) in
     omega (arith, at-with .before .before .before .if1 .left)
 
 same-length : tie.Need-same-length
@@ -53,7 +53,7 @@ returns-2 c =
     let at-with = at-if .before in
     let start = at-with .before .before .before .before .before in
     let len : length (start .args .page .now) ≡ 132 = at-with .before .before .before .if1 .left in
-    rw (right-length, ← result-is at-with, eq-eqb _ _ (at-if .if2 .taken)) (ap (left _) (c .before .before .write-word .ensures))
+    rw (right-length, ← result-is at-with, eq-eqb _ _ (at-if .if2 .taken)) (beside _ (c .before .before .write-word .ensures))
 
 same-length-2 : tie.Need-same-length-2
 same-length-2 c = search needs

@@ -1,9 +1,8 @@
 -- `mmu::mmu_unpack` meets its contract: nine words fill thirty-six bytes.
-use mathlib.Core.Path.{_≡_, sym, ap}
+use mathlib.Core.Path.{_≡_, sym}
 use lib.ListN.{length}
-use Rattle.calls.specs.Lent.{left}
 use Rattle.calls.specs.WithoutTable.{unpackCall}
-use Rattle.calls.proofs.Lent.{right-length, wrong-length}
+use Rattle.calls.proofs.Lent.{right-length, wrong-length, beside}
 use borrow.Author.Needs.{needs}
 use Rattle.mmu.proofs.mmu_unpack.Statement.{statement}
 use Rattle.mmu.proofs.mmu_unpack.Tie as tie
@@ -29,7 +28,7 @@ unfolding unpackCall
 returns-2 c =
     let at-unpack = c .before .before .before .before .before in
     let len : length (at-unpack .before .before .before .args .fields .now) ≡ 36 = at-unpack .before .if1 .left in
-    rw (right-length, ← at-unpack .unpack .ensures) (ap (left _) (c .before .before .write-words .ensures))
+    rw (right-length, ← at-unpack .unpack .ensures) (beside _ (c .before .before .write-words .ensures))
 
 pub mmu-unpack-spec : {M : Type 1} → statement M
 mmu-unpack-spec =

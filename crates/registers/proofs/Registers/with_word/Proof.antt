@@ -1,12 +1,12 @@
 -- `registers::Registers::with_word` meets its contract: the new set is checked before it is handed back.
-use borrow.Author.Tests.{lt-ltb, le-ltb, eq-eqb, ne-eqb}
-use Rattle.registers.specs.Set.{replaced}
+use borrow.Author.Tests.{lt-ltb, le-ltb, ne-eqb}
+use Rattle.registers.specs.Set.{replacing, replaced}
 use borrow.Author.Needs.{needs}
 use Rattle.registers.proofs.Registers.with_word.Statement.{statement}
 use Rattle.registers.proofs.Registers.with_word.Tie as tie
 
 returns : tie.Need-returns
-unfolding replaced
+unfolding replacing replaced
 returns c = simp (le-ltb _ _ (c .if1 .taken))
 
 mul-next : tie.Need-mul-next
@@ -19,12 +19,12 @@ check-requires : tie.Need-check-requires
 check-requires c κs = search needs
 
 returns-2 : tie.Need-returns-2
-unfolding replaced
+unfolding replacing replaced
 returns-2 c = rw (lt-ltb _ _ (c .before .before .if1 .left), ← c .before .check .ensures, ne-eqb _ _ (c .if2 .taken))
 
 returns-3 : tie.Need-returns-3
-unfolding replaced
-returns-3 c = rw (lt-ltb _ _ (c .before .before .if1 .left), ← c .before .check .ensures, eq-eqb _ _ (c .if2 .left))
+unfolding replacing replaced
+returns-3 c = rw (lt-ltb _ _ (c .before .before .if1 .left), ← c .before .check .ensures, c .if2 .left)
 
 pub with-word-spec : {M : Type 1} → statement M
 with-word-spec =

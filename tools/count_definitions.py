@@ -5,8 +5,8 @@ From the names below it follows what each definition cites, over the files of cr
 name. A line counts if it is text: imports, comments, empty lines, `module` and `unfolding` lines do not. With --list it prints each definition and
 its lines; with --under N it fails where the definitions are N lines or more.
 
-Counted apart: the statements. Not followed: their rows, which are proved and not believed; and what is proved by its type (`Decision`: a decision of
-type `Dec (Arrangement ..)` is right whatever its text). What `represents` and `TwelveCases` cite beyond this is not counted; README gives the counts
+Counted apart: the statements. Not followed: their rows, which are proved and not believed, and what lies in crates/*/proofs (the decision whether an
+arrangement exists: its type says that it is right). What `represents` and `TwelveCases` cite beyond this is not counted; README gives the counts
 with them.
 """
 import glob
@@ -19,13 +19,11 @@ ROOT = os.path.join(os.path.dirname(os.path.abspath(__file__)), "..", "crates")
 # What the ten contracts cite, and the statements of demands 2 and 3.
 START = [
     ("calls", "OnBytes", ["ended", "onBytes"]),
-    ("calls", "Lent", ["left"]),
     ("calls", "WithoutTable", ["checkCall", "setRegisterCall", "packCall", "unpackCall"]),
     ("calls", "Theorem", ["TableRefinesMap", "AccessFollowsHistory"]),
     ("translation", "Stated", ["AccessAsStated"]),
 ]
 STATEMENTS = {"Theorem", "Stated", "RoundTrip", "Blocks"}
-PROVED_BY_TYPE = {"Decision"}
 ROWS = {"Tables", "PageRows", "FourGroups", "Rows", "Cases"}
 
 TYPE = "the type "
@@ -80,12 +78,15 @@ def main():
         files[(path.split(os.sep)[-3], os.path.basename(path)[:-5])] = read(path)
     types = read_types()
     queue = [(crate, module, name) for crate, module, names in START for name in names]
+    missing = [start for start in queue if start[2] not in files.get(start[:2], ({}, {}))[1]]
+    if missing:
+        sys.exit(f"not defined: {missing}")
     seen, kept = set(), {}
     while queue:
         crate, module, name = queue.pop()
         if module.startswith(TYPE):
             kept[(crate, module, types[(crate, module[len(TYPE):])])] = module[len(TYPE):]
-        if (crate, module, name) in seen or (crate, module) not in files or module in PROVED_BY_TYPE | ROWS:
+        if (crate, module, name) in seen or (crate, module) not in files or module in ROWS:
             continue
         seen.add((crate, module, name))
         imported, definitions = files[(crate, module)]

@@ -7,7 +7,7 @@ use lib.Dec.{eqb}
 use Rattle.entry.specs.Entry.{secondWord}
 use Rattle.placement.specs.Lists.{oneIf}
 use Rattle.placement.specs.Placement.{Arrangement}
-use Rattle.placement.specs.Decision.{arrangement?}
+use Rattle.placement.proofs.Decision.{arrangement?}
 use Rattle.placement.specs.FiniteMap.{fieldsAt, putIn, takeOut, revise, mappedPages}
 use Rattle.register_words.specs.Sdr1.{maskOnes}
 use Rattle.registers.specs.Set.{registerWords}

@@ -8,7 +8,8 @@ use native.Mathlib.Omega.{arith}
 use lib.Dec.{ltb}
 use borrow.Author.Tests.{lt-ltb, le-ltb}
 use Rattle.placement.specs.Placement.{Arrangement}
-use Rattle.placement.specs.Decision.{ofPair, pagesOfPair, own-pair, primary-in-range, pair-bound, place, arrangement?, ArrangementExists}
+use Rattle.placement.specs.Pairs.{ofPair, pagesOfPair, ArrangementExists}
+use Rattle.placement.proofs.Decision.{own-pair, primary-in-range, pair-bound, place}
 use Rattle.placement.specs.FiniteMap.{mappedPages, takeOut}
 use Rattle.placement.proofs.Lists.{howMany-sublist, selected-sublist}
 use Rattle.placement.proofs.Perm.{Perm, phowMany}
@@ -45,10 +46,10 @@ module _ {P : Type 0} (group : Bool → P → ℕ) (capacity half : ℕ) (mirror
       back l (inl b) = b
       back l (inr full) = absurd (omega arith)
 
-  decided : (p : P) (ps : List P) → Arrangement group capacity ps
-      → decide (arrangement? group capacity half mirror (p ∷ ps)) ≡ ltb (pagesOfPair group (group false p) ps) (capacity + capacity)
+  decided : (p : P) (ps : List P) → Arrangement group capacity ps → (d : Dec (Arrangement group capacity (p ∷ ps)))
+      → decide d ≡ ltb (pagesOfPair group (group false p) ps) (capacity + capacity)
   unfolding decide
-  decided p ps a = go (arrangement? group capacity half mirror (p ∷ ps)) (place group capacity half mirror p ps a)
+  decided p ps a d = go d (place group capacity half mirror p ps a)
     where
       go : (d : Dec (Arrangement group capacity (p ∷ ps))) → Arrangement group capacity (p ∷ ps) ⊎ (capacity + capacity ≤ pagesOfPair group (group false p) ps)
           → decide d ≡ ltb (pagesOfPair group (group false p) ps) (capacity + capacity)
@@ -56,7 +57,7 @@ module _ {P : Type 0} (group : Bool → P → ℕ) (capacity half : ℕ) (mirror
       go (no n) (inl b) = absurd (n b)
       go (no n) (inr full) = sym (le-ltb (pagesOfPair group (group false p) ps) (capacity + capacity) full)
 
-  pub arrangement-exists : ArrangementExists group capacity half mirror
+  pub arrangement-exists : ArrangementExists group capacity half
   arrangement-exists = record {
     exactly = λ ps. (
       λ a g l. let k = pair-bound group capacity half mirror ps a g l in omega arith,

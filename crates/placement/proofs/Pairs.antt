@@ -7,7 +7,8 @@ use Prim.Native.Nat.{ℕ, suc, _+_, _-_, _<_}
 use native.Mathlib.Omega.{arith}
 use lib.Dec.{eqb}
 use Rattle.placement.specs.Lists.{oneIf}
-use Rattle.placement.specs.Decision.{ofPair, pagesOfPair, ofPair-by, primary-in-range}
+use Rattle.placement.specs.Pairs.{ofPair, pagesOfPair}
+use Rattle.placement.proofs.Decision.{ofPair-by, primary-in-range}
 use Rattle.placement.specs.FiniteMap.{mappedPages, putIn, fieldsAt, takeOut, revise, NoPageTwice}
 use Rattle.placement.proofs.Lists.{howMany-same}
 use Rattle.placement.proofs.Perm.{phowMany, pmap}

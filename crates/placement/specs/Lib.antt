@@ -1,5 +1,4 @@
 pub mod Lists
 pub mod Placement
-pub mod Decision
+pub mod Pairs
 pub mod FiniteMap
-pub mod FourGroups

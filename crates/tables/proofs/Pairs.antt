@@ -7,7 +7,8 @@ use lib.Dec.{eqb}
 use lib.ListN.{length, length-append}
 use borrow.Author.Tests.{eqb-true, eqb-false}
 use Rattle.placement.specs.Lists.{oneIf}
-use Rattle.placement.specs.Decision.{ofPair, ofPair-by}
+use Rattle.placement.specs.Pairs.{ofPair}
+use Rattle.placement.proofs.Decision.{ofPair-by}
 use Rattle.tables.specs.Matches.{Match}
 use Rattle.tables.specs.Layout.{Layout, groups, matchesIn, matchesOf, freeAt, used, usedOfPair, LayoutLaws}
 use Rattle.tables.proofs.Groups.{MatchOf, group-in-range, group-mirror}

@@ -8,7 +8,7 @@ use mathlib.Core.Option.{Option, none, some, Option·some-ne-none}
 use Prim.Native.Nat.{ℕ, suc, _+_, _-_, _<_}
 use native.Mathlib.Omega.{arith}
 use Rattle.placement.specs.Placement.{Arrangement}
-use Rattle.placement.specs.Decision.{pagesOfPair}
+use Rattle.placement.specs.Pairs.{pagesOfPair}
 use Rattle.placement.specs.FiniteMap.{mappedPages, fieldsAt}
 use Rattle.placement.proofs.Arrangements.{arrangement-exists}
 use Rattle.tables.specs.Matches.{Match}

@@ -8,7 +8,7 @@ use Prim.Native.Nat.{ℕ, suc, _+_, _-_, _<_}
 use native.Mathlib.Omega.{arith}
 use lib.ListN.{length}
 use Rattle.placement.specs.Lists.{oneIf}
-use Rattle.placement.specs.Decision.{ofPair, pagesOfPair}
+use Rattle.placement.specs.Pairs.{ofPair, pagesOfPair}
 use Rattle.placement.specs.FiniteMap.{mappedPages, putIn, fieldsAt, takeOut, revise, NoPageTwice}
 use Rattle.placement.proofs.FiniteMap.{fieldsAt-putIn-same, fieldsAt-putIn-other, fieldsAt-takeOut-same, fieldsAt-takeOut-other, fieldsAt-revise-same, fieldsAt-revise-other}
 use Rattle.placement.proofs.FiniteMap.{noPageTwice-takeOut, noPageTwice-revise}

@@ -5,7 +5,7 @@ use mathlib.Core.Bool.{Bool}
 use mathlib.Core.List.{List, [], _∷_, map}
 use mathlib.Core.Option.{Option, none, some}
 use Prim.Native.Nat.{ℕ, _<_}
-use Rattle.placement.specs.Decision.{pagesOfPair}
+use Rattle.placement.specs.Pairs.{pagesOfPair}
 use Rattle.placement.specs.FiniteMap.{mappedPages, fieldsAt, NoPageTwice}
 use Rattle.tables.specs.Matches.{Match}
 use Rattle.tables.specs.Layout.{Layout, groups, matchesOf, usedOfPair}

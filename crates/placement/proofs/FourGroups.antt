@@ -4,7 +4,7 @@ use mathlib.Core.Bool.{Bool, true, false, decide}
 use mathlib.Core.List.{List, [], _∷_, _++_, map}
 use Prim.Native.Nat.{ℕ, zero, suc, _+_, _-_, _*_, _%_}
 use native.Mathlib.Omega.{arith}
-use Rattle.placement.specs.Decision.{arrangement?}
+use Rattle.placement.proofs.Decision.{arrangement?}
 
 -- Pages are numbers. Groups 0 and 3 are a pair, and 1 and 2 are the other.
 abbrev group : Bool → ℕ → ℕ

@@ -1,31 +1,23 @@
--- Whether an arrangement exists: a decision that computes, and the count that says the same.
--- A page's two groups mirror one another, so the groups come in pairs, and each page is of one pair.
+-- Whether an arrangement exists is decided, by a decision that computes: each page goes where an entry is left, and where none is, its pair is full.
+-- The type of the decision says that it is right.
 use mathlib.Core.Path.{_≡_, refl, sym, ap, _∙_, subst}
-use mathlib.Core.Bool.{Bool, true, false, _||_, or-comm, decide}
+use mathlib.Core.Bool.{Bool, true, false, _||_, or-comm}
 use mathlib.Core.List.{List, [], _∷_}
-use mathlib.Core.Logic.{_↔_, _⊎_, inl, inr}
+use mathlib.Core.Logic.{_⊎_, inl, inr}
 use Prim.Native.Nat.{ℕ, suc, _+_, _-_, _≤_, _<_}
 use native.Mathlib.Omega.{arith}
 use lib.Dec.{eqb, ltb}
 use borrow.Author.Tests.{eqb-true, eq-eqb, ltb-true, ltb-false}
 use Rattle.words.proofs.Tests.{eqb-same}
-use Rattle.placement.specs.Lists.{oneIf, howMany}
+use Rattle.placement.specs.Lists.{oneIf}
 use Rattle.placement.specs.Placement.{Choices, timesChosen, Arrangement}
+use Rattle.placement.specs.Pairs.{ofPair, pagesOfPair}
 
 module _ {P : Type 0} (group : Bool → P → ℕ) where
-  -- group g is one of page p's own two groups
-  abbrev pub ofPair : ℕ → P → Bool
-  ofPair g p = eqb (group false p) g || eqb (group true p) g
-
-  -- how many pages of the list have group g as one of their own two
-  abbrev pub pagesOfPair : ℕ → List P → ℕ
-  pagesOfPair g ps = howMany (ofPair g) ps
-
   -- a page is of its own pair
-  pub own-pair : (p : P) (ps : List P) → pagesOfPair (group false p) (p ∷ ps) ≡ suc (pagesOfPair (group false p) ps)
+  pub own-pair : (p : P) (ps : List P) → pagesOfPair group (group false p) (p ∷ ps) ≡ suc (pagesOfPair group (group false p) ps)
   own-pair p ps = rw (eq-eqb (group false p) (group false p) refl) (omega arith)
 
--- The type of the decision says that it is right; all that follows up to it serves that type.
 oneIf-or : (s t : Bool) → (s ≡ true → t ≡ true → ⊥) → oneIf s + oneIf t ≡ oneIf (s || t)
 oneIf-or true true h = absurd (h refl refl)
 oneIf-or true false h = refl
@@ -123,12 +115,3 @@ module _ {P : Type 0} (group : Bool → P → ℕ) (capacity half : ℕ) (mirror
       go : Dec (Arrangement group capacity ps) → Dec (Arrangement group capacity (p ∷ ps))
       go (yes a) = one-more (place p ps a)
       go (no h) = no (λ a. h (arrangement-tail group capacity p ps a))
-
-  -- An arrangement exists exactly when no pair of groups has more pages than its two groups have entries. So, where one exists, it exists
-  -- with one page more exactly when that page's pair has fewer (for groups of eight entries: fewer than sixteen), and the decision says so.
-  pub record ArrangementExists : Type 0 where
-    pub exactly : (ps : List P) → Arrangement group capacity ps ↔ ((g : ℕ) → g < half + half → pagesOfPair group g ps ≤ capacity + capacity)
-    pub one-more : (p : P) (ps : List P) → Arrangement group capacity ps
-        → Arrangement group capacity (p ∷ ps) ↔ (pagesOfPair group (group false p) ps < capacity + capacity)
-    pub decided : (p : P) (ps : List P) → Arrangement group capacity ps
-        → decide (arrangement? (p ∷ ps)) ≡ ltb (pagesOfPair group (group false p) ps) (capacity + capacity)

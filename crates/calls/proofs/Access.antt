@@ -20,8 +20,8 @@ use Rattle.matches.proofs.Summary.{Summarised, summarised, summary-none, place-
 use Rattle.tables.specs.Matches.{Match}
 use Rattle.tables.specs.Layout.{matchesOf, overwrite}
 use Rattle.tables.proofs.Groups.{MatchOf, members-of}
-use Rattle.translation.specs.Access.{fetching, storing}
-use Rattle.translation.specs.Fault.{noMatch, noFetch, protection, faultOf}
+use Rattle.protection.specs.Access.{fetching, storing}
+use Rattle.protection.specs.Fault.{noMatch, noFetch, protection, faultOf}
 use Rattle.translation.specs.Steps.{beforeSearch, afterSearch, outcomeOf, answerOf, refusedAnswer}
 use Rattle.translation.specs.declared.Early.{Early}
 use Rattle.translation.specs.declared.Early.the-variants.{Decided, Search}

@@ -11,7 +11,7 @@ use Rattle.placement.specs.FiniteMap.{fieldsAt, putIn, takeOut, revise, mappedP
 use Rattle.register_words.specs.Sdr1.{maskOnes}
 use Rattle.registers.specs.Set.{registerWords}
 use Rattle.groups.specs.Page.{Page, samePage}
-use Rattle.translation.specs.Access.{storing}
+use Rattle.protection.specs.Access.{storing}
 use Rattle.translation.specs.Steps.{beforeSearch, outcomeOf, answerOf}
 use Rattle.translation.specs.declared.Early.{Early}
 use Rattle.translation.specs.declared.Early.the-variants.{Decided, Search}

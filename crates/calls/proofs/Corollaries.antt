@@ -23,12 +23,12 @@ use Rattle.groups.specs.Page.{Page, samePage}
 use Rattle.groups.proofs.Hash.{samePage-refl, samePage-eq}
 use Rattle.tables.specs.Runs.{after, Each}
 use Rattle.tables.proofs.Runs.{each-append}
-use Rattle.translation.specs.Access.{fetching}
-use Rattle.translation.specs.Protection.{pageAllows, guarded}
+use Rattle.protection.specs.Access.{fetching}
+use Rattle.protection.specs.Protection.{pageAllows, guarded}
 use Rattle.translation.specs.Steps.{beforeSearch, pageOutcome, afterSearch, outcomeOf, answerOf, doneAnswer}
 use Rattle.translation.specs.declared.Outcome.{Outcome}
 use Rattle.translation.specs.declared.Outcome.the-variants.{NoMatch, Guarded, Protection, Done}
-use Rattle.translation.specs.Fault.{noFetch, protection}
+use Rattle.protection.specs.Fault.{noFetch, protection}
 use Rattle.translation.specs.declared.Searched.{Searched}
 use Rattle.translation.specs.declared.Searched.the-variants.{Nothing, At}
 use Rattle.translation.proofs.Steps.{after-nothing, after-at, outcome-searched}

@@ -20,16 +20,16 @@ use Rattle.groups.specs.Group as groups
 use Rattle.groups.specs.Group.{groupOf, onGroup, firstOf, putAt}
 use Rattle.matches.specs.Search as search
 use Rattle.matches.specs.Search.{summary, found, contradict, merged}
-use Rattle.matches.specs.Edit as edits
-use Rattle.matches.specs.Edit.{edited, editMatches}
-use Rattle.matches.specs.declared.Edit.{Edit}
-use Rattle.matches.specs.declared.Edit.the-variants.{Clear, Protect}
+use Rattle.edits.specs.Edit as edits
+use Rattle.edits.specs.Edit.{edited, editMatches}
+use Rattle.edits.specs.declared.Edit.{Edit}
+use Rattle.edits.specs.declared.Edit.the-variants.{Clear, Protect}
 use Rattle.groups.specs.declared.Place.{Place}
 use Rattle.groups.specs.declared.Place.the-variants.{Entry, Full}
 use Rattle.matches.specs.declared.Search.{Search}
 use Rattle.groups.proofs.Hash.{own-groups-differ}
 use Rattle.matches.proofs.Summary.{Summarised, summarised, summary-none, found-none}
-use Rattle.matches.proofs.Edits.{edit-both-each}
+use Rattle.edits.proofs.Edits.{edit-both-each}
 use Rattle.tables.specs.Matches.{Match}
 use Rattle.tables.specs.Layout.{freeEntry, freePlace, matchesOf, overwrite, overwriteEach}
 use Rattle.calls.specs.Request.{Request, clear, mapPage, unmap, protect, look, sdr1In, fed}

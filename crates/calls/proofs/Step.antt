@@ -20,7 +20,7 @@ use Rattle.matches.specs.Search.{hOf, contradict}
 use Rattle.tables.specs.Layout.{matchesOf, freePlace, overwriteEach}
 use Rattle.tables.proofs.Represented.{OneMatch, unmapped-matches, mapped-match, full-branch, free-branch}
 use Rattle.tables.proofs.Steps.{represents-putIn, represents-takeOut, represents-revise, represents-revise-first}
-use Rattle.translation.specs.Access.{storing}
+use Rattle.protection.specs.Access.{storing}
 use Rattle.translation.specs.Steps.{beforeSearch, afterSearch, outcomeOf, answerOf}
 use Rattle.translation.specs.declared.Early.{Early}
 use Rattle.translation.specs.declared.Early.the-variants.{Decided, Search}

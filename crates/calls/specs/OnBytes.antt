@@ -14,7 +14,7 @@ use Rattle.groups.specs.Group.{firstOf, secondOf, putAt}
 use Rattle.matches.specs.Search.{hOf, contradict, merged}
 use Rattle.tables.specs.Matches.{Match}
 use Rattle.tables.specs.Layout.{Layout, matchesOf, freePlace, overwrite, overwriteEach}
-use Rattle.translation.specs.Access.{storing}
+use Rattle.protection.specs.Access.{storing}
 use Rattle.translation.specs.Steps.{beforeSearch, outcomeOf, answerOf}
 use Rattle.translation.specs.declared.Early.{Early}
 use Rattle.translation.specs.declared.Early.the-variants.{Decided, Search}

@@ -14,7 +14,7 @@ use Rattle.registers.specs.Set.{registerWords}
 use Rattle.groups.specs.Page.{Page, samePage}
 use Rattle.groups.specs.Hash.{groupNumber}
 use Rattle.groups.proofs.Hash.{group-mirror}
-use Rattle.translation.specs.Access.{storing}
+use Rattle.protection.specs.Access.{storing}
 use Rattle.translation.specs.Steps.{beforeSearch, outcomeOf, answerOf}
 use Rattle.translation.specs.declared.Early.{Early}
 use Rattle.translation.specs.declared.Early.the-variants.{Decided, Search}

@@ -21,9 +21,9 @@ use Rattle.groups.specs.Group.{groupOf, putGroup, onGroup, firstAt, secondAt, p
 use Rattle.matches.specs.Search.{agree, contradict, merged}
 use Rattle.tables.specs.Matches.{matchesBelow}
 use Rattle.tables.specs.Layout.{matchesIn, matchesOf, freeEntry, freePlace, overwrite, overwriteEach}
-use Rattle.translation.specs.Access.{userMode, fetching, storing, relocated, sideOf}
-use Rattle.translation.specs.Protection.{pageReadable, pageWritable, pageAllows, guarded}
-use Rattle.translation.specs.Fault.{causeWord, faultOf}
+use Rattle.protection.specs.Access.{userMode, fetching, storing, relocated, sideOf}
+use Rattle.protection.specs.Protection.{pageReadable, pageWritable, pageAllows, guarded}
+use Rattle.protection.specs.Fault.{causeWord, faultOf}
 use Rattle.translation.specs.Steps.{beforeSearch, pageOutcome, afterSearch, outcomeOf, answerOf}
 use Rattle.calls.specs.Request.{clear, mapPage, unmap, protect, look, access, fed}
 use Rattle.calls.specs.Rules.{pageInRange, writeThroughInhibited, rules, refusal}

@@ -16,9 +16,9 @@ use Rattle.matches.specs.Search.{agree, contradict}
 use Rattle.groups.specs.Group.{firstAt, secondAt, putEntry}
 use Rattle.tables.specs.Matches.{matchesBelow}
 use Rattle.tables.specs.Layout.{matchesIn, matchesOf, freeEntry, freePlace, overwrite}
-use Rattle.translation.specs.Access.{userMode, fetching, storing, relocated, sideOf}
-use Rattle.translation.specs.Protection.{pageReadable, pageWritable, pageAllows, guarded, blockAllows}
-use Rattle.translation.specs.Fault.{causeWord, faultOf}
+use Rattle.protection.specs.Access.{userMode, fetching, storing, relocated, sideOf}
+use Rattle.protection.specs.Protection.{pageReadable, pageWritable, pageAllows, guarded, blockAllows}
+use Rattle.protection.specs.Fault.{causeWord, faultOf}
 use Rattle.translation.specs.Steps.{blockOutcome, beforeSearch, pageOutcome, afterSearch, outcomeOf, answerOf}
 use Rattle.calls.specs.Request.{sdr1In, fed}
 use Rattle.calls.specs.Rules.{pageInRange, writeThroughInhibited, rules, refusal}

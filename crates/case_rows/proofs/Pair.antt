@@ -26,7 +26,7 @@ use Rattle.groups.proofs.Stored.{stored-length, stored-group, stored-other-grou
 use Rattle.tables.specs.Matches.{Match}
 use Rattle.tables.specs.Layout.{Layout, matchesIn, matchesOf, freeEntry, freePlace, overwrite, overwriteEach}
 use Rattle.tables.specs.Runs.{after}
-use Rattle.translation.specs.Access.{storing}
+use Rattle.protection.specs.Access.{storing}
 use Rattle.translation.specs.Steps.{beforeSearch, outcomeOf, afterSearch, answerOf}
 use Rattle.translation.specs.declared.Early.{Early}
 use Rattle.translation.specs.declared.Early.the-variants.{Decided, Search}

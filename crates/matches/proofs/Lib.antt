@@ -1,6 +1,4 @@
 -- Laws of a page's matches, for the crates above.
 pub mod Matches
 pub mod Summary
-pub mod Edits
-pub mod Alone
 pub mod Tables

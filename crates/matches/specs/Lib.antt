@@ -1,4 +1,3 @@
--- The matches of a page in its two groups: the search, and edits of every match.
+-- The matches of a page in its two groups: the search, and what one pass tells.
 pub mod Search
-pub mod Edit
 pub mod Tables

@@ -1,15 +1,12 @@
--- Worked examples of searches and edits, each row closed by computation: a group of 64 bytes with twins, a match that contradicts and matches of
+-- Worked examples of searches, each row closed by computation: a group of 64 bytes with twins, a match that contradicts and matches of
 -- the other H.
 use Prim.Native.Nat.{ℕ}
 use mathlib.Core.Bool.{Bool, true, false}
 use mathlib.Core.List.{[], _∷_}
-use lib.ListN.{replicate}
 use Rattle.words.specs.Rows.{Hold}
 use Rattle.tables.specs.Matches.{Match}
-use Rattle.groups.specs.Tables.{mixed, example, full}
+use Rattle.groups.specs.Tables.{example, full}
 use Rattle.matches.specs.Search.{matchesIn, matchesOf, summary}
-use Rattle.matches.specs.Edit.{editMatches}
-use Rattle.matches.specs.declared.Edit.the-variants.{Clear, Protect}
 use Rattle.matches.specs.declared.Search.{Search}
 
 abbrev pub matched : Bool → ℕ → ℕ → ℕ → Match
@@ -45,13 +42,5 @@ pub record MatchesTables : Type 0 where
         told 17 0x12345012 0x12345012 true true,
       )
       ∷ (summary (matchesOf 0x0C701C 2 example example), told 0 0 0 false false)
-      ∷ []
-      )
-  -- eight zero bytes over each match; another PP in each, every other bit kept, the ignored ones too; and the match of the other H alone
-  pub edits : Hold (
-      (editMatches Clear false 0x0C701C 3 example, mixed 0 0 0 0 0 0)
-      ∷ (editMatches (Protect 1) false 0x0C701C 3 example, mixed 0x86380E03 0x12345E95 0x86380E03 0x12345E95 0x86380E03 0x12345111)
-      ∷ (editMatches Clear true 0xFFFFFF 63 full, replicate 64 0)
-      ∷ (editMatches Clear false 0xFFFFFF 63 full, full)
       ∷ []
       )

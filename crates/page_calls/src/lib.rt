@@ -94,14 +94,14 @@ pub fn unmap_page(sdr1: u32, vsid: u32, index: u32, table: &mut [u8]) -> WordAns
     if !search.found() {
         return WordAnswer { result: 8, word: 0 };
     }
-    matches::edit_found(
+    edits::edit_found(
         table,
         at.primary,
         at.secondary,
         vsid,
         at.api,
         search,
-        matches::Edit::Clear,
+        edits::Edit::Clear,
     );
     WordAnswer {
         result: 0,
@@ -120,14 +120,14 @@ pub fn protect_page(sdr1: u32, vsid: u32, index: u32, pp: u32, table: &mut [u8])
     if !search.found() {
         return 8;
     }
-    matches::edit_found(
+    edits::edit_found(
         table,
         at.primary,
         at.secondary,
         vsid,
         at.api,
         search,
-        matches::Edit::Protect(pp),
+        edits::Edit::Protect(pp),
     );
     0
 }

@@ -66,7 +66,7 @@ fn by_page(
     let outcome = translation::after_search(kind, wanted.key, searched_of(search));
     if let translation::Outcome::Done(second) = outcome {
         let group = at.group(search.in_secondary());
-        let marked = entry::with_marks(second, true, kind == translation::STORE);
+        let marked = entry::with_marks(second, true, kind == protection::STORE);
         groups::put_second(table, group, search.entry(), marked);
     }
     outcome

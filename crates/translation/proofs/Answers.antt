@@ -4,9 +4,9 @@ use mathlib.Core.Path.{_≡_, refl, sym, ap, ap₂, _∙_}
 use Prim.Native.Nat.{ℕ, _+_}
 use Rattle.words.specs.Bits.{bits, placed}
 use Rattle.entry.specs.Entry.{rpnOf, wimgOf, ppOf, physicalAddress}
-use Rattle.translation.specs.Access.{fetching}
-use Rattle.translation.specs.Protection.{pageAllows, guarded}
-use Rattle.translation.specs.Fault.{noMatch, noFetch, protection, faultOf}
+use Rattle.protection.specs.Access.{fetching}
+use Rattle.protection.specs.Protection.{pageAllows, guarded}
+use Rattle.protection.specs.Fault.{noMatch, noFetch, protection, faultOf}
 use Rattle.translation.specs.Steps.{pageOutcome, doneAnswer, faultAnswer, refusedAnswer, answerOf}
 use Rattle.translation.specs.declared.Outcome.{Outcome}
 use Rattle.translation.specs.declared.Outcome.the-variants.{Real, Block, BlockProtection, NoExecute, NoMatch, Guarded, Protection, Done, Refused}

@@ -14,9 +14,9 @@ use Rattle.register_words.proofs.Tables.{register-words-tables}
 use Rattle.registers.proofs.Tables.{registers-tables}
 use Rattle.registers.specs.Set.{checkWords, pairCovers, coveringPair}
 use Rattle.registers.proofs.Blocks.{blocks-decide}
-use Rattle.translation.specs.Access.{userMode, fetching, storing, relocated, sideOf}
-use Rattle.translation.specs.Protection.{pageWritable, pageAllows}
-use Rattle.translation.specs.Fault.{faultOf}
+use Rattle.protection.specs.Access.{userMode, fetching, storing, relocated, sideOf}
+use Rattle.protection.specs.Protection.{pageWritable, pageAllows}
+use Rattle.protection.specs.Fault.{faultOf}
 use Rattle.translation.specs.Steps.{blockOutcome, beforeSearch, outcomeOf, answerOf}
 use Rattle.translation.specs.Stated.{StepsBefore, StepsAfter, AnswersStated, AccessAsStated}
 use Rattle.translation.specs.declared.Outcome.the-variants.{Real}
@@ -27,6 +27,7 @@ use Rattle.translation.proofs.Steps.{block-done, block-fault, before-re
 use Rattle.translation.proofs.Steps.{after-contradicting, after-nothing, after-at, page-guarded, page-protected, done-passes, passes-done, after-late, guarded-fetch, outcome-decided}
 use Rattle.translation.proofs.Answers.{answer-real, answer-done, answer-refused, answer-effective, answer-page-same}
 use Rattle.translation.proofs.Covering.{covering-none, covering-one, block-offset}
+use Rattle.protection.proofs.Tables.{protection-tables}
 use Rattle.translation.proofs.Tables.{access-tables}
 
 module _ (pairs width : ℕ) (wide : width ≤ 15) (words : List ℕ) (mode kind address : ℕ) where
@@ -122,5 +123,6 @@ access-as-stated = record {
   before = steps-before 4 11 (lit≤ tt);
   after = steps-after;
   answers = answers-stated;
+  protection = protection-tables;
   tables = access-tables;
 }

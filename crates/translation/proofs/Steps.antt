@@ -12,8 +12,8 @@ use Rattle.entry.proofs.Addresses.{index-lt}
 use Rattle.register_words.specs.Segment.{noExecute, segmentVsid}
 use Rattle.register_words.specs.Block.{blockAttributes, blockPP, blockPhysical}
 use Rattle.registers.specs.Set.{upperOf, lowerOf, coveringPair}
-use Rattle.translation.specs.Access.{userMode, fetching, relocated, sideOf}
-use Rattle.translation.specs.Protection.{pageAllows, blockAllows, guarded}
+use Rattle.protection.specs.Access.{userMode, fetching, relocated, sideOf}
+use Rattle.protection.specs.Protection.{pageAllows, blockAllows, guarded}
 use Rattle.translation.specs.Steps.{segmentAt, wantedOf, blockOutcome, beforeSearch, pageOutcome, afterSearch, outcomeOf}
 use Rattle.translation.specs.Stated.{earlyOutcome}
 use Rattle.translation.specs.declared.Outcome.{Outcome}

@@ -6,23 +6,15 @@ use Rattle.register_words.specs.Segment.{keyOf, noExecute, segmentVsid}
 use Rattle.register_words.specs.Block.{blockAttributes, blockPP, blockPhysical, validFor, inBlock, covers}
 use Rattle.registers.specs.Set.{pairCovers, coveringPair}
 use Rattle.registers.specs.Tables.{blank, one, two, three}
-use Rattle.translation.specs.Access.{userMode, fetching, storing, relocated, sideOf}
-use Rattle.translation.specs.Protection.{pageReadable, pageWritable, pageAllows, blockAllows, guarded}
-use Rattle.translation.specs.Fault.{causeWord, faultOf}
+use Rattle.protection.specs.Access.{userMode, fetching, storing, relocated, sideOf}
+use Rattle.protection.specs.Protection.{pageReadable, pageWritable, pageAllows, blockAllows, guarded}
+use Rattle.protection.specs.Fault.{causeWord, faultOf}
 use Rattle.translation.specs.Steps.{blockOutcome, beforeSearch, pageOutcome, afterSearch, outcomeOf, answerOf}
 use Rattle.translation.specs.Tables.{AccessTables}
 
 pub access-tables : AccessTables
 unfolding firstBelow pageIndex physicalAddress noExecute segmentVsid blockAttributes blockPP blockPhysical validFor inBlock covers pairCovers coveringPair blank one two three userMode fetching storing relocated sideOf keyOf pageReadable pageWritable pageAllows blockAllows guarded causeWord faultOf blockOutcome beforeSearch pageOutcome afterSearch outcomeOf answerOf
 access-tables = record {
-  privilege = record { equal = refl };
-  relocation = record { equal = refl };
-  sides = record { equal = refl };
-  keys = record { equal = refl };
-  page-rights = record { equal = refl };
-  block-rights = record { equal = refl };
-  guards = record { equal = refl };
-  faults = record { equal = refl };
   real-mode = record { equal = refl };
   blocks = record { equal = refl };
   block-sides = record { equal = refl };

@@ -15,10 +15,11 @@ use Rattle.register_words.specs.Segment.{noExecute}
 use Rattle.register_words.specs.Block.{brpnOf, blOf, upperShape, lowerShape, blockAttributes, blockPP, blockPhysical}
 use Rattle.registers.specs.Blocks.{BlocksDecide}
 use Rattle.registers.specs.Set.{upperOf, lowerOf, checkWords, pairCovers}
-use Rattle.translation.specs.Access.{userMode, fetching, relocated, sideOf}
-use Rattle.translation.specs.Protection.{pageAllows, blockAllows, guarded}
-use Rattle.translation.specs.Fault.{faultOf}
+use Rattle.protection.specs.Access.{userMode, fetching, relocated, sideOf}
+use Rattle.protection.specs.Protection.{pageAllows, blockAllows, guarded}
+use Rattle.protection.specs.Fault.{faultOf}
 use Rattle.translation.specs.Steps.{segmentAt, wantedOf, beforeSearch, afterSearch, outcomeOf, doneAnswer, refusedAnswer, answerOf}
+use Rattle.protection.specs.Tables.{ProtectionTables}
 use Rattle.translation.specs.Tables.{AccessTables}
 use Rattle.translation.specs.declared.Outcome.{Outcome}
 use Rattle.translation.specs.declared.Outcome.the-variants.{Real, Block, BlockProtection, NoExecute, NoMatch, Guarded, Protection, Done, Refused}
@@ -125,4 +126,5 @@ pub record AccessAsStated : Type 0 where
   pub before : (words : List ℕ) (mode kind address : ℕ) → StepsBefore 4 11 words mode kind address
   pub after : (kind : ℕ) (key : Bool) → StepsAfter kind key
   pub answers : (kind address : ℕ) → AnswersStated kind address
+  pub protection : ProtectionTables
   pub tables : AccessTables

@@ -9,9 +9,9 @@ use Rattle.entry.specs.Entry.{wimgOf, ppOf, pageIndex, physicalAddress}
 use Rattle.register_words.specs.Segment.{keyOf, noExecute, segmentVsid}
 use Rattle.register_words.specs.Block.{blockAttributes, blockPP, blockPhysical}
 use Rattle.registers.specs.Set.{segmentOf, upperOf, lowerOf, coveringPair}
-use Rattle.translation.specs.Access.{userMode, fetching, relocated, sideOf}
-use Rattle.translation.specs.Protection.{pageAllows, blockAllows, guarded}
-use Rattle.translation.specs.Fault.{noMatch, noFetch, protection, faultOf}
+use Rattle.protection.specs.Access.{userMode, fetching, relocated, sideOf}
+use Rattle.protection.specs.Protection.{pageAllows, blockAllows, guarded}
+use Rattle.protection.specs.Fault.{noMatch, noFetch, protection, faultOf}
 use Rattle.translation.specs.declared.Outcome.{Outcome}
 use Rattle.translation.specs.declared.Outcome.the-variants.{Real, Block, BlockProtection, NoExecute, NoMatch, Guarded, Protection, Done, Refused}
 use Rattle.translation.specs.declared.Wanted.{Wanted}
@@ -19,7 +19,7 @@ use Rattle.translation.specs.declared.Early.{Early}
 use Rattle.translation.specs.declared.Early.the-variants.{Decided, Search}
 use Rattle.translation.specs.declared.Searched.{Searched}
 use Rattle.translation.specs.declared.Searched.the-variants.{Nothing, At, Contradicting}
-use Rattle.translation.specs.declared.Fault.{Fault}
+use Rattle.protection.specs.declared.Fault.{Fault}
 use Rattle.translation.specs.declared.Answer.{Answer}
 
 -- step 3: the segment register by address bits 0 to 3

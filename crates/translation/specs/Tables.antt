@@ -1,15 +1,11 @@
--- Tables that pin the definitions of an access, each closed by computation: complete where the arguments are few, else a good and a bad row for each step and its order.
--- The stated sides are those of document 01 and of document 004's tables 7-8, 7-15 and 7-16.
+-- Tables that pin the steps of an access and what an outcome answers, each closed by computation: a good and a bad row for each step and its order.
 use Prim.Native.Nat.{ℕ}
 use mathlib.Core.Bool.{Bool, true, false, cond, _&&_}
-use mathlib.Core.List.{List, [], _∷_, map}
+use mathlib.Core.List.{List, [], _∷_}
 use lib.Dec.{eqb}
 use Rattle.words.specs.Rows.{Hold}
-use Rattle.register_words.specs.Segment.{keyOf}
+use Rattle.protection.specs.Tables.{byKind}
 use Rattle.registers.specs.Tables.{one, two, three}
-use Rattle.translation.specs.Access.{userMode, relocated, sideOf}
-use Rattle.translation.specs.Protection.{pageAllows, blockAllows, guarded}
-use Rattle.translation.specs.Fault.{noMatch, noFetch, protection, faultOf}
 use Rattle.translation.specs.Steps.{beforeSearch, afterSearch, outcomeOf, answerOf}
 use Rattle.translation.specs.declared.Outcome.{Outcome}
 use Rattle.translation.specs.declared.Outcome.the-variants.{Real, Block, BlockProtection, NoExecute, NoMatch, Guarded, Protection, Done, Refused}
@@ -18,27 +14,9 @@ use Rattle.translation.specs.declared.Early.{Early}
 use Rattle.translation.specs.declared.Early.the-variants.{Decided, Search}
 use Rattle.translation.specs.declared.Searched.{Searched}
 use Rattle.translation.specs.declared.Searched.the-variants.{Nothing, At, Contradicting}
-use Rattle.translation.specs.declared.Fault.{Fault}
 use Rattle.translation.specs.declared.Answer.{Answer}
 
--- three values by the kind: fetch, load, store
-abbrev pub byKind : {A : Type 0} → (ℕ → A) → List A
-byKind f = f 0 ∷ f 1 ∷ f 2 ∷ []
-
--- the accesses allowed, in the words of document 004's tables
-abbrev pub noAccess : List Bool
-noAccess = false ∷ false ∷ false ∷ []
-
-abbrev pub readOnly : List Bool
-readOnly = true ∷ true ∷ false ∷ []
-
-abbrev pub readWrite : List Bool
-readWrite = true ∷ true ∷ true ∷ []
-
--- a fault, a page that is looked for, an answer, by their values
-abbrev pub fault : ℕ → ℕ → ℕ → Fault
-fault result word offset = record { result = result; word = word; offset = offset }
-
+-- a page that is looked for, and an answer, by their values
 abbrev pub search : ℕ → ℕ → Bool → Early
 search vsid index key = Search (record { vsid = vsid; index = index; key = key })
 
@@ -65,62 +43,6 @@ abbrev pub forbidding : List ℕ
 forbidding = three 1 0x10000000 17 0x00000003 25 0x00000003
 
 pub record AccessTables : Type 0 where
-  -- PR
-  pub privilege : Hold ((map userMode (0 ∷ 1 ∷ 2 ∷ 3 ∷ 4 ∷ 5 ∷ 6 ∷ 7 ∷ []), false ∷ false ∷ false ∷ false ∷ true ∷ true ∷ true ∷ true ∷ []) ∷ [])
-  -- mode × kind: IR for a fetch, DR for data
-  pub relocation : Hold (
-      (byKind (relocated 0), false ∷ false ∷ false ∷ [])
-      ∷ (byKind (relocated 1), false ∷ true ∷ true ∷ [])
-      ∷ (byKind (relocated 2), true ∷ false ∷ false ∷ [])
-      ∷ (byKind (relocated 3), true ∷ true ∷ true ∷ [])
-      ∷ (byKind (relocated 4), false ∷ false ∷ false ∷ [])
-      ∷ (byKind (relocated 5), false ∷ true ∷ true ∷ [])
-      ∷ (byKind (relocated 6), true ∷ false ∷ false ∷ [])
-      ∷ (byKind (relocated 7), true ∷ true ∷ true ∷ [])
-      ∷ []
-      )
-  pub sides : Hold ((byKind sideOf, false ∷ true ∷ true ∷ []) ∷ [])
-  -- Ks and Kp × PR
-  pub keys : Hold (
-      (keyOf false 0x00FFFFFF, false)
-      ∷ (keyOf true 0x00FFFFFF, false)
-      ∷ (keyOf false 0x40000000, true)
-      ∷ (keyOf true 0x40000000, false)
-      ∷ (keyOf false 0x20000000, false)
-      ∷ (keyOf true 0x20000000, true)
-      ∷ (keyOf false 0x60000000, true)
-      ∷ (keyOf true 0x60000000, true)
-      ∷ []
-      )
-  -- key × PP × kind: table 7-15, whose prohibited accesses are those of table 7-16
-  pub page-rights : Hold (
-      (byKind (pageAllows false 0), readWrite)
-      ∷ (byKind (pageAllows false 1), readWrite)
-      ∷ (byKind (pageAllows false 2), readWrite)
-      ∷ (byKind (pageAllows false 3), readOnly)
-      ∷ (byKind (pageAllows true 0), noAccess)
-      ∷ (byKind (pageAllows true 1), readOnly)
-      ∷ (byKind (pageAllows true 2), readWrite)
-      ∷ (byKind (pageAllows true 3), readOnly)
-      ∷ []
-      )
-  -- PP × kind: table 7-8
-  pub block-rights : Hold (
-      (byKind (blockAllows 0), noAccess)
-      ∷ (byKind (blockAllows 1), readOnly)
-      ∷ (byKind (blockAllows 2), readWrite)
-      ∷ (byKind (blockAllows 3), readOnly)
-      ∷ []
-      )
-  -- of the attributes W, I, M and G, only G
-  pub guards : Hold ((guarded 8, false) ∷ (guarded 4, false) ∷ (guarded 2, false) ∷ (guarded 1, true) ∷ (guarded 14, false) ∷ (guarded 15, true) ∷ [])
-  -- cause × kind; a load or a store never meets N or G
-  pub faults : Hold (
-      (byKind (faultOf noMatch), fault 65 0x40000000 0x400 ∷ fault 64 0x40000000 0x300 ∷ fault 64 0x42000000 0x300 ∷ [])
-      ∷ (byKind (faultOf noFetch), fault 65 0x10000000 0x400 ∷ fault 64 0x10000000 0x300 ∷ fault 64 0x12000000 0x300 ∷ [])
-      ∷ (byKind (faultOf protection), fault 65 0x08000000 0x400 ∷ fault 64 0x08000000 0x300 ∷ fault 64 0x0A000000 0x300 ∷ [])
-      ∷ []
-      )
   -- step 1 comes before all others
   pub real-mode : Hold (
       (beforeSearch 4 11 forbidding 0 0 0x00001234, Decided Real)

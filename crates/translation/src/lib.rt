@@ -1,23 +1,8 @@
 // One access without a table's bytes: the steps before the search, those after it, protection, fault words, and what an outcome answers.
 ghost use mathlib.Core.Path.{_≡_};
 ghost use Prim.Native.Nat.{_<_};
-ghost use Rattle.register_words.specs.Segment.{keyOf};
-ghost use Rattle.translation.specs.Access.{relocated};
-ghost use Rattle.translation.specs.Protection.{pageAllows, blockAllows};
-ghost use Rattle.translation.specs.Fault.{faultOf};
+ghost use Rattle.protection.specs.Fault.{faultOf};
 ghost use Rattle.translation.specs.Steps.{wantedOf, blockOutcome, beforeSearch, pageOutcome, afterSearch, doneAnswer, faultAnswer, refusedAnswer, answerOf};
-
-// The kinds of access that the steps tell apart: a fetch, and a store; a load is 1.
-pub const FETCH: u32 = 0;
-
-pub const STORE: u32 = 2;
-
-// The causes of a fault: no match, N or G, protection.
-pub const NO_MATCH: u32 = 0;
-
-pub const NO_FETCH: u32 = 1;
-
-pub const PROTECTION: u32 = 2;
 
 // What one access comes to.
 pub enum Outcome {
@@ -56,13 +41,6 @@ pub enum Searched {
     Contradicting,
 }
 
-// A storage fault: its result number, the fault word and the interrupt offset.
-pub struct Fault {
-    pub result: u32,
-    pub word: u32,
-    pub offset: u32,
-}
-
 // The four words of an answer: result; physical address or fault word; attributes or interrupt offset; effective address.
 pub struct Answer {
     pub result: u32,
@@ -71,88 +49,14 @@ pub struct Answer {
     pub effective: u32,
 }
 
-// Whether IR for a fetch, or DR for data, is on.
-fn is_relocated(mode: u32, kind: u32) -> bool
-    ensures { λ r. ⌜ r ≡ relocated mode kind ⌝ }
-{
-    if kind == FETCH {
-        (mode >> 1) & 1 == 1
-    } else {
-        mode & 1 == 1
-    }
-}
-
-// The key of a segment: Kp for the user, Ks for the supervisor.
-fn key_of(user: bool, segment: u32) -> bool
-    ensures { λ r. ⌜ r ≡ keyOf user segment ⌝ }
-{
-    if user {
-        (segment >> 29) & 1 == 1
-    } else {
-        (segment >> 30) & 1 == 1
-    }
-}
-
-// Whether the key and a page's PP allow the access.
-pub fn page_allows(key: bool, pp: u32, kind: u32) -> bool
-    ensures { λ r. ⌜ r ≡ pageAllows key pp kind ⌝ }
-{
-    if kind == STORE {
-        if key { pp == 2 } else { pp != 3 }
-    } else {
-        !(key & (pp == 0))
-    }
-}
-
-// Whether a block's PP allows the access.
-pub fn block_allows(pp: u32, kind: u32) -> bool
-    ensures { λ r. ⌜ r ≡ blockAllows pp kind ⌝ }
-{
-    if kind == STORE { pp == 2 } else { pp != 0 }
-}
-
-// A fault by its three words.
-fn fault_with(result: u32, word: u32, offset: u32) -> Fault
-    ensures { λ r. ⌜ r ≡ record { result = result; word = word; offset = offset } ⌝ }
-{
-    Fault {
-        result,
-        word,
-        offset,
-    }
-}
-
-// The fault of a cause and a kind of access.
-pub fn fault_of(cause: u32, kind: u32) -> Fault
-    ensures { λ r. ⌜ r ≡ faultOf cause kind ⌝ }
-{
-    match cause {
-        NO_MATCH => match kind {
-            FETCH => fault_with(65, 0x40000000, 0x400),
-            STORE => fault_with(64, 0x42000000, 0x300),
-            _ => fault_with(64, 0x40000000, 0x300),
-        },
-        NO_FETCH => match kind {
-            FETCH => fault_with(65, 0x10000000, 0x400),
-            STORE => fault_with(64, 0x12000000, 0x300),
-            _ => fault_with(64, 0x10000000, 0x300),
-        },
-        _ => match kind {
-            FETCH => fault_with(65, 0x08000000, 0x400),
-            STORE => fault_with(64, 0x0A000000, 0x300),
-            _ => fault_with(64, 0x08000000, 0x300),
-        },
-    }
-}
-
 // Step 2 by the block of a pair that covers the address.
 fn block_outcome(words: &[u32; 33], kind: u32, address: u32, pair: usize) -> Outcome
     requires { ⌜ pair < 4 ⌝ }
     ensures { λ r. ⌜ r ≡ blockOutcome 4 11 (now (words .entry)) kind address pair ⌝ }
 {
-    let upper = registers::upper(words, kind != FETCH, pair);
-    let lower = registers::lower(words, kind != FETCH, pair);
-    if block_allows(lower & 3, kind) {
+    let upper = registers::upper(words, kind != protection::FETCH, pair);
+    let lower = registers::lower(words, kind != protection::FETCH, pair);
+    if protection::block_allows(lower & 3, kind) {
         Outcome::Block(
             pair as u32,
             register_words::block_physical(upper, lower, address),
@@ -170,7 +74,7 @@ fn wanted_of(user: bool, segment: u32, address: u32) -> Wanted
     Wanted {
         vsid: segment & 0xFFFFFF,
         index: entry::page_index(address),
-        key: key_of(user, segment),
+        key: protection::key_of(user, segment),
     }
 }
 
@@ -178,16 +82,16 @@ fn wanted_of(user: bool, segment: u32, address: u32) -> Wanted
 pub fn before_search(words: &[u32; 33], mode: u32, kind: u32, address: u32) -> Early
     ensures { λ r. ⌜ r ≡ beforeSearch 4 11 (now (words .entry)) mode kind address ⌝ }
 {
-    if !is_relocated(mode, kind) {
+    if !protection::is_relocated(mode, kind) {
         return Early::Decided(Outcome::Real);
     }
     let user = (mode >> 2) & 1 == 1;
-    let pair = registers::covering_pair(words, kind != FETCH, user, address);
+    let pair = registers::covering_pair(words, kind != protection::FETCH, user, address);
     if pair < 4 {
         return Early::Decided(block_outcome(words, kind, address, pair));
     }
     let segment = registers::segment(words, (address >> 28) as usize);
-    if (kind == FETCH) & ((segment >> 28) & 1 == 1) {
+    if (kind == protection::FETCH) & ((segment >> 28) & 1 == 1) {
         return Early::Decided(Outcome::NoExecute);
     }
     Early::Search(wanted_of(user, segment, address))
@@ -197,10 +101,10 @@ pub fn before_search(words: &[u32; 33], mode: u32, kind: u32, address: u32) -> E
 fn page_outcome(kind: u32, key: bool, second: u32) -> Outcome
     ensures { λ r. ⌜ r ≡ pageOutcome kind key second ⌝ }
 {
-    if (kind == FETCH) & ((second >> 3) & 1 == 1) {
+    if (kind == protection::FETCH) & ((second >> 3) & 1 == 1) {
         return Outcome::Guarded;
     }
-    if page_allows(key, second & 3, kind) {
+    if protection::page_allows(key, second & 3, kind) {
         Outcome::Done(second)
     } else {
         Outcome::Protection
@@ -234,7 +138,7 @@ fn done_answer(physical: u32, attributes: u32, effective: u32) -> Answer
 fn fault_answer(cause: u32, kind: u32, effective: u32) -> Answer
     ensures { λ r. ⌜ r ≡ faultAnswer (faultOf cause kind) effective ⌝ }
 {
-    let fault = fault_of(cause, kind);
+    let fault = protection::fault_of(cause, kind);
     Answer {
         result: fault.result,
         address: fault.word,
@@ -262,11 +166,11 @@ pub fn answer_of(kind: u32, address: u32, outcome: Outcome) -> Answer
     match outcome {
         Outcome::Real => done_answer(address, 3, address),
         Outcome::Block(_, physical, attributes) => done_answer(physical, attributes, address),
-        Outcome::BlockProtection(_) => fault_answer(PROTECTION, kind, address),
-        Outcome::NoExecute => fault_answer(NO_FETCH, kind, address),
-        Outcome::NoMatch => fault_answer(NO_MATCH, kind, address),
-        Outcome::Guarded => fault_answer(NO_FETCH, kind, address),
-        Outcome::Protection => fault_answer(PROTECTION, kind, address),
+        Outcome::BlockProtection(_) => fault_answer(protection::PROTECTION, kind, address),
+        Outcome::NoExecute => fault_answer(protection::NO_FETCH, kind, address),
+        Outcome::NoMatch => fault_answer(protection::NO_MATCH, kind, address),
+        Outcome::Guarded => fault_answer(protection::NO_FETCH, kind, address),
+        Outcome::Protection => fault_answer(protection::PROTECTION, kind, address),
         Outcome::Done(second) => done_answer(
             entry::physical_address(second, address),
             (second >> 3) & 0xF,

@@ -11,8 +11,8 @@ use Rattle.groups.specs.Page.{Page}
 use Rattle.groups.specs.Hash.{groupNumber}
 use Rattle.groups.specs.Group.{groupOf, onGroup, putAt, freePlace}
 use Rattle.matches.specs.Search.{matchesOf, summary}
-use Rattle.matches.specs.Edit.{editMatches}
-use Rattle.matches.specs.declared.Edit.{Edit}
+use Rattle.edits.specs.Edit.{editMatches}
+use Rattle.edits.specs.declared.Edit.{Edit}
 use Rattle.groups.specs.declared.Place.{Place}
 use Rattle.groups.specs.declared.Place.the-variants.{Entry}
 use Rattle.matches.specs.declared.Search.{Search}

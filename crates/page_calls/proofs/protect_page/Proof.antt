@@ -4,7 +4,7 @@ use mathlib.Core.List.{List, []}
 use Prim.Native.Nat.{ℕ}
 use borrow.Author.Tests.{not-true, not-false}
 use Rattle.register_words.specs.Sdr1.{maskOnes}
-use Rattle.matches.specs.declared.Edit.the-variants.{Protect}
+use Rattle.edits.specs.declared.Edit.the-variants.{Protect}
 use Rattle.calls.specs.OnBytes.{ended}
 use Rattle.calls.proofs.PageCalls.{pageSearch, protect-missing, protect-done}
 use Rattle.page_calls.proofs.located.AtPage.{inside, searchable, groups-apart, search-is, edited-is}

@@ -4,7 +4,7 @@ use mathlib.Core.List.{List}
 use Prim.Native.Nat.{ℕ}
 use borrow.Author.Tests.{not-true, not-false}
 use Rattle.register_words.specs.Sdr1.{maskOnes}
-use Rattle.matches.specs.declared.Edit.the-variants.{Clear}
+use Rattle.edits.specs.declared.Edit.the-variants.{Clear}
 use Rattle.calls.specs.Answers.{wordAnswer}
 use Rattle.calls.specs.OnBytes.{ended}
 use Rattle.calls.proofs.PageCalls.{pageSearch, unmap-missing, unmap-done}

@@ -14,7 +14,7 @@ use Rattle.groups.specs.Hash.{groupNumber}
 use Rattle.matches.specs.Search.{summary, inSecondary, entryOf}
 use Rattle.matches.proofs.Summary.{summary-entry-lt}
 use Rattle.tables.specs.Layout.{matchesOf}
-use Rattle.translation.specs.Access.{storing}
+use Rattle.protection.specs.Access.{storing}
 use Rattle.translation.specs.Steps.{afterSearch, answerOf}
 use Rattle.translation.specs.declared.Outcome.{Outcome}
 use Rattle.translation.specs.declared.Outcome.the-variants.{Done}

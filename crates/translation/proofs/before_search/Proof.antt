@@ -9,7 +9,7 @@ use lib.Dec.{eqb, ltb}
 use lib.Pow.{shr-mod}
 use Rattle.register_words.specs.Segment.{noExecute}
 use Rattle.registers.specs.Set.{segmentOf, coveringPair}
-use Rattle.translation.specs.Access.{userMode, fetching, relocated, sideOf}
+use Rattle.protection.specs.Access.{userMode, fetching, relocated, sideOf}
 use Rattle.translation.specs.Steps.{segmentAt, blockOutcome}
 use Rattle.translation.specs.declared.Early.the-variants.{Decided, Search}
 use Rattle.translation.proofs.Steps.{before-real, before-block, before-no-execute, before-search}

@@ -4,8 +4,8 @@ use mathlib.Core.Path.{_≡_, sym, ap, _∙_}
 use Prim.Native.Nat.{ℕ}
 use Rattle.register_words.specs.Block.{blockAttributes, blockPP}
 use Rattle.registers.specs.Set.{upperOf, lowerOf}
-use Rattle.translation.specs.Access.{fetching, sideOf}
-use Rattle.translation.specs.Protection.{blockAllows}
+use Rattle.protection.specs.Access.{fetching, sideOf}
+use Rattle.protection.specs.Protection.{blockAllows}
 use Rattle.translation.specs.Steps.{blockOutcome}
 use Rattle.translation.proofs.Fields.{mask-pp, mask-wimg}
 use Rattle.translation.proofs.block_outcome.Statement.{statement}

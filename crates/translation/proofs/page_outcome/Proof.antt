@@ -6,8 +6,8 @@ use Prim.Native.Nat.{ℕ, _/_, _^_}
 use lib.Bits.{bitAnd}
 use lib.Dec.{eqb}
 use Rattle.entry.specs.Entry.{wimgOf, ppOf}
-use Rattle.translation.specs.Access.{fetching}
-use Rattle.translation.specs.Protection.{pageAllows, guarded}
+use Rattle.protection.specs.Access.{fetching}
+use Rattle.protection.specs.Protection.{pageAllows, guarded}
 use Rattle.translation.proofs.Fields.{mask-pp, mask-g}
 use Rattle.translation.proofs.Steps.{page-guarded, page-protected, page-done}
 use Rattle.translation.proofs.page_outcome.Statement.{statement}

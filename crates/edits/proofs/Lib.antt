@@ -1,0 +1,4 @@
+-- Laws of edits, for the crates above.
+pub mod Edits
+pub mod Alone
+pub mod Tables

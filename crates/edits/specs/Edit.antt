@@ -1,0 +1,35 @@
+-- What unmap and protect do to each match of a page (document 01, "Page calls").
+use Prim.Native.Nat.{ℕ, _^_, _<_}
+use mathlib.Core.Bool.{Bool}
+use mathlib.Core.List.{List, foldl}
+use Rattle.entry.specs.Entry.{withPP}
+use Rattle.tables.specs.Matches.{Match}
+use Rattle.groups.specs.Group.{putEntry, putAt}
+use Rattle.matches.specs.Search.{matchesIn}
+use Rattle.edits.specs.declared.Edit.{Edit}
+use Rattle.edits.specs.declared.Edit.the-variants.{Clear, Protect}
+
+-- an edit's argument is in its range: PP below 4
+abbrev pub EditFits : Edit → Type 0
+EditFits Clear = Unit {0}
+EditFits (Protect pp) = pp < 2 ^ 2
+
+-- the words that an edit makes of an entry's two: eight zero bytes, or another PP
+abbrev pub editedWords : Edit → ℕ → ℕ → ℕ × ℕ
+editedWords Clear first second = (0, 0)
+editedWords (Protect pp) first second = (first, withPP pp second)
+
+unfoldable pub edited : Edit → Match → ℕ × ℕ
+edited edit m = editedWords edit (m .first) (m .second)
+
+-- a group with each match of a list edited
+unfoldable pub editEach : Edit → List Match → List ℕ → List ℕ
+editEach edit ms group = foldl (λ b m. putEntry b (m .entry) (edited edit m .0) (edited edit m .1)) group ms
+
+-- a group with each of its own matches edited
+unfoldable pub editMatches : Edit → Bool → ℕ → ℕ → List ℕ → List ℕ
+editMatches edit secondary vsid api group = editEach edit (matchesIn secondary vsid api group) group
+
+-- a table with each match of a list replaced by two words of it; `group` tells the number of a page's primary or secondary group
+unfoldable pub overwriteEach : (Bool → ℕ) → (Match → ℕ × ℕ) → List Match → List ℕ → List ℕ
+overwriteEach group words ms t = foldl (λ u m. putAt u (group (m .secondary)) (m .entry) (words m .0) (words m .1)) t ms

@@ -1,0 +1,103 @@
+// Edits of every match of a page: eight zero bytes, or another PP.
+ghost use mathlib.Core.Path.{_≡_};
+ghost use mathlib.Core.Bool.{true, false};
+ghost use Prim.Native.Nat.{_+_, _*_, _<_, _≤_, _^_};
+ghost use lib.ListN.{length};
+ghost use Rattle.groups.specs.Group.{groupOf, onGroup};
+ghost use Rattle.matches.specs.Search.{matchesOf, summary, found};
+ghost use Rattle.edits.specs.Edit.{EditFits, editedWords, editMatches};
+
+// What is done to each match: eight zero bytes, or another PP.
+pub enum Edit {
+    Clear,
+    Protect(u32),
+}
+
+// The words that an edit makes of an entry's two.
+pub fn edited_words(edit: Edit, first: u32, second: u32) -> entry::Words
+    requires { ⌜ EditFits edit ⌝ }
+    ensures { λ r. ⌜ (r .first, r .second) ≡ editedWords edit first second ⌝ }
+{
+    match edit {
+        Edit::Clear => entry::Words {
+            first: 0,
+            second: 0,
+        },
+        Edit::Protect(pp) => entry::Words {
+            first,
+            second: entry::with_pp(second, pp),
+        },
+    }
+}
+
+// Edits each match of one group.
+pub fn edit_group(group: &mut [u8], secondary: bool, vsid: u32, api: u32, edit: Edit)
+    requires { ⌜ (EditFits edit) × (length (now group) ≡ 64) × (vsid < 2 ^ 24) × (api < 2 ^ 6) ⌝ }
+    ensures { λ _. ⌜ now (group .exit) ≡ editMatches edit secondary vsid api (now (group .entry)) ⌝ }
+{
+    let wanted = entry::match_word(vsid, secondary as u32, api);
+    for i in 0..8 {
+        if words::is_word(group, 8 * i, wanted) {
+            let first = words::read_word(group, 8 * i);
+            let made = edited_words(edit, first, words::read_word(group, 8 * i + 4));
+            groups::write_entry(group, i, made.first, made.second);
+        }
+    }
+}
+
+// Edits each match of the primary group, then of the secondary.
+pub fn edit_both(
+    table: &mut [u8],
+    primary: usize,
+    secondary: usize,
+    vsid: u32,
+    api: u32,
+    edit: Edit,
+)
+    requires { ⌜ (EditFits edit) × (64 * primary + 64 ≤ length (now table)) × (64 * secondary + 64 ≤ length (now table))
+        × (vsid < 2 ^ 24) × (api < 2 ^ 6) ⌝ }
+    ensures { λ _. ⌜ now (table .exit) ≡ onGroup (onGroup (now (table .entry)) primary (editMatches edit false vsid api)) secondary (editMatches edit true vsid api) ⌝ }
+{
+    let from = primary * 64;
+    let to = from + 64;
+    edit_group(&mut table[from..to], false, vsid, api, edit);
+    let next = secondary * 64;
+    let end = next + 64;
+    edit_group(&mut table[next..end], true, vsid, api, edit);
+}
+
+// Edits each match that a search of the page's groups found: the one match where it stands, or, where there are several, both groups.
+pub fn edit_found(
+    table: &mut [u8],
+    primary: usize,
+    secondary: usize,
+    vsid: u32,
+    api: u32,
+    search: matches::Search,
+    edit: Edit,
+)
+    requires { ⌜ (EditFits edit) × (64 * primary + 64 ≤ length (now table)) × (64 * secondary + 64 ≤ length (now table))
+        × (vsid < 2 ^ 24) × (api < 2 ^ 6) × (primary ≡ secondary → ⊥) × (found search ≡ true)
+        × (search ≡ summary (matchesOf vsid api (groupOf (now table) primary) (groupOf (now table) secondary))) ⌝ }
+    ensures { λ _. ⌜ now (table .exit) ≡ onGroup (onGroup (now (table .entry)) primary (editMatches edit false vsid api)) secondary (editMatches edit true vsid api) ⌝ }
+{
+    if search.several {
+        edit_both(table, primary, secondary, vsid, api, edit);
+        return;
+    }
+    let group = if search.in_secondary() {
+        secondary
+    } else {
+        primary
+    };
+    let entry = search.entry();
+    match edit {
+        Edit::Clear => groups::put_entry(table, group, entry, 0, 0),
+        Edit::Protect(pp) => groups::put_second(
+            table,
+            group,
+            entry,
+            entry::with_pp(search.second, pp),
+        ),
+    }
+}

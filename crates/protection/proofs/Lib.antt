@@ -1,0 +1,2 @@
+-- What callers' proofs cite of protection and faults.
+pub mod Tables

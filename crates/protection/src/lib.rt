@@ -1,0 +1,99 @@
+// The right to an access and its faults: mode and kind, the key, protection by PP, and fault words.
+ghost use mathlib.Core.Path.{_≡_};
+ghost use Rattle.register_words.specs.Segment.{keyOf};
+ghost use Rattle.protection.specs.Access.{relocated};
+ghost use Rattle.protection.specs.Protection.{pageAllows, blockAllows};
+ghost use Rattle.protection.specs.Fault.{faultOf};
+
+// The kinds of access that the steps tell apart: a fetch, and a store; a load is 1.
+pub const FETCH: u32 = 0;
+
+pub const STORE: u32 = 2;
+
+// The causes of a fault: no match, N or G, protection.
+pub const NO_MATCH: u32 = 0;
+
+pub const NO_FETCH: u32 = 1;
+
+pub const PROTECTION: u32 = 2;
+
+// A storage fault: its result number, the fault word and the interrupt offset.
+pub struct Fault {
+    pub result: u32,
+    pub word: u32,
+    pub offset: u32,
+}
+
+// Whether IR for a fetch, or DR for data, is on.
+pub fn is_relocated(mode: u32, kind: u32) -> bool
+    ensures { λ r. ⌜ r ≡ relocated mode kind ⌝ }
+{
+    if kind == FETCH {
+        (mode >> 1) & 1 == 1
+    } else {
+        mode & 1 == 1
+    }
+}
+
+// The key of a segment: Kp for the user, Ks for the supervisor.
+pub fn key_of(user: bool, segment: u32) -> bool
+    ensures { λ r. ⌜ r ≡ keyOf user segment ⌝ }
+{
+    if user {
+        (segment >> 29) & 1 == 1
+    } else {
+        (segment >> 30) & 1 == 1
+    }
+}
+
+// Whether the key and a page's PP allow the access.
+pub fn page_allows(key: bool, pp: u32, kind: u32) -> bool
+    ensures { λ r. ⌜ r ≡ pageAllows key pp kind ⌝ }
+{
+    if kind == STORE {
+        if key { pp == 2 } else { pp != 3 }
+    } else {
+        !(key & (pp == 0))
+    }
+}
+
+// Whether a block's PP allows the access.
+pub fn block_allows(pp: u32, kind: u32) -> bool
+    ensures { λ r. ⌜ r ≡ blockAllows pp kind ⌝ }
+{
+    if kind == STORE { pp == 2 } else { pp != 0 }
+}
+
+// A fault by its three words.
+fn fault_with(result: u32, word: u32, offset: u32) -> Fault
+    ensures { λ r. ⌜ r ≡ record { result = result; word = word; offset = offset } ⌝ }
+{
+    Fault {
+        result,
+        word,
+        offset,
+    }
+}
+
+// The fault of a cause and a kind of access.
+pub fn fault_of(cause: u32, kind: u32) -> Fault
+    ensures { λ r. ⌜ r ≡ faultOf cause kind ⌝ }
+{
+    match cause {
+        NO_MATCH => match kind {
+            FETCH => fault_with(65, 0x40000000, 0x400),
+            STORE => fault_with(64, 0x42000000, 0x300),
+            _ => fault_with(64, 0x40000000, 0x300),
+        },
+        NO_FETCH => match kind {
+            FETCH => fault_with(65, 0x10000000, 0x400),
+            STORE => fault_with(64, 0x12000000, 0x300),
+            _ => fault_with(64, 0x10000000, 0x300),
+        },
+        _ => match kind {
+            FETCH => fault_with(65, 0x08000000, 0x400),
+            STORE => fault_with(64, 0x0A000000, 0x300),
+            _ => fault_with(64, 0x08000000, 0x300),
+        },
+    }
+}

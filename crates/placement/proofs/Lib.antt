@@ -1,3 +1,4 @@
+-- What callers' proofs cite of placement: counting and permutations, the finite map, the decision and the theorem on arrangements.
 pub mod Lists
 pub mod Perm
 pub mod Decision

@@ -1,4 +1,4 @@
-// The matches of a page in its two groups: the search for them, and edits of every match.
+// The matches of a page in its two groups: the search for them, and what one pass tells.
 ghost use mathlib.Core.Path.{_≡_};
 ghost use mathlib.Core.Bool.{true, false};
 ghost use mathlib.Core.List.{List, [], _∷_, _++_};

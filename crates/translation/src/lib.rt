@@ -1,4 +1,4 @@
-// One access without a table's bytes: the steps before the search, those after it, protection, fault words, and what an outcome answers.
+// One access without a table's bytes: the steps before the search, those after it, and what an outcome answers.
 ghost use mathlib.Core.Path.{_≡_};
 ghost use Prim.Native.Nat.{_<_};
 ghost use Rattle.protection.specs.Fault.{faultOf};

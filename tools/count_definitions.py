@@ -6,8 +6,8 @@ name. A line counts if it is text: imports, comments, empty lines, `module` and 
 its lines; with --under N it fails where the definitions are N lines or more.
 
 Counted apart: the statements. Not followed: their rows, which are proved and not believed, and what lies in crates/*/proofs (the decision whether an
-arrangement exists: its type says that it is right). What `represents` and `TwelveCases` cite beyond this is not counted; README gives the counts
-with them.
+arrangement exists: its type says that it is right). With --represents it counts what `represents` cites too, with --cases also what `TwelveCases`
+cites. --specs counts instead all definitions of specs/ but rows, statements and laws.
 """
 import glob
 import os
@@ -24,6 +24,7 @@ START = [
     ("translation", "Stated", ["AccessAsStated"]),
 ]
 STATEMENTS = {"Theorem", "Stated", "RoundTrip", "Blocks"}
+LAWS = {"LayoutLaws", "ArrangementExists"}
 ROWS = {"Tables", "PageRows", "FourGroups", "Rows", "Cases"}
 
 TYPE = "the type "
@@ -72,12 +73,16 @@ def read(path):
     return imported, definitions
 
 
-def main():
-    files = {}
-    for path in glob.glob(os.path.join(ROOT, "*", "specs", "*.antt")):
-        files[(path.split(os.sep)[-3], os.path.basename(path)[:-5])] = read(path)
+def read_files():
+    """The files of specs/ by crate and module."""
+    paths = glob.glob(os.path.join(ROOT, "*", "specs", "*.antt"))
+    return {(path.split(os.sep)[-3], os.path.basename(path)[:-5]): read(path) for path in paths}
+
+
+def cited(files, starts, rows):
+    """The texts that the starts cite, and what those cite: crate, module and lines to a name."""
     types = read_types()
-    queue = [(crate, module, name) for crate, module, names in START for name in names]
+    queue = [(crate, module, name) for crate, module, names in starts for name in names]
     missing = [start for start in queue if start[2] not in files.get(start[:2], ({}, {}))[1]]
     if missing:
         sys.exit(f"not defined: {missing}")
@@ -86,27 +91,49 @@ def main():
         crate, module, name = queue.pop()
         if module.startswith(TYPE):
             kept[(crate, module, types[(crate, module[len(TYPE):])])] = module[len(TYPE):]
-        if (crate, module, name) in seen or (crate, module) not in files or module in ROWS:
+        if (crate, module, name) in seen or (crate, module) not in files or module in rows:
             continue
         seen.add((crate, module, name))
         imported, definitions = files[(crate, module)]
-        if name not in definitions:
-            continue
-        for lines, words in definitions[name]:
+        for lines, words in definitions.get(name, []):
             kept[(crate, module, lines)] = name
             for word in words:
                 queue.append((*imported[word], word) if word in imported else (crate, module, word))
+    return kept
+
+
+def whole(files):
+    """The lines of all definitions of specs/ but rows, statements and laws."""
+    texts = set()
+    for (crate, module), (_, definitions) in files.items():
+        if module not in ROWS | STATEMENTS:
+            texts |= {(crate, module, lines) for name, found in definitions.items() for lines, _ in found if name not in LAWS}
+    laws = {(crate, module, lines) for (crate, module), (_, definitions) in files.items() for name in LAWS for lines, _ in definitions.get(name, [])}
+    return sum(len(lines) for _, _, lines in texts - laws)
+
+
+def main():
+    words, files = sys.argv[1:], read_files()
+    if "--specs" in words:
+        print(f"{whole(files)} lines in specs/ without rows, statements and laws")
+        return
+    starts, rows = list(START), set(ROWS)
+    if "--represents" in words or "--cases" in words:
+        starts.append(("calls", "Represents", ["represents"]))
+    if "--cases" in words:
+        starts.append(("case_rows", "Cases", ["TwelveCases"]))
+        rows.discard("Cases")
     count, listed = {"definitions": 0, "types": 0, "statements": 0}, []
-    for (crate, module, lines), name in kept.items():
+    for (crate, module, lines), name in cited(files, starts, rows).items():
         kind = "statements" if module in STATEMENTS else "types" if module.startswith(TYPE) else "definitions"
         count[kind] += len(lines)
         listed.append((kind, crate, module, name, len(lines)))
-    if "--list" in sys.argv[1:]:
+    if "--list" in words:
         for kind, crate, module, name, lines in sorted(listed):
             print(f"{lines:4} {kind:12} {crate}/{module} {name}")
     total = count["definitions"] + count["types"]
     print(f"{total} lines of definitions, {count['types']} of them structs and enums of the code; beside them {count['statements']} lines of statements")
-    if "--under" in sys.argv[1:] and total >= int(sys.argv[sys.argv.index("--under") + 1]):
+    if "--under" in words and total >= int(words[words.index("--under") + 1]):
         sys.exit("that is too much for a reader")
 
 

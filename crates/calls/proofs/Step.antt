@@ -36,7 +36,7 @@ use Rattle.calls.specs.OnMap.{PageFields, Map, fieldsWord, markFields, p
 use Rattle.calls.specs.Represents.{FieldsInRange, represents}
 use Rattle.calls.proofs.TableLaws.{Word, layout-laws, represents-zeros}
 use Rattle.calls.proofs.Rules.{map-kept, unmap-kept, look-kept, protect-kept}
-use Rattle.calls.proofs.Fields.{word-fits, marked-word, protected-word, mark-range, protect-range}
+use Rattle.calls.proofs.Fields.{oneIf-lt, word-fits, marked-word, protected-word, mark-range, protect-range}
 
 -- the same number and answer, and a table that represents the map
 pub record Alike (k : ℕ) (e : Ended (List ℕ)) (d : Ended Map) : Type 0 where
@@ -57,19 +57,15 @@ by-early : {X : Type 0} (early : Early) → ((outcome : Outcome) → early ≡ D
 by-early (Decided outcome) decided search = decided outcome refl
 by-early (Search wanted) decided search = search wanted refl
 
-hOf-lt : (b : Bool) → hOf b < 2 ^ 1
-hOf-lt true = lit< tt
-hOf-lt false = lit< tt
-
 -- the first word of a page's own entry matches it and fits
 module _ (b : Bool) (page : Page) (valid : InRange page) where
   own-matches : (k : ℕ) → layout k .matching b page (entryWord b page) ≡ true
   unfolding entryWord
-  own-matches k = match-own (page .vsid) (hOf b) (apiOf (page .index)) (valid .vsid-lt) (hOf-lt b) (api-lt (page .index) (valid .index-lt))
+  own-matches k = match-own (page .vsid) (hOf b) (apiOf (page .index)) (valid .vsid-lt) (oneIf-lt b) (api-lt (page .index) (valid .index-lt))
 
   own-fits : Word (entryWord b page)
   unfolding entryWord
-  own-fits = first-lt 1 (page .vsid) (hOf b) (apiOf (page .index)) (lit< tt) (valid .vsid-lt) (hOf-lt b) (api-lt (page .index) (valid .index-lt))
+  own-fits = first-lt 1 (page .vsid) (hOf b) (apiOf (page .index)) (lit< tt) (valid .vsid-lt) (oneIf-lt b) (api-lt (page .index) (valid .index-lt))
 
 module _ (k : ℕ) (t : List ℕ) (m : Map) (r : represents k t m) where
   clear-step : (sdr1 : ℕ) → Alike k (bytesDo k (clear sdr1) t) (mapDoes k (clear sdr1) m)

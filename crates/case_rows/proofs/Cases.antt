@@ -1,8 +1,8 @@
 -- Every row of the twelve cases holds: what there is to compute for it computes.
 use mathlib.Core.Path.{refl}
 use native.Mathlib.Omega.{arith}
-use Rattle.words.specs.Below.{everyBelow, firstBelow}
 use lib.Ieee.{size, span, climb}
+use Rattle.words.specs.Below.{everyBelow, firstBelow}
 use Rattle.words.specs.Ones.{lowOnes}
 use Rattle.words.specs.Words.{wordBytes, wordAt, withWord, bytesOf, wordsAt}
 use Rattle.entry.specs.Entry.{firstWord, secondWord, matches, free, apiOf, pageIndex, withMarks, physicalAddress}

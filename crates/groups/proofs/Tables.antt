@@ -1,7 +1,7 @@
 -- Every row of the tables of groups holds: both sides compute to the same.
 use mathlib.Core.Path.{refl}
-use Rattle.words.specs.Below.{firstBelow}
 use lib.Ieee.{size, span, climb}
+use Rattle.words.specs.Below.{firstBelow}
 use Rattle.words.specs.Words.{wordBytes, wordAt, withWord, bytesOf}
 use Rattle.entry.specs.Entry.{free}
 use Rattle.register_words.specs.Sdr1.{maskOnes, hashBits}

@@ -1,10 +1,9 @@
--- Tables that pin mode and kind, the key, protection and fault words, each complete and closed by computation. The stated sides are those of
+-- Tables that pin mode and kind, protection and fault words, each complete and closed by computation. The stated sides are those of
 -- document 01 and of document 004's tables 7-8, 7-15 and 7-16.
 use Prim.Native.Nat.{ℕ}
 use mathlib.Core.Bool.{Bool, true, false}
 use mathlib.Core.List.{List, [], _∷_, map}
 use Rattle.words.specs.Rows.{Hold}
-use Rattle.register_words.specs.Segment.{keyOf}
 use Rattle.protection.specs.Access.{userMode, relocated, sideOf}
 use Rattle.protection.specs.Protection.{pageAllows, blockAllows, guarded}
 use Rattle.protection.specs.Fault.{noMatch, noFetch, protection, faultOf}
@@ -44,18 +43,6 @@ pub record ProtectionTables : Type 0 where
       ∷ []
       )
   pub sides : Hold ((byKind sideOf, false ∷ true ∷ true ∷ []) ∷ [])
-  -- Ks and Kp × PR
-  pub keys : Hold (
-      (keyOf false 0x00FFFFFF, false)
-      ∷ (keyOf true 0x00FFFFFF, false)
-      ∷ (keyOf false 0x40000000, true)
-      ∷ (keyOf true 0x40000000, false)
-      ∷ (keyOf false 0x20000000, false)
-      ∷ (keyOf true 0x20000000, true)
-      ∷ (keyOf false 0x60000000, true)
-      ∷ (keyOf true 0x60000000, true)
-      ∷ []
-      )
   -- key × PP × kind: table 7-15, whose prohibited accesses are those of table 7-16
   pub page-rights : Hold (
       (byKind (pageAllows false 0), readWrite)

@@ -8,9 +8,9 @@ use native.Mathlib.Omega.{arith}
 use lib.Bits.{bitAnd, bitOr, and-mask, and-step, or-comm, or-lt}
 use lib.Dec.{eqb}
 use lib.Pow.{pow-pos, pow-mono, split, shl-shr, shr-shr, shr-mod}
+use lib.Ieee.{size}
 use borrow.Author.Tests.{eqb-true, eq-eqb, ne-eqb}
 use Rattle.words.specs.Bits.{bits}
-use lib.Ieee.{size}
 use Rattle.words.specs.Ones.{lowOnes}
 use Rattle.words.proofs.Ones.{ones-true, ones-width}
 use Rattle.words.proofs.Tests.{both}
@@ -41,6 +41,17 @@ module _ (width : ℕ) (wide : width ≤ 15) where
       ∙ ap (λ (m : ℕ). bitOr m x) (or-comm a b)
       ∙ sym (or-without 15 x b a (omega arith) (bl-lt u₂))
       ∙ ap₂ bitOr (or-comm b a) s₂)
+
+  -- BL of a block of right shape is a field of at most 15 ones
+  pub bl-ones : (upper : ℕ) → upperShape width upper ≡ true → lowOnes (blOf width upper) ≡ true
+  unfolding upperShape
+  bl-ones upper shape =
+      let reserved = eqb (bits 15 (29 - width) upper) 0 in
+      let under = eqb (bitAnd (bepiOf upper) (blOf width upper)) 0 in
+      both (lowOnes (blOf width upper)) reserved (both (lowOnes (blOf width upper) && reserved) under shape .0) .0
+
+  pub bl-few : (upper : ℕ) → upperShape width upper ≡ true → size (blOf width upper) ≤ 15
+  bl-few upper shape = ones-width (blOf width upper) 15 (bl-ones upper shape) (bl-lt upper)
 
   start-clear : (upper : ℕ) → upperShape width upper ≡ true → bitAnd (bepiOf upper) (blOf width upper) ≡ 0
   unfolding upperShape
@@ -89,13 +100,6 @@ common user u₁ u₂ v₁ v₂ = ap not (ne-eqb (bitAnd (bits 30 31 u₁) (bits
 
 -- a block of right shape, its BL a field of k ones
 module _ (width : ℕ) (wide : width ≤ 15) (upper address : ℕ) (hu : upper < 2 ^ 32) (ha : address < 2 ^ 32) (shape : upperShape width upper ≡ true) where
-  low-bl : lowOnes (blOf width upper) ≡ true
-  unfolding upperShape
-  low-bl =
-      let reserved = eqb (bits 15 (29 - width) upper) 0 in
-      let under = eqb (bitAnd (bepiOf upper) (blOf width upper)) 0 in
-      both (lowOnes (blOf width upper)) reserved (both (lowOnes (blOf width upper) && reserved) under shape .0) .0
-
   -- the address without the BL bits is the start exactly where the two agree above the block's 17 + k bits
   range : (k : ℕ) → blOf width upper ≡ 2 ^ k - 1 → k ≤ 15
       → (inBlock width upper address ≡ true) ↔ (address / 2 ^ (17 + k) ≡ upper / 2 ^ (17 + k))
@@ -115,7 +119,7 @@ module _ (width : ℕ) (wide : width ≤ 15) (upper address : ℕ) (hu : upper <
 
   pub holds-range : (inBlock width upper address ≡ true)
       ↔ (address / 2 ^ (17 + size (blOf width upper)) ≡ upper / 2 ^ (17 + size (blOf width upper)))
-  holds-range = range (size (blOf width upper)) (ones-true (blOf width upper) low-bl) (ones-width (blOf width upper) 15 low-bl (bl-lt width wide upper))
+  holds-range = range (size (blOf width upper)) (ones-true (blOf width upper) (bl-ones width wide upper shape)) (bl-few width wide upper shape)
 
 module _ (width : ℕ) (wide : width ≤ 15) where
   -- two blocks that cover one address for one privilege clash

@@ -5,8 +5,8 @@ use Prim.Native.Nat.{ℕ, _+_, _-_, _*_, _/_, _%_, _^_, _≤_}
 use native.Mathlib.Omega.{arith}
 use lib.Bits.{bitAnd, and-mask}
 use lib.Pow.{pow-pos, pow-mono, mod-mod-pow}
-use borrow.Author.Tests.{eq-eqb}
 use lib.Ieee.{size}
+use borrow.Author.Tests.{eq-eqb}
 use Rattle.words.specs.Ones.{lowOnes}
 use Rattle.words.proofs.Ones.{ones-true, true-ones, size-ones, ones-width}
 use Rattle.words.proofs.Tests.{both}

@@ -13,6 +13,7 @@ register-words-tables = record {
   sdr1-rows = record { equal = refl };
   length-rows = record { equal = refl };
   segment-rows = record { equal = refl };
+  key-rows = record { equal = refl };
   vsid-rows = record { equal = refl };
   upper-rows = record { equal = refl };
   lower-rows = record { equal = refl };

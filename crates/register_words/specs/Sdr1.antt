@@ -3,8 +3,8 @@ use Prim.Native.Nat.{ℕ, _+_, _*_}
 use mathlib.Core.Bool.{Bool, _&&_}
 use lib.Bits.{bitAnd}
 use lib.Dec.{eqb}
-use Rattle.words.specs.Bits.{bits}
 use lib.Ieee.{size}
+use Rattle.words.specs.Bits.{bits}
 use Rattle.words.specs.Ones.{lowOnes}
 
 -- the table's origin, bits 0 to 15

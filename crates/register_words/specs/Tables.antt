@@ -42,12 +42,22 @@ pub record RegisterWordsTables : Type 0 where
       ∷ (segmentShape 0x04000000, false)
       ∷ (segmentShape 0x02000000, false)
       ∷ (segmentShape 0x01000000, false)
-      ∷ (keyOf false 0x40000000, true)
-      ∷ (keyOf false 0x30FFFFFF, false)
-      ∷ (keyOf true 0x20000000, true)
-      ∷ (keyOf true 0x50FFFFFF, false)
       ∷ (noExecute 0x10000000, true)
       ∷ (noExecute 0x60FFFFFF, false)
+      ∷ []
+      )
+  -- the key: Ks and Kp × PR, and beside every other bit
+  pub key-rows : Hold (
+      (keyOf false 0x00FFFFFF, false)
+      ∷ (keyOf true 0x00FFFFFF, false)
+      ∷ (keyOf false 0x40000000, true)
+      ∷ (keyOf true 0x40000000, false)
+      ∷ (keyOf false 0x20000000, false)
+      ∷ (keyOf true 0x20000000, true)
+      ∷ (keyOf false 0x60000000, true)
+      ∷ (keyOf true 0x60000000, true)
+      ∷ (keyOf false 0x30FFFFFF, false)
+      ∷ (keyOf true 0x50FFFFFF, false)
       ∷ []
       )
   pub vsid-rows : Hold ((segmentVsid 0x700C701C, 0x0C701C) ∷ (segmentVsid 0x00FFFFFF, 0xFFFFFF) ∷ [])

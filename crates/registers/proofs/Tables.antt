@@ -1,7 +1,7 @@
 -- Every row of the tables of the register set holds: both sides compute to the same.
 use mathlib.Core.Path.{refl}
-use Rattle.words.specs.Below.{everyBelow, firstBelow}
 use lib.Ieee.{size, span, climb}
+use Rattle.words.specs.Below.{everyBelow, firstBelow}
 use Rattle.words.specs.Ones.{lowOnes}
 use Rattle.register_words.specs.Sdr1.{sdr1Shape}
 use Rattle.register_words.specs.Segment.{segmentShape}

@@ -7,16 +7,16 @@ use native.Mathlib.Nat.{div-one, mod-lt}
 use native.Mathlib.Omega.{arith}
 use lib.Bits.{bitAnd, bitOr, and-mask}
 use lib.Pow.{pow-pos, mod-pow-add, mod-mod-pow}
+use lib.Ieee.{size}
 use borrow.Author.Tests.{eqb-true}
 use Rattle.words.specs.Bits.{bits, placed}
-use lib.Ieee.{size}
-use Rattle.words.specs.Ones.{lowOnes}
 use Rattle.words.proofs.Below.{first-found, first-none}
 use Rattle.words.proofs.Masks.{or-sum}
-use Rattle.words.proofs.Ones.{ones-true, ones-width}
+use Rattle.words.proofs.Ones.{ones-true}
 use Rattle.words.proofs.Tests.{both}
 use Rattle.register_words.specs.Block.{brpnOf, blOf, upperShape, lowerShape, blockPhysical}
 use Rattle.registers.specs.Set.{checkWords, pairCovers, coveringPair}
+use Rattle.register_words.proofs.Blocks.{bl-ones, bl-few}
 use Rattle.registers.proofs.Blocks.{blocks-decide}
 
 module _ (pairs width : ℕ) (words : List ℕ) (side user : Bool) (address : ℕ) where
@@ -37,20 +37,9 @@ module _ (pairs width : ℕ) (words : List ℕ) (side user : Bool) (address : �
 -- a block of right shape, its BL a field of k ones
 module _ (width : ℕ) (wide : width ≤ 15) (side : Bool) (upper lower address : ℕ)
     (upper-shape : upperShape width upper ≡ true) (lower-shape : lowerShape width side upper lower ≡ true) where
-  low-bl : lowOnes (blOf width upper) ≡ true
-  unfolding upperShape
-  low-bl = both _ _ (both _ _ upper-shape .0) .0
-
   clear-brpn : bitAnd (brpnOf lower) (blOf width upper) ≡ 0
   unfolding lowerShape
   clear-brpn = eqb-true _ 0 (both _ _ (both _ _ (both _ _ (both _ _ lower-shape .0) .0) .0) .0)
-
-  few : size (blOf width upper) ≤ 15
-  few =
-      let w = 29 + 1 - (30 - width) in
-      let at-most : w ≤ 15 = omega arith in
-      let ones = ones-width (blOf width upper) w low-bl (mod-lt (upper / 2 ^ 2) (pow-pos w)) in
-      omega arith
 
   -- the address's BL bits fall into BRPN's zeros
   put-in : (k : ℕ) → blOf width upper ≡ 2 ^ k - 1 → k ≤ 15
@@ -70,4 +59,4 @@ module _ (width : ℕ) (wide : width ≤ 15) (side : Bool) (upper lower address 
 
   pub block-offset : blockPhysical width upper lower address ≡ placed 14 (brpnOf lower) + address % 2 ^ (17 + size (blOf width upper))
   unfolding blockPhysical
-  block-offset = put-in (size (blOf width upper)) (ones-true (blOf width upper) low-bl) few
+  block-offset = put-in (size (blOf width upper)) (ones-true (blOf width upper) (bl-ones width wide upper upper-shape)) (bl-few width wide upper upper-shape)

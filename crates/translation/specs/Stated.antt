@@ -4,8 +4,8 @@ use mathlib.Core.Bool.{Bool, true, false, _&&_}
 use mathlib.Core.List.{List}
 use mathlib.Core.Logic.{_↔_}
 use mathlib.Core.Path.{_≡_}
-use Rattle.words.specs.Bits.{placed}
 use lib.Ieee.{size}
+use Rattle.words.specs.Bits.{placed}
 use Rattle.entry.specs.Entry.{rpnOf, wimgOf, ppOf}
 use Rattle.entry.specs.RoundTrip.{PackingAgrees}
 use Rattle.entry.specs.Tables.{EntryTables}

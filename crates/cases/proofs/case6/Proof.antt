@@ -1,7 +1,7 @@
 -- `cases::case6` is safe: SDR1 0F980000 has its shape.
+use lib.Ieee.{size, span, climb}
 use borrow.Author.Needs.{needs}
 use mathlib.Core.Path.{refl}
-use lib.Ieee.{size, span, climb}
 use Rattle.words.specs.Ones.{lowOnes}
 use Rattle.register_words.specs.Sdr1.{sdr1Shape}
 use Rattle.cases.proofs.case6.Statement.{statement}

@@ -15,14 +15,14 @@ use Rattle.registers.proofs.Set.{checked}
 use Rattle.groups.specs.Hash.{groupNumber}
 use Rattle.groups.specs.Group.{firstOf, putAt}
 use Rattle.matches.specs.Search as search
-use Rattle.matches.specs.declared.Search.{Search as Summary}
-use Rattle.matches.proofs.Summary.{Summarised, summarised, summary-none, place-found, place-secondary, place-entry}
+use Rattle.matches.specs.declared.Summary.{Summary}
+use Rattle.matches.proofs.Summaries.{Summarised, summarised, summary-none, place-found, place-secondary, place-entry}
 use Rattle.tables.specs.Matches.{Match}
 use Rattle.tables.specs.Layout.{matchesOf, overwrite}
 use Rattle.tables.proofs.Groups.{MatchOf, members-of}
 use Rattle.protection.specs.Access.{fetching, storing}
 use Rattle.protection.specs.Fault.{noMatch, noFetch, protection, faultOf}
-use Rattle.translation.specs.Steps.{beforeSearch, afterSearch, outcomeOf, answerOf, refusedAnswer}
+use Rattle.translation.specs.Steps.{afterSearch, outcomeOf, answerOf, refusedAnswer}
 use Rattle.translation.specs.declared.Early.{Early}
 use Rattle.translation.specs.declared.Early.the-variants.{Decided, Search}
 use Rattle.translation.specs.declared.Outcome.{Outcome}
@@ -31,11 +31,10 @@ use Rattle.translation.specs.declared.Searched.{Searched}
 use Rattle.translation.specs.declared.Searched.the-variants.{Nothing, At, Contradicting}
 use Rattle.translation.specs.declared.Wanted.{Wanted}
 use Rattle.translation.proofs.Steps.{page-by, done-passes}
-use Rattle.calls.specs.Request.{Request, access, sdr1In, fed}
+use Rattle.calls.specs.Request.{AccessCall, access, sdr1In, fed}
 use Rattle.calls.specs.Rules.{rules, refusal}
-use Rattle.calls.specs.Answers as answers
-use Rattle.calls.specs.Answers.{accessAnswer, answerRefused}
-use Rattle.calls.specs.OnBytes.{layout, ended, byMatches, wantedPage, searched, markedBy, bytesDo, onBytes}
+use Rattle.calls.specs.Answers.{refusedBytes, accessAnswer, answerRefused}
+use Rattle.calls.specs.OnBytes.{layout, ended, byMatches, earlyOf, wantedPage, searched, markedBy, bytesDo, onBytes}
 use Rattle.calls.proofs.OnBytes.{taken, refused}
 
 -- ---- the rules after 11
@@ -193,30 +192,31 @@ module _ (k : ℕ) (wanted : Wanted) (t : List ℕ) (s : Summary) (e : s ≡ sea
 
 -- ---- the call
 
-module _ (page : List ℕ) (mode kind address : ℕ) (answer t : List ℕ) where
-  abbrev request : Request (List ℕ)
-  request = access page mode kind address answer
+module _ (c : AccessCall (List ℕ)) (t : List ℕ) where
+  pub access-wrong-length : (eqb (length (c .registers)) 132 && eqb (length (c .answer)) 16) ≡ false → onBytes (access c) t ≡ ended 11 t (c .answer)
+  unfolding refusal rules fed answerRefused refusedBytes
+  access-wrong-length w = refused (access c) t 11 (rw w) (λ z. omega arith)
 
-  pub access-wrong-length : (eqb (length page) 132 && eqb (length answer) 16) ≡ false → onBytes request t ≡ ended 11 t answer
-  unfolding refusal rules fed answerRefused answers.refusedAnswer
-  access-wrong-length w = refused request t 11 (rw w) (λ z. omega arith)
+  module _ (registers-length : length (c .registers) ≡ 132) (answer-length : length (c .answer) ≡ 16) where
+    abbrev rulesLeft : List (Bool × ℕ)
+    rulesLeft = rulesThen (registerWords (c .registers)) (c .mode) (c .kind) (length t)
 
-  module _ (page-length : length page ≡ 132) (answer-length : length answer ≡ 16) where
-    after-11 : refusal (fed request) (length t) ≡ firstBroken (rulesThen (registerWords page) mode kind (length t))
+    after-11 : refusal (fed (access c)) (length t) ≡ firstBroken rulesLeft
     unfolding refusal rules fed
-    after-11 = rw (page-length, answer-length)
+    after-11 = rw (registers-length, answer-length)
 
-    pub access-refused : (number : ℕ) → number ≡ firstBroken (rulesThen (registerWords page) mode kind (length t)) → (number ≡ 0 → ⊥)
-        → onBytes request t ≡ ended number t (accessAnswer (refusedAnswer number))
-    unfolding answerRefused answers.refusedAnswer accessAnswer
+    pub access-refused : (number : ℕ) → number ≡ firstBroken rulesLeft → (number ≡ 0 → ⊥)
+        → onBytes (access c) t ≡ ended number t (accessAnswer (refusedAnswer number))
+    unfolding answerRefused refusedBytes accessAnswer
     access-refused number e n =
-        refused request t number (after-11 ∙ sym e) n
-        ∙ (rw (ap (λ (k : ℕ). eqb k 11) e ∙ then-not-11 (registerWords page) mode kind (length t)))
+        refused (access c) t number (after-11 ∙ sym e) n
+        ∙ (rw (ap (λ (k : ℕ). eqb k 11) e ∙ then-not-11 (registerWords (c .registers)) (c .mode) (c .kind) (length t)))
 
-    pub access-taken : firstBroken (rulesThen (registerWords page) mode kind (length t)) ≡ 0 → (outcome : Outcome)
-        → let k = maskOnes (sdr1Of (registerWords page)) in
-        let early = beforeSearch 4 11 (registerWords page) mode kind address in
-        outcome ≡ outcomeOf kind (λ wanted. searched (matchesOf (layout k) t (wantedPage wanted))) early
-        → onBytes request t ≡ ended (answerOf kind address outcome .result) (markedBy k kind early (answerOf kind address outcome .result) t) (accessAnswer (answerOf kind address outcome))
+    pub access-taken : firstBroken rulesLeft ≡ 0 → (outcome : Outcome)
+        → let k = maskOnes (sdr1Of (registerWords (c .registers))) in
+        outcome ≡ outcomeOf (c .kind) (λ wanted. searched (matchesOf (layout k) t (wantedPage wanted))) (earlyOf c)
+        → onBytes (access c) t
+        ≡ ended (answerOf (c .kind) (c .address) outcome .result) (markedBy k (c .kind) (earlyOf c) (answerOf (c .kind) (c .address) outcome .result) t)
+        (accessAnswer (answerOf (c .kind) (c .address) outcome))
     unfolding bytesDo sdr1In
-    access-taken z outcome e = taken request t (after-11 ∙ z) ∙ (rw e)
+    access-taken z outcome e = taken (access c) t (after-11 ∙ z) ∙ (rw e)

@@ -9,17 +9,16 @@ use lib.Dec.{eqb}
 use borrow.Author.Tests.{eqb-true, eqb-false}
 use Rattle.placement.specs.FiniteMap.{fieldsAt, putIn, takeOut, revise, mappedPages}
 use Rattle.register_words.specs.Sdr1.{maskOnes}
-use Rattle.registers.specs.Set.{registerWords}
 use Rattle.groups.specs.Page.{Page, samePage}
 use Rattle.protection.specs.Access.{storing}
-use Rattle.translation.specs.Steps.{beforeSearch, outcomeOf, answerOf}
+use Rattle.translation.specs.Steps.{outcomeOf, answerOf}
 use Rattle.translation.specs.declared.Early.{Early}
 use Rattle.translation.specs.declared.Early.the-variants.{Decided, Search}
 use Rattle.translation.specs.declared.Outcome.{Outcome}
 use Rattle.calls.specs.Request.{Request, clear, mapPage, unmap, protect, look, access, sdr1In}
 use Rattle.calls.specs.Rules.{refusal}
 use Rattle.calls.specs.Answers.{wordAnswer, accessAnswer}
-use Rattle.calls.specs.OnBytes.{Ended, ended, byOption, wantedPage}
+use Rattle.calls.specs.OnBytes.{Ended, ended, byOption, earlyOf, wantedPage}
 use Rattle.calls.specs.OnMap.{PageFields, Map, fieldsWord, markFields, protectFields, Arranged, arranged?, foundIn, mapMarked, mapDoes, onMap}
 use Rattle.calls.specs.Histories.{Maps, by-map, TakesOut, by-clear, by-unmap}
 use Rattle.calls.proofs.Histories.{map-taken, map-refused}
@@ -46,57 +45,64 @@ module _ (k : ℕ) (m : Map) where
   -- a call that its arguments do not refuse
   does : (request : Request ℕ) → Changed request m (mapDoes k request m)
   unfolding mapDoes mapMarked
-  does (clear sdr1) = emptied (λ page. by-clear sdr1) refl refl
-  does (mapPage sdr1 page rpn wimg pp) = go (fieldsAt samePage page m) refl
+  does (clear c) = emptied (λ page. by-clear c) refl refl
+  does (mapPage c) = go (fieldsAt samePage (c .page) m) refl
     where
+      page : Page
+      page = c .page
+
       new : PageFields
-      new = record { frame = rpn; attributes = wimg; protection = pp; referenced = false; changed = false }
+      new = record { frame = c .rpn; attributes = c .wimg; protection = c .pp; referenced = false; changed = false }
 
       branch : Ended Map
       branch = ite (arranged? k (page ∷ mappedPages m)) (ended 0 (putIn page new m) []) (ended 9 m [])
 
-      by : Dec (Arranged k (page ∷ mappedPages m)) → fieldsAt samePage page m ≡ none → Changed (mapPage sdr1 page rpn wimg pp) m branch
+      by : Dec (Arranged k (page ∷ mappedPages m)) → fieldsAt samePage page m ≡ none → Changed (mapPage c) m branch
       by (yes a) e =
           let same = if-pos (arranged? k (page ∷ mappedPages m)) a (ended 0 (putIn page new m) []) (ended 9 m []) in
-          subst (Changed (mapPage sdr1 page rpn wimg pp) m) (sym same) (put page new (by-map sdr1 rpn wimg pp) refl e refl)
+          subst (Changed (mapPage c) m) (sym same) (put page new (by-map c refl) refl e refl)
       by (no a) e =
           let same = if-neg (arranged? k (page ∷ mappedPages m)) a (ended 0 (putIn page new m) []) (ended 9 m []) in
-          subst (Changed (mapPage sdr1 page rpn wimg pp) m) (sym same) (left refl)
+          subst (Changed (mapPage c) m) (sym same) (left refl)
 
-      go : (o : Option PageFields) → fieldsAt samePage page m ≡ o → Changed (mapPage sdr1 page rpn wimg pp) m (byOption o branch (λ f. ended 7 m []))
+      go : (o : Option PageFields) → fieldsAt samePage page m ≡ o → Changed (mapPage c) m (byOption o branch (λ f. ended 7 m []))
       go none e = by (arranged? k (page ∷ mappedPages m)) e
       go (some f) e = left refl
-  does (unmap sdr1 page answer) = go (fieldsAt samePage page m) refl
+  does (unmap c) = go (fieldsAt samePage (c .page) m) refl
     where
-      go : (o : Option PageFields) → fieldsAt samePage page m ≡ o
-          → Changed (unmap sdr1 page answer) m (byOption o (ended 8 m (wordAnswer 8 0)) (λ f. ended 0 (takeOut samePage page m) (wordAnswer 0 (fieldsWord f))))
+      go : (o : Option PageFields) → fieldsAt samePage (c .page) m ≡ o
+          → Changed (unmap c) m (byOption o (ended 8 m (wordAnswer 8 0)) (λ f. ended 0 (takeOut samePage (c .page) m) (wordAnswer 0 (fieldsWord f))))
       go none e = left refl
-      go (some f) e = took page f (by-unmap sdr1 answer) refl e refl
-  does (protect sdr1 page pp) = go (fieldsAt samePage page m)
+      go (some f) e = took (c .page) f (by-unmap c refl) refl e refl
+  does (protect c) = go (fieldsAt samePage (c .page) m)
     where
-      go : (o : Option PageFields) → Changed (protect sdr1 page pp) m (byOption o (ended 8 m []) (λ f. ended 0 (revise samePage page (protectFields pp) m) []))
+      go : (o : Option PageFields) → Changed (protect c) m (byOption o (ended 8 m []) (λ f. ended 0 (revise samePage (c .page) (protectFields (c .pp)) m) []))
       go none = left refl
-      go (some f) = revised page (protectFields pp) (protect-keeps pp) refl
-  does (look sdr1 page answer) = go (fieldsAt samePage page m)
+      go (some f) = revised (c .page) (protectFields (c .pp)) (protect-keeps (c .pp)) refl
+  does (look c) = go (fieldsAt samePage (c .page) m)
     where
-      go : (o : Option PageFields) → Changed (look sdr1 page answer) m (byOption o (ended 8 m (wordAnswer 8 0)) (λ f. ended 0 m (wordAnswer 0 (fieldsWord f))))
+      go : (o : Option PageFields) → Changed (look c) m (byOption o (ended 8 m (wordAnswer 8 0)) (λ f. ended 0 m (wordAnswer 0 (fieldsWord f))))
       go none = left refl
       go (some f) = left refl
-  does (access registers mode kind address answer) = go (beforeSearch 4 11 (registerWords registers) mode kind address)
+  does (access c) = go (earlyOf c)
     where
+      kind : ℕ
+      kind = c .kind
+
       plain : Early → Outcome
       plain early = outcomeOf kind (λ wanted. foundIn m (wantedPage wanted)) early
 
-      by : (early : Early) (words : ℕ) (bytes : List ℕ) (page : Page) (done : Bool)
-          → Changed (access registers mode kind address answer) m (ended words (cond done (revise samePage page (markFields (storing kind)) m) m) bytes)
-      by early words bytes page true = revised page (markFields (storing kind)) (mark-keeps (storing kind)) refl
-      by early words bytes page false = left refl
+      by : (number : ℕ) (bytes : List ℕ) (page : Page) (marked : Bool)
+          → Changed (access c) m (ended number (cond marked (revise samePage page (markFields (storing kind)) m) m) bytes)
+      by number bytes page true = revised page (markFields (storing kind)) (mark-keeps (storing kind)) refl
+      by number bytes page false = left refl
 
       go : (early : Early)
-          → Changed (access registers mode kind address answer) m
-          (ended (answerOf kind address (plain early) .result) (mapMarked kind early (answerOf kind address (plain early) .result) m) (accessAnswer (answerOf kind address (plain early))))
+          → Changed (access c) m
+          (ended (answerOf kind (c .address) (plain early) .result) (mapMarked kind early (answerOf kind (c .address) (plain early) .result) m)
+          (accessAnswer (answerOf kind (c .address) (plain early))))
       go (Decided outcome) = left refl
-      go (Search wanted) = by (Search wanted) _ _ (wantedPage wanted) (eqb (answerOf kind address (plain (Search wanted)) .result) 0)
+      go (Search wanted) = by _ _ (wantedPage wanted) (eqb (answerOf kind (c .address) (plain (Search wanted)) .result) 0)
 
 -- any call
 pub changed : (request : Request ℕ) (lent : ℕ) (m : Map) → Changed request m (onMap request lent m)

@@ -1,6 +1,6 @@
 -- What the theorem means for one page: after a done unmap or clear it is found no more until it is mapped again, and an access that is done by it
 -- gives the frame and the attributes of its last done map. Both are shown on the finite map, call by call, and carried to the bytes by the theorem.
-use Prim.Native.Nat.{ℕ, _+_, _*_, _%_, _^_, _≤_}
+use Prim.Native.Nat.{ℕ, _+_}
 use mathlib.Core.Path.{_≡_, refl, sym, ap, ap₂, _∙_, subst}
 use mathlib.Core.Bool.{Bool, true, false, cond, _&&_}
 use mathlib.Core.Logic.{ite, if-pos, if-neg}
@@ -18,33 +18,33 @@ use Rattle.placement.proofs.FiniteMap.{fieldsAt-putIn-same, fieldsAt-putIn-othe
 use Rattle.entry.specs.Entry.{wimgOf, ppOf, physicalAddress}
 use Rattle.entry.proofs.Packing.{SecondFields, second-packed}
 use Rattle.entry.proofs.Addresses.{physical-fields}
-use Rattle.registers.specs.Set.{registerWords}
 use Rattle.groups.specs.Page.{Page, samePage}
 use Rattle.groups.proofs.Hash.{samePage-refl, samePage-eq}
 use Rattle.tables.specs.Runs.{after, Each}
 use Rattle.tables.proofs.Runs.{each-append}
 use Rattle.protection.specs.Access.{fetching}
 use Rattle.protection.specs.Protection.{pageAllows, guarded}
-use Rattle.translation.specs.Steps.{beforeSearch, pageOutcome, afterSearch, outcomeOf, answerOf, doneAnswer}
+use Rattle.translation.specs.Steps.{pageOutcome, afterSearch, outcomeOf, answerOf, doneAnswer}
 use Rattle.translation.specs.declared.Outcome.{Outcome}
 use Rattle.translation.specs.declared.Outcome.the-variants.{NoMatch, Guarded, Protection, Done}
 use Rattle.protection.specs.Fault.{noFetch, protection}
 use Rattle.translation.specs.declared.Searched.{Searched}
 use Rattle.translation.specs.declared.Searched.the-variants.{Nothing, At}
 use Rattle.translation.proofs.Steps.{after-nothing, after-at, outcome-searched}
-use Rattle.calls.specs.Request.{Request, clear, mapPage, unmap, access, fed, sdr1In}
+use Rattle.calls.specs.Request.{MapCall, AccessCall, fedAnswered, Request, clear, mapPage, unmap, access, fed, sdr1In}
 use Rattle.calls.specs.Rules.{refusal}
 use Rattle.calls.specs.Answers.{wordAnswer, accessAnswer, compared}
-use Rattle.calls.specs.OnBytes.{Ended, ended, onBytes, byOption, wantedPage}
+use Rattle.calls.specs.OnBytes.{Ended, ended, byOption, earlyOf, wantedPage}
 use Rattle.calls.specs.OnMap.{PageFields, Map, fieldsWord, Arranged, arranged?, foundIn, mapDoes, onMap}
 use Rattle.calls.specs.Represents.{FieldsInRange, represents}
 use Rattle.calls.specs.Histories.{Call, bytesStep, mapStep, fedCall, Under, NoneDone, Maps, by-map, TakesOut, by-clear, by-unmap}
-use Rattle.calls.specs.Theorem.{sdr1With, Start, tableAfter, mapAfter, Reaches, AccessFollowsHistory}
+use Rattle.calls.specs.Theorem.{History, cleared, mapAfter, next, mappedTo, DoneSince, Reaches, AccessFollowsHistory}
 use Rattle.calls.proofs.Fields.{oneIf-lt}
 use Rattle.calls.proofs.Access.{fault-number}
 use Rattle.calls.proofs.Changes.{Changed, left, emptied, put, took, revised, changed}
 use Rattle.calls.proofs.Histories.{keeps, map-taken, map-refused}
-use Rattle.calls.proofs.Theorem.{history-represents, as-map}
+use Rattle.calls.proofs.Rules.{Fitting}
+use Rattle.calls.proofs.Theorem.{fits, history-represents, map-number, map-answer}
 
 -- a page's fields have this frame and these attributes
 pub record Has (rpn wimg : ℕ) (page : Page) (m : Map) : Type 0 where
@@ -118,17 +118,17 @@ module _ (page : Page) (request : Request ℕ) (m : Map) (d : Ended Map) where
 -- what the finite map is fed asks the same
 maps-fed : (page : Page) (request : Request (List ℕ)) → Maps page (fed request) → Maps page request
 unfolding fed
-maps-fed page (mapPage sdr1 other rpn wimg pp) (by-map s r w q) = by-map s r w q
+maps-fed page (mapPage c) (by-map d is) = by-map d is
 
 takes-fed : (page : Page) (request : Request (List ℕ)) → TakesOut page (fed request) → TakesOut page request
 unfolding fed
-takes-fed page (clear sdr1) (by-clear s) = by-clear s
-takes-fed page (unmap sdr1 other answer) (by-unmap s n) = by-unmap s answer
+takes-fed page (clear c) (by-clear d) = by-clear c
+takes-fed page (unmap c) (by-unmap d is) = by-unmap c is
 
 fed-takes : (page : Page) (request : Request (List ℕ)) → TakesOut page request → TakesOut page (fed request)
 unfolding fed
-fed-takes page request (by-clear s) = by-clear s
-fed-takes page request (by-unmap s answer) = by-unmap s (length answer)
+fed-takes page request (by-clear c) = by-clear c
+fed-takes page request (by-unmap c is) = by-unmap (fedAnswered c) is
 
 -- a done call that takes the page out leaves it out, and a done map of it leaves it with the map's frame and attributes
 module _ (lent : ℕ) (m : Map) where
@@ -148,45 +148,46 @@ module _ (lent : ℕ) (m : Map) where
   taken-out : (page : Page) (request : Request ℕ) → TakesOut page request → onMap request lent m .number ≡ 0
       → fieldsAt samePage page (onMap request lent m .state) ≡ none
   unfolding mapDoes
-  taken-out page request (by-clear sdr1) z = rw (done-does (clear sdr1) z)
-  taken-out page request (by-unmap sdr1 answer) z =
-      rw (done-does (unmap sdr1 page answer) z) (by (fieldsAt samePage page m) (rw (done-does (unmap sdr1 page answer) z) at z))
+  taken-out page request (by-clear c) z = rw (done-does (clear c) z)
+  taken-out page request (by-unmap c is) z =
+      subst (λ (p : Page). fieldsAt samePage p (onMap (unmap c) lent m .state) ≡ none) is
+      (rw (done-does (unmap c) z) (by (fieldsAt samePage (c .page) m) (rw (done-does (unmap c) z) at z)))
     where
-      by : (o : Option PageFields) → byOption o (ended 8 m (wordAnswer 8 0)) (λ f. ended 0 (takeOut samePage page m) (wordAnswer 0 (fieldsWord f))) .number ≡ 0
-          → fieldsAt samePage page (byOption o (ended 8 m (wordAnswer 8 0)) (λ f. ended 0 (takeOut samePage page m) (wordAnswer 0 (fieldsWord f))) .state) ≡ none
-      by none n = absurd (omega arith)
-      by (some f) n = fieldsAt-takeOut-same samePage samePage-refl samePage-eq page m
+      told : Option PageFields → Ended Map
+      told o = byOption o (ended 8 m (wordAnswer 8 0)) (λ f. ended 0 (takeOut samePage (c .page) m) (wordAnswer 0 (fieldsWord f)))
 
-  put-in : (sdr1 : ℕ) (page : Page) (rpn wimg pp : ℕ) → onMap (mapPage sdr1 page rpn wimg pp) lent m .number ≡ 0
-      → Has rpn wimg page (onMap (mapPage sdr1 page rpn wimg pp) lent m .state)
+      by : (o : Option PageFields) → told o .number ≡ 0 → fieldsAt samePage (c .page) (told o .state) ≡ none
+      by none n = absurd (omega arith)
+      by (some f) n = fieldsAt-takeOut-same samePage samePage-refl samePage-eq (c .page) m
+
+  put-in : (c : MapCall) → onMap (mapPage c) lent m .number ≡ 0 → Has (c .rpn) (c .wimg) (c .page) (onMap (mapPage c) lent m .state)
   unfolding mapDoes
-  put-in sdr1 page rpn wimg pp z =
-      rw (done-does (mapPage sdr1 page rpn wimg pp) z) (by (fieldsAt samePage page m) (rw (done-does (mapPage sdr1 page rpn wimg pp) z) at z))
+  put-in c z = rw (done-does (mapPage c) z) (by (fieldsAt samePage (c .page) m) (rw (done-does (mapPage c) z) at z))
     where
       ones : ℕ
-      ones = maskOnes (sdr1In {A = ℕ} (mapPage sdr1 page rpn wimg pp))
+      ones = maskOnes (sdr1In {A = ℕ} (mapPage c))
 
       new : PageFields
-      new = record { frame = rpn; attributes = wimg; protection = pp; referenced = false; changed = false }
+      new = record { frame = c .rpn; attributes = c .wimg; protection = c .pp; referenced = false; changed = false }
 
-      done : Ended Map
-      done = ended 0 (putIn page new m) []
+      placed-in : Ended Map
+      placed-in = ended 0 (putIn (c .page) new m) []
 
       full : Ended Map
       full = ended 9 m []
 
-      arranged : (d : Dec (Arranged ones (page ∷ mappedPages m))) → ite d done full .number ≡ 0 → Has rpn wimg page (ite d done full .state)
+      arranged : (d : Dec (Arranged ones (c .page ∷ mappedPages m))) → ite d placed-in full .number ≡ 0 → Has (c .rpn) (c .wimg) (c .page) (ite d placed-in full .state)
       arranged d n = pick d
         where
-          pick : Dec (Arranged ones (page ∷ mappedPages m)) → Has rpn wimg page (ite d done full .state)
+          pick : Dec (Arranged ones (c .page ∷ mappedPages m)) → Has (c .rpn) (c .wimg) (c .page) (ite d placed-in full .state)
           pick (yes a) =
-              subst (λ (x : Ended Map). Has rpn wimg page (x .state)) (sym (if-pos d a done full))
-              (record { fields = new; mapped = fieldsAt-putIn-same samePage samePage-refl samePage-eq page new m; frame = refl; attributes = refl })
-          pick (no a) = absurd (let z : _≡_ {A = ℕ} 9 0 = ap (λ (x : Ended Map). x .number) (sym (if-neg d a done full)) ∙ n in omega arith)
+              subst (λ (x : Ended Map). Has (c .rpn) (c .wimg) (c .page) (x .state)) (sym (if-pos d a placed-in full))
+              (record { fields = new; mapped = fieldsAt-putIn-same samePage samePage-refl samePage-eq (c .page) new m; frame = refl; attributes = refl })
+          pick (no a) = absurd (let z : _≡_ {A = ℕ} 9 0 = ap (λ (x : Ended Map). x .number) (sym (if-neg d a placed-in full)) ∙ n in omega arith)
 
-      by : (o : Option PageFields) → byOption o (ite (arranged? ones (page ∷ mappedPages m)) done full) (λ f. ended 7 m []) .number ≡ 0
-          → Has rpn wimg page (byOption o (ite (arranged? ones (page ∷ mappedPages m)) done full) (λ f. ended 7 m []) .state)
-      by none n = arranged (arranged? ones (page ∷ mappedPages m)) n
+      by : (o : Option PageFields) → byOption o (ite (arranged? ones (c .page ∷ mappedPages m)) placed-in full) (λ f. ended 7 m []) .number ≡ 0
+          → Has (c .rpn) (c .wimg) (c .page) (byOption o (ite (arranged? ones (c .page ∷ mappedPages m)) placed-in full) (λ f. ended 7 m []) .state)
+      by none n = arranged (arranged? ones (c .page ∷ mappedPages m)) n
       by (some f) n = absurd (omega arith)
 
 -- the finite map over a list of calls in two parts
@@ -195,86 +196,114 @@ map-parts : (size : ℕ) (cs ds : List Call) (m : Map)
 map-parts size [] ds m = refl
 map-parts size (c ∷ cs) ds m = map-parts size cs ds (mapStep (fedCall size c) m .1)
 
-module _ (o k : ℕ) (few : k ≤ 9) (whole : o % 2 ^ k ≡ 0) (page : Page) where
+-- calls under one SDR1 on a table of its length
+module _ (sdr1 size : ℕ) (fit : Fitting sdr1 size) (page : Page) where
   -- what the finite map tells of a call of a history
   tells : Call → Map → Ended Map
-  tells c m = onMap (fed (c .request)) (byOption (c .lent) (65536 * 2 ^ k) length) m
+  tells c m = onMap (fed (c .request)) (byOption (c .lent) size length) m
 
   -- its number is that of the bytes
-  number-same : (c : Call) → Under (sdr1With o k) (65536 * 2 ^ k) c → (t : List ℕ) (m : Map) → represents k t m → bytesStep c t .0 .0 ≡ tells c m .number
+  number-same : (c : Call) → Under sdr1 size c → (t : List ℕ) (m : Map) → represents (maskOnes sdr1) t m → bytesStep c t .0 .0 ≡ tells c m .number
   unfolding mapStep compared tells
-  number-same c under t m r = ap (λ (x : ℕ × List ℕ). x .0) (keeps o k few whole c under t m r .0)
+  number-same c under t m r = ap (λ (x : ℕ × List ℕ). x .0) (keeps sdr1 size (fit .shape) (fit .long) c under t m r .0)
 
-  next : (c : Call) → Under (sdr1With o k) (65536 * 2 ^ k) c → (t : List ℕ) (m : Map) → represents k t m → represents k (bytesStep c t .1) (tells c m .state)
+  step-represents : (c : Call) → Under sdr1 size c → (t : List ℕ) (m : Map) → represents (maskOnes sdr1) t m
+      → represents (maskOnes sdr1) (bytesStep c t .1) (tells c m .state)
   unfolding mapStep tells
-  next c under t m r = keeps o k few whole c under t m r .1
+  step-represents c under t m r = keeps sdr1 size (fit .shape) (fit .long) c under t m r .1
 
-  out-along : (ds : List Call) → Each (Under (sdr1With o k) (65536 * 2 ^ k)) ds → (t : List ℕ) (m : Map) → represents k t m
-      → fieldsAt samePage page m ≡ none → NoneDone (Maps page) ds t → fieldsAt samePage page (after mapStep (map (fedCall (65536 * 2 ^ k)) ds) m) ≡ none
+  out-along : (ds : List Call) → Each (Under sdr1 size) ds → (t : List ℕ) (m : Map) → represents (maskOnes sdr1) t m
+      → fieldsAt samePage page m ≡ none → NoneDone (Maps page) ds t → fieldsAt samePage page (after mapStep (map (fedCall size) ds) m) ≡ none
   unfolding mapStep tells
   out-along [] each t m r e n = e
   out-along (c ∷ ds) each t m r e n =
-      out-along ds (each .1) (bytesStep c t .1) (tells c m .state) (next c (each .0) t m r)
+      out-along ds (each .1) (bytesStep c t .1) (tells c m .state) (step-represents c (each .0) t m r)
       (stays-out page (fed (c .request)) m (tells c m) e
       (λ a z. n .0 (maps-fed page (c .request) a) (number-same c (each .0) t m r ∙ z))
-      (changed (fed (c .request)) (byOption (c .lent) (65536 * 2 ^ k) length) m))
+      (changed (fed (c .request)) (byOption (c .lent) size length) m))
       (n .1)
 
-  in-along : (rpn wimg : ℕ) (ds : List Call) → Each (Under (sdr1With o k) (65536 * 2 ^ k)) ds → (t : List ℕ) (m : Map) → represents k t m
-      → Has rpn wimg page m → NoneDone (TakesOut page) ds t → Has rpn wimg page (after mapStep (map (fedCall (65536 * 2 ^ k)) ds) m)
+  in-along : (rpn wimg : ℕ) (ds : List Call) → Each (Under sdr1 size) ds → (t : List ℕ) (m : Map) → represents (maskOnes sdr1) t m
+      → Has rpn wimg page m → NoneDone (TakesOut page) ds t → Has rpn wimg page (after mapStep (map (fedCall size) ds) m)
   unfolding mapStep tells
   in-along rpn wimg [] each t m r has n = has
   in-along rpn wimg (c ∷ ds) each t m r has n =
-      in-along rpn wimg ds (each .1) (bytesStep c t .1) (tells c m .state) (next c (each .0) t m r)
+      in-along rpn wimg ds (each .1) (bytesStep c t .1) (tells c m .state) (step-represents c (each .0) t m r)
       (stays-in page (fed (c .request)) m (tells c m) rpn wimg has
       (λ a z. n .0 (takes-fed page (c .request) a) (number-same c (each .0) t m r ∙ z))
-      (changed (fed (c .request)) (byOption (c .lent) (65536 * 2 ^ k) length) m))
+      (changed (fed (c .request)) (byOption (c .lent) size length) m))
       (n .1)
 
-module _ (o k : ℕ) (t : List ℕ) (start : Start o k t) (cs : List Call) (c : Call) (ds : List Call)
-    (each : Each (Under (sdr1With o k) (65536 * 2 ^ k)) (cs ++ c ∷ ds)) (page : Page) where
-  before : Each (Under (sdr1With o k) (65536 * 2 ^ k)) cs
-  before = each-append (Under (sdr1With o k) (65536 * 2 ^ k)) cs (c ∷ ds) .0 each .0
+-- a history in which one of these calls was done and none of those since
+module _ (h : History) (These Those : Request (List ℕ) → Type 0) (since : DoneSince h These Those) (page : Page) where
+  abbrev size : ℕ
+  size = length (h .table)
 
-  behind : Each (Under (sdr1With o k) (65536 * 2 ^ k)) (c ∷ ds)
-  behind = each-append (Under (sdr1With o k) (65536 * 2 ^ k)) cs (c ∷ ds) .0 each .1
+  abbrev call : Call
+  call = since .call
 
-  represented : represents k (tableAfter o k t cs) (mapAfter k cs)
-  represented = history-represents o k t start cs before
+  -- the history up to that call
+  up-to : History
+  up-to = record {
+    sdr1 = h .sdr1;
+    table = h .table;
+    clear-done = h .clear-done;
+    calls = since .before;
+    under = each-append (Under (h .sdr1) size) (since .before) (call ∷ since .behind) .0 (subst (Each (Under (h .sdr1) size)) (since .parts) (h .under)) .0;
+  }
 
-  -- the map after the call, and after the rest
-  told-then : Map
-  told-then = tells o k (start .few) (start .whole) page c (mapAfter k cs) .state
+  from-there : Each (Under (h .sdr1) size) (call ∷ since .behind)
+  from-there = each-append (Under (h .sdr1) size) (since .before) (call ∷ since .behind) .0 (subst (Each (Under (h .sdr1) size)) (since .parts) (h .under)) .1
 
-  rest-is : mapAfter k (cs ++ c ∷ ds) ≡ after mapStep (map (fedCall (65536 * 2 ^ k)) ds) told-then
-  unfolding told-then tells mapStep
-  rest-is = map-parts (65536 * 2 ^ k) cs (c ∷ ds) []
+  -- the map before the call, what it tells of the call, and the map after the rest
+  before-map : Map
+  before-map = after mapStep (map (fedCall size) (since .before)) []
 
-  number-is : bytesStep c (tableAfter o k t cs) .0 .0 ≡ 0 → tells o k (start .few) (start .whole) page c (mapAfter k cs) .number ≡ 0
-  number-is z = sym (number-same o k (start .few) (start .whole) page c (behind .0) (tableAfter o k t cs) (mapAfter k cs) represented) ∙ z
+  told : Ended Map
+  told = tells (h .sdr1) size (fits h) page call before-map
 
-  then-represents : represents k (bytesStep c (tableAfter o k t cs) .1) told-then
-  unfolding told-then
-  then-represents = next o k (start .few) (start .whole) page c (behind .0) (tableAfter o k t cs) (mapAfter k cs) represented
+  rest-is : mapAfter h ≡ after mapStep (map (fedCall size) (since .behind)) (told .state)
+  unfolding before-map told tells mapStep
+  rest-is =
+      ap (λ (cs : List Call). after mapStep (map (fedCall size) cs) []) (since .parts) ∙ map-parts size (since .before) (call ∷ since .behind) []
 
-  out-after : TakesOut page (c .request) → bytesStep c (tableAfter o k t cs) .0 .0 ≡ 0 → NoneDone (Maps page) ds (bytesStep c (tableAfter o k t cs) .1)
-      → fieldsAt samePage page (mapAfter k (cs ++ c ∷ ds)) ≡ none
-  unfolding told-then tells
-  out-after a z n =
-      rw rest-is
-      (out-along o k (start .few) (start .whole) page ds (behind .1) (bytesStep c (tableAfter o k t cs) .1) told-then then-represents
-      (taken-out (byOption (c .lent) (65536 * 2 ^ k) length) (mapAfter k cs) page (fed (c .request)) (fed-takes page (c .request) a) (number-is z)) n)
+  represented : represents (maskOnes (h .sdr1)) (after bytesStep (since .before) (cleared h)) before-map
+  unfolding before-map up-to
+  represented = history-represents up-to
 
-  in-after : (sdr1 rpn wimg pp : ℕ) → c .request ≡ mapPage sdr1 page rpn wimg pp → bytesStep c (tableAfter o k t cs) .0 .0 ≡ 0
-      → NoneDone (TakesOut page) ds (bytesStep c (tableAfter o k t cs) .1) → Has rpn wimg page (mapAfter k (cs ++ c ∷ ds))
-  unfolding told-then tells fed
-  in-after sdr1 rpn wimg pp is z n =
-      let lent = byOption (c .lent) (65536 * 2 ^ k) length in
-      let is-fed : fed (c .request) ≡ mapPage sdr1 page rpn wimg pp = ap fed is in
-      let put = put-in lent (mapAfter k cs) sdr1 page rpn wimg pp (subst (λ (r : Request ℕ). onMap r lent (mapAfter k cs) .number ≡ 0) is-fed (number-is z)) in
-      rw rest-is
-      (in-along o k (start .few) (start .whole) page rpn wimg ds (behind .1) (bytesStep c (tableAfter o k t cs) .1) told-then then-represents
-      (subst (λ (r : Request ℕ). Has rpn wimg page (onMap r lent (mapAfter k cs) .state)) (sym is-fed) put) n)
+  told-done : told .number ≡ 0
+  unfolding told
+  told-done =
+      sym (number-same (h .sdr1) size (fits h) page call (from-there .0) (after bytesStep (since .before) (cleared h)) before-map represented) ∙ since .was-done
+
+  then-represents : represents (maskOnes (h .sdr1)) (bytesStep call (after bytesStep (since .before) (cleared h)) .1) (told .state)
+  unfolding told
+  then-represents =
+      step-represents (h .sdr1) size (fits h) page call (from-there .0) (after bytesStep (since .before) (cleared h)) before-map represented
+
+out-after : (h : History) (page : Page) (since : DoneSince h (TakesOut page) (Maps page)) → mappedTo h page ≡ none
+unfolding told tells
+out-after h page since =
+    rw (rest-is h (TakesOut page) (Maps page) since page)
+    (out-along (h .sdr1) (length (h .table)) (fits h) page (since .behind) (from-there h (TakesOut page) (Maps page) since page .1) _ _
+    (then-represents h (TakesOut page) (Maps page) since page)
+    (taken-out (byOption (since .call .lent) (length (h .table)) length) (before-map h (TakesOut page) (Maps page) since page) page (fed (since .call .request))
+    (fed-takes page (since .call .request) (since .one-of-these)) (told-done h (TakesOut page) (Maps page) since page))
+    (since .none-of-those))
+
+in-after : (h : History) (c : MapCall) (since : DoneSince h (λ request. request ≡ mapPage c) (TakesOut (c .page))) → Has (c .rpn) (c .wimg) (c .page) (mapAfter h)
+unfolding told tells fed
+in-after h c since =
+    let lent = byOption (since .call .lent) (length (h .table)) length in
+    let m = before-map h (λ request. request ≡ mapPage c) (TakesOut (c .page)) since (c .page) in
+    let is-fed : fed (since .call .request) ≡ mapPage c = ap fed (since .one-of-these) in
+    let put = put-in lent m c
+    (subst (λ (r : Request ℕ). onMap r lent m .number ≡ 0) is-fed (told-done h (λ request. request ≡ mapPage c) (TakesOut (c .page)) since (c .page))) in
+    rw (rest-is h (λ request. request ≡ mapPage c) (TakesOut (c .page)) since (c .page))
+    (in-along (h .sdr1) (length (h .table)) (fits h) (c .page) (c .rpn) (c .wimg) (since .behind)
+    (from-there h (λ request. request ≡ mapPage c) (TakesOut (c .page)) since (c .page) .1) _ _
+    (then-represents h (λ request. request ≡ mapPage c) (TakesOut (c .page)) since (c .page))
+    (subst (λ (r : Request ℕ). Has (c .rpn) (c .wimg) (c .page) (onMap r lent m .state)) (sym is-fed) put) (since .none-of-those))
 
 -- an access that steps 5 to 7 let pass answers by the entry's word
 passed : (kind : ℕ) (key : Bool) (address word : ℕ) → answerOf kind address (pageOutcome kind key word) .result ≡ 0
@@ -304,44 +333,40 @@ found-some : (m : Map) (page : Page) (f : PageFields) → fieldsAt samePage page
 unfolding foundIn
 found-some m page f e = rw e
 
-module _ (o k : ℕ) (t : List ℕ) (start : Start o k t) (cs : List Call) (each : Each (Under (sdr1With o k) (65536 * 2 ^ k)) cs)
-    (registers : List ℕ) (mode kind address : ℕ) (answer : List ℕ) (page : Page) (reaches : Reaches o k registers mode kind address answer page) where
+module _ (h : History) (c : AccessCall (List ℕ)) (page : Page) (reaches : Reaches h c page) where
+  abbrev kind : ℕ
+  kind = c .kind
+
   -- what the finite map answers such an access
-  plain-outcome : outcomeOf kind (λ wanted. foundIn (mapAfter k cs) (wantedPage wanted)) (beforeSearch 4 11 (registerWords registers) mode kind address)
-      ≡ afterSearch kind (reaches .wanted .key) (foundIn (mapAfter k cs) page)
+  plain-outcome : outcomeOf kind (λ wanted. foundIn (mapAfter h) (wantedPage wanted)) (earlyOf c)
+      ≡ afterSearch kind (reaches .wanted .key) (foundIn (mapAfter h) page)
   plain-outcome =
-      ap (outcomeOf kind (λ wanted. foundIn (mapAfter k cs) (wantedPage wanted))) (reaches .searches)
-      ∙ outcome-searched kind (λ wanted. foundIn (mapAfter k cs) (wantedPage wanted)) (reaches .wanted)
-      ∙ ap (λ (p : Page). afterSearch kind (reaches .wanted .key) (foundIn (mapAfter k cs) p)) (reaches .wants)
+      ap (outcomeOf kind (λ wanted. foundIn (mapAfter h) (wantedPage wanted))) (reaches .searches)
+      ∙ outcome-searched kind (λ wanted. foundIn (mapAfter h) (wantedPage wanted)) (reaches .wanted)
+      ∙ ap (λ (p : Page). afterSearch kind (reaches .wanted .key) (foundIn (mapAfter h) p)) (reaches .wants)
 
-  number-by : onBytes (access registers mode kind address answer) (tableAfter o k t cs) .number
-      ≡ answerOf kind address (afterSearch kind (reaches .wanted .key) (foundIn (mapAfter k cs) page)) .result
+  number-by : next h (access c) .number ≡ answerOf kind (c .address) (afterSearch kind (reaches .wanted .key) (foundIn (mapAfter h) page)) .result
   unfolding mapDoes fed
-  number-by =
-      as-map o k t start cs each (access registers mode kind address answer) (reaches .same-sdr1) (reaches .taken) .0
-      ∙ ap (λ (x : Outcome). answerOf kind address x .result) plain-outcome
+  number-by = map-number h (access c) (reaches .same-sdr1) (reaches .taken) ∙ ap (λ (x : Outcome). answerOf kind (c .address) x .result) plain-outcome
 
-  answer-by : onBytes (access registers mode kind address answer) (tableAfter o k t cs) .answer
-      ≡ accessAnswer (answerOf kind address (afterSearch kind (reaches .wanted .key) (foundIn (mapAfter k cs) page)))
+  answer-by : next h (access c) .answer ≡ accessAnswer (answerOf kind (c .address) (afterSearch kind (reaches .wanted .key) (foundIn (mapAfter h) page)))
   unfolding mapDoes fed
-  answer-by =
-      as-map o k t start cs each (access registers mode kind address answer) (reaches .same-sdr1) (reaches .taken) .1
-      ∙ ap (λ (x : Outcome). accessAnswer (answerOf kind address x)) plain-outcome
+  answer-by = map-answer h (access c) (reaches .same-sdr1) (reaches .taken) ∙ ap (λ (x : Outcome). accessAnswer (answerOf kind (c .address) x)) plain-outcome
 
-  faults : fieldsAt samePage page (mapAfter k cs) ≡ none
-      → onBytes (access registers mode kind address answer) (tableAfter o k t cs) .answer ≡ accessAnswer (answerOf kind address NoMatch)
+  faults : mappedTo h page ≡ none → next h (access c) .answer ≡ accessAnswer (answerOf kind (c .address) NoMatch)
   faults e =
-      answer-by ∙ ap (λ (x : Searched). accessAnswer (answerOf kind address (afterSearch kind (reaches .wanted .key) x))) (found-none (mapAfter k cs) page e)
-      ∙ ap (λ (x : Outcome). accessAnswer (answerOf kind address x)) (after-nothing kind (reaches .wanted .key))
+      answer-by ∙ ap (λ (x : Searched). accessAnswer (answerOf kind (c .address) (afterSearch kind (reaches .wanted .key) x))) (found-none (mapAfter h) page e)
+      ∙ ap (λ (x : Outcome). accessAnswer (answerOf kind (c .address) x)) (after-nothing kind (reaches .wanted .key))
 
-  gives : (rpn wimg : ℕ) → Has rpn wimg page (mapAfter k cs) → onBytes (access registers mode kind address answer) (tableAfter o k t cs) .number ≡ 0
-      → onBytes (access registers mode kind address answer) (tableAfter o k t cs) .answer ≡ accessAnswer (doneAnswer (placed 19 rpn + bits 20 31 address) wimg address)
+  gives : (rpn wimg : ℕ) → Has rpn wimg page (mapAfter h) → next h (access c) .number ≡ 0
+      → next h (access c) .answer ≡ accessAnswer (doneAnswer (placed 19 rpn + bits 20 31 (c .address)) wimg (c .address))
   gives rpn wimg has z =
+      let address = c .address in
       let f = has .fields in
       let key = reaches .wanted .key in
-      let word = word-fields f (history-represents o k t start cs each .valid page f (has .mapped) .1) in
-      let outcome : afterSearch kind key (foundIn (mapAfter k cs) page) ≡ pageOutcome kind key (fieldsWord f) =
-      ap (afterSearch kind key) (found-some (mapAfter k cs) page f (has .mapped)) ∙ after-at kind key (fieldsWord f) in
+      let word = word-fields f (history-represents h .valid page f (has .mapped) .1) in
+      let outcome : afterSearch kind key (foundIn (mapAfter h) page) ≡ pageOutcome kind key (fieldsWord f) =
+      ap (afterSearch kind key) (found-some (mapAfter h) page f (has .mapped)) ∙ after-at kind key (fieldsWord f) in
       let zero : answerOf kind address (pageOutcome kind key (fieldsWord f)) .result ≡ 0 =
       ap (λ (x : Outcome). answerOf kind address x .result) (sym outcome) ∙ sym number-by ∙ z in
       let physical : physicalAddress (fieldsWord f) address ≡ placed 19 rpn + bits 20 31 address =
@@ -351,8 +376,6 @@ module _ (o k : ℕ) (t : List ℕ) (start : Start o k t) (cs : List Call) (each
 
 pub access-follows-history : AccessFollowsHistory
 access-follows-history = record {
-  no-match = λ o k t start cs c ds each page a z n registers mode kind address answer reaches.
-      faults o k t start (cs ++ c ∷ ds) each registers mode kind address answer page reaches (out-after o k t start cs c ds each page a z n);
-  frame = λ o k t start cs c ds each page sdr1 rpn wimg pp is z n registers mode kind address answer reaches.
-      gives o k t start (cs ++ c ∷ ds) each registers mode kind address answer page reaches rpn wimg (in-after o k t start cs c ds each page sdr1 rpn wimg pp is z n);
+  no-match = λ h page since c reaches. faults h c page reaches (out-after h page since);
+  frame = λ h m since c reaches z. gives h c (m .page) reaches (m .rpn) (m .wimg) (in-after h m since) z;
 }

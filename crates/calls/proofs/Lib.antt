@@ -5,9 +5,11 @@ pub mod TableLaws
 pub mod Rules
 pub mod Fields
 pub mod Step
+pub mod FirstClear
 pub mod Histories
 pub mod Theorem
 pub mod Changes
 pub mod Corollaries
 pub mod PageCalls
 pub mod Access
+pub mod Computes

@@ -10,7 +10,7 @@ use Rattle.register_words.specs.Sdr1.{maskOnes}
 use Rattle.groups.specs.Page.{Page}
 use Rattle.groups.specs.Hash.{groupNumber}
 use Rattle.groups.specs.Group.{groupOf, firstOf, secondOf}
-use Rattle.matches.specs.Search as search
+use Rattle.matches.specs.Search.{groupMatches, pairMatches}
 use Rattle.tables.specs.Layout.{matchesIn, matchesOf}
 use Rattle.calls.specs.Request.{Request, sdr1In, fed}
 use Rattle.calls.specs.Rules.{refusal}
@@ -32,6 +32,6 @@ module _ (request : Request (List ℕ)) (t : List ℕ) where
 -- the matches of a page, by its two groups' bytes
 pub matches-by-groups : (k : ℕ) (t : List ℕ) (page : Page)
     → matchesOf (layout k) t page
-    ≡ search.matchesOf (page .vsid) (apiOf (page .index)) (groupOf t (groupNumber (10 + k) false page)) (groupOf t (groupNumber (10 + k) true page))
-unfolding matchesOf matchesIn search.matchesOf search.matchesIn firstOf secondOf
+    ≡ pairMatches (page .vsid) (apiOf (page .index)) (groupOf t (groupNumber (10 + k) false page)) (groupOf t (groupNumber (10 + k) true page))
+unfolding matchesOf matchesIn pairMatches groupMatches firstOf secondOf
 matches-by-groups k t page = refl

@@ -18,7 +18,7 @@ use Rattle.groups.specs.Page.{Page}
 use Rattle.groups.specs.Hash.{groupNumber}
 use Rattle.groups.specs.Group as groups
 use Rattle.groups.specs.Group.{groupOf, onGroup, firstOf, putAt}
-use Rattle.matches.specs.Search as search
+use Rattle.matches.specs.Search.{pairMatches}
 use Rattle.matches.specs.Search.{summary, found, contradict, merged}
 use Rattle.edits.specs.Edit as edits
 use Rattle.edits.specs.Edit.{edited, editMatches}
@@ -26,15 +26,16 @@ use Rattle.edits.specs.declared.Edit.{Edit}
 use Rattle.edits.specs.declared.Edit.the-variants.{Clear, Protect}
 use Rattle.groups.specs.declared.Place.{Place}
 use Rattle.groups.specs.declared.Place.the-variants.{Entry, Full}
-use Rattle.matches.specs.declared.Search.{Search}
+use Rattle.matches.specs.declared.Summary.{Summary}
 use Rattle.groups.proofs.Hash.{own-groups-differ}
-use Rattle.matches.proofs.Summary.{Summarised, summarised, summary-none, found-none}
+use Rattle.matches.proofs.Summaries.{Summarised, summarised, summary-none, found-none}
 use Rattle.edits.proofs.Edits.{edit-both-each}
 use Rattle.tables.specs.Matches.{Match}
 use Rattle.tables.specs.Layout.{freeEntry, freePlace, matchesOf, overwrite, overwriteEach}
-use Rattle.calls.specs.Request.{Request, clear, mapPage, unmap, protect, look, sdr1In, fed}
-use Rattle.calls.specs.Rules.{pageInRange, writeThroughInhibited, tableRules, rules, refusal}
-use Rattle.calls.specs.Answers.{wordAnswer, refusedAnswer, answerRefused}
+use Rattle.calls.specs.Request.{ClearCall, MapCall, ProtectCall, AnsweredCall, Request, clear, mapPage, unmap, protect, look, sdr1In, fed}
+use Rattle.calls.specs.Made.{toMap, toUnmap, toProtect, toLook}
+use Rattle.calls.specs.Rules.{pageInRange, mapInRange, tableRules, rules, refusal}
+use Rattle.calls.specs.Answers.{wordAnswer, refusedBytes, answerRefused}
 use Rattle.calls.specs.OnBytes.{layout, Ended, ended, entryWord, bytesDo, onBytes}
 use Rattle.calls.proofs.OnBytes.{taken, refused, matches-by-groups}
 
@@ -73,31 +74,27 @@ not-11 inRange sdr1 lent = go (not inRange) (not (sdr1Shape sdr1)) (not (eqb len
     go false false true e = omega arith
     go false false false e = omega arith
 
--- what map asks of its arguments
-abbrev pub mapInRange : Page → ℕ → ℕ → ℕ → Bool
-mapInRange page rpn wimg pp = pageInRange page && ltb rpn (2 ^ 20) && ltb wimg (2 ^ 4) && ltb pp (2 ^ 2) && not (writeThroughInhibited wimg)
+pub record MapRanges (c : MapCall) : Type 0 where
+  pub vsid-lt : c .page .vsid < 2 ^ 24
+  pub index-lt : c .page .index < 2 ^ 16
+  pub rpn-lt : c .rpn < 2 ^ 20
+  pub wimg-lt : c .wimg < 2 ^ 4
+  pub pp-lt : c .pp < 2 ^ 2
 
-pub record MapRanges (page : Page) (rpn wimg pp : ℕ) : Type 0 where
-  pub vsid-lt : page .vsid < 2 ^ 24
-  pub index-lt : page .index < 2 ^ 16
-  pub rpn-lt : rpn < 2 ^ 20
-  pub wimg-lt : wimg < 2 ^ 4
-  pub pp-lt : pp < 2 ^ 2
-
-pub map-ranges : (page : Page) (rpn wimg pp : ℕ) (inRange : Bool) → inRange ≡ mapInRange page rpn wimg pp → inRange ≡ true → MapRanges page rpn wimg pp
+pub map-ranges : (c : MapCall) (inRange : Bool) → inRange ≡ mapInRange c → inRange ≡ true → MapRanges c
 unfolding pageInRange
-map-ranges page rpn wimg pp inRange same holds =
+map-ranges c inRange same holds =
     let (to-pp, _) = both _ _ (sym same ∙ holds) in
     let (to-wimg, pp-lt) = both _ _ to-pp in
     let (to-rpn, wimg-lt) = both _ _ to-wimg in
     let (to-page, rpn-lt) = both _ _ to-rpn in
     let (vsid-lt, index-lt) = both _ _ to-page in
     record {
-      vsid-lt = ltb-true (page .vsid) (2 ^ 24) vsid-lt;
-      index-lt = ltb-true (page .index) (2 ^ 16) index-lt;
-      rpn-lt = ltb-true rpn (2 ^ 20) rpn-lt;
-      wimg-lt = ltb-true wimg (2 ^ 4) wimg-lt;
-      pp-lt = ltb-true pp (2 ^ 2) pp-lt;
+      vsid-lt = ltb-true (c .page .vsid) (2 ^ 24) vsid-lt;
+      index-lt = ltb-true (c .page .index) (2 ^ 16) index-lt;
+      rpn-lt = ltb-true (c .rpn) (2 ^ 20) rpn-lt;
+      wimg-lt = ltb-true (c .wimg) (2 ^ 4) wimg-lt;
+      pp-lt = ltb-true (c .pp) (2 ^ 2) pp-lt;
     }
 
 pub page-ranges : (page : Page) (inRange : Bool) → inRange ≡ pageInRange page → inRange ≡ true → (page .vsid < 2 ^ 24) × (page .index < 2 ^ 16)
@@ -115,90 +112,99 @@ module _ (request : Request (List ℕ)) (t : List ℕ) (inRange fits : Bool) (sd
   by-refusal : (number ≡ 0 → ⊥) → onBytes request t ≡ ended number t (answerRefused (λ lent. lent) request number)
   by-refusal n = refused request t number number-is n
 
-  by-work : number ≡ 0 → (done : Ended (List ℕ)) → done ≡ bytesDo (maskOnes (sdr1In request)) request t → done ≡ onBytes request t
-  by-work z done e = e ∙ sym (taken request t (number-is ∙ z))
+  by-work : number ≡ 0 → (left : Ended (List ℕ)) → left ≡ bytesDo (maskOnes (sdr1In request)) request t → left ≡ onBytes request t
+  by-work z left e = e ∙ sym (taken request t (number-is ∙ z))
 
-module _ (sdr1 : ℕ) (t : List ℕ) (number : ℕ) (given : number ≡ firstBroken (pageRules true sdr1 (length t))) where
-  pub clear-refused : (number ≡ 0 → ⊥) → onBytes (clear sdr1) t ≡ ended number t []
+module _ (c : ClearCall) (t : List ℕ) (number : ℕ) (given : number ≡ firstBroken (pageRules true (c .sdr1) (length t))) where
+  pub clear-refused : (number ≡ 0 → ⊥) → onBytes (clear c) t ≡ ended number t []
   unfolding refusal rules fed answerRefused
-  clear-refused n = by-refusal (clear sdr1) t true true sdr1 number refl given refl n
+  clear-refused n = by-refusal (clear c) t true true (c .sdr1) number refl given refl n
 
-  pub clear-done : number ≡ 0 → (left : List ℕ) → left ≡ replicate (length t) 0 → ended 0 left [] ≡ onBytes (clear sdr1) t
+  pub clear-done : number ≡ 0 → (left : List ℕ) → left ≡ replicate (length t) 0 → ended 0 left [] ≡ onBytes (clear c) t
   unfolding refusal rules fed bytesDo
-  clear-done z left e = by-work (clear sdr1) t true true sdr1 number refl given refl z (ended 0 left []) (ap (λ (u : List ℕ). ended 0 u []) e)
+  clear-done z left e = by-work (clear c) t true true (c .sdr1) number refl given refl z (ended 0 left []) (ap (λ (u : List ℕ). ended 0 u []) e)
 
-module _ (sdr1 : ℕ) (page : Page) (rpn wimg pp : ℕ) (t : List ℕ) (inRange : Bool) (same : inRange ≡ mapInRange page rpn wimg pp)
-    (number : ℕ) (given : number ≡ firstBroken (pageRules inRange sdr1 (length t))) where
-  pub map-refused : (number ≡ 0 → ⊥) → onBytes (mapPage sdr1 page rpn wimg pp) t ≡ ended number t []
+module _ (c : MapCall) (t : List ℕ) (inRange : Bool) (same : inRange ≡ mapInRange c)
+    (number : ℕ) (given : number ≡ firstBroken (pageRules inRange (c .sdr1) (length t))) where
+  pub map-refused : (number ≡ 0 → ⊥) → onBytes (mapPage c) t ≡ ended number t []
   unfolding refusal rules fed answerRefused
-  map-refused n = by-refusal (mapPage sdr1 page rpn wimg pp) t inRange (mapInRange page rpn wimg pp) sdr1 number same given refl n
+  map-refused n = by-refusal (mapPage c) t inRange (mapInRange c) (c .sdr1) number same given refl n
 
-  pub map-taken : number ≡ 0 → (done : Ended (List ℕ)) → done ≡ bytesDo (maskOnes sdr1) (mapPage sdr1 page rpn wimg pp) t → done ≡ onBytes (mapPage sdr1 page rpn wimg pp) t
+  pub map-taken : number ≡ 0 → (left : Ended (List ℕ)) → left ≡ bytesDo (maskOnes (c .sdr1)) (mapPage c) t → left ≡ onBytes (mapPage c) t
   unfolding refusal rules fed sdr1In
-  map-taken z done e = by-work (mapPage sdr1 page rpn wimg pp) t inRange (mapInRange page rpn wimg pp) sdr1 number same given refl z done e
+  map-taken z left e = by-work (mapPage c) t inRange (mapInRange c) (c .sdr1) number same given refl z left e
 
-module _ (sdr1 : ℕ) (page : Page) (pp : ℕ) (t : List ℕ) (inRange : Bool) (same : inRange ≡ pageInRange page)
-    (number : ℕ) (given : number ≡ firstBroken (pageRules (inRange && ltb pp (2 ^ 2)) sdr1 (length t))) where
-  both-ranges : (inRange && ltb pp (2 ^ 2)) ≡ (pageInRange page && ltb pp (2 ^ 2))
-  both-ranges = ap (λ (b : Bool). b && ltb pp (2 ^ 2)) same
+module _ (c : ProtectCall) (t : List ℕ) (inRange : Bool) (same : inRange ≡ pageInRange (c .page))
+    (number : ℕ) (given : number ≡ firstBroken (pageRules (inRange && ltb (c .pp) (2 ^ 2)) (c .sdr1) (length t))) where
+  abbrev both-fit : Bool
+  both-fit = pageInRange (c .page) && ltb (c .pp) (2 ^ 2)
 
-  pub protect-refused : (number ≡ 0 → ⊥) → onBytes (protect sdr1 page pp) t ≡ ended number t []
+  both-ranges : (inRange && ltb (c .pp) (2 ^ 2)) ≡ both-fit
+  both-ranges = ap (λ (b : Bool). b && ltb (c .pp) (2 ^ 2)) same
+
+  pub protect-refused : (number ≡ 0 → ⊥) → onBytes (protect c) t ≡ ended number t []
   unfolding refusal rules fed answerRefused
-  protect-refused n = by-refusal (protect sdr1 page pp) t (inRange && ltb pp (2 ^ 2)) (pageInRange page && ltb pp (2 ^ 2)) sdr1 number both-ranges given refl n
+  protect-refused n = by-refusal (protect c) t (inRange && ltb (c .pp) (2 ^ 2)) both-fit (c .sdr1) number both-ranges given refl n
 
-  pub protect-taken : number ≡ 0 → (done : Ended (List ℕ)) → done ≡ bytesDo (maskOnes sdr1) (protect sdr1 page pp) t → done ≡ onBytes (protect sdr1 page pp) t
+  pub protect-taken : number ≡ 0 → (left : Ended (List ℕ)) → left ≡ bytesDo (maskOnes (c .sdr1)) (protect c) t → left ≡ onBytes (protect c) t
   unfolding refusal rules fed sdr1In
-  protect-taken z done e = by-work (protect sdr1 page pp) t (inRange && ltb pp (2 ^ 2)) (pageInRange page && ltb pp (2 ^ 2)) sdr1 number both-ranges given refl z done e
+  protect-taken z left e = by-work (protect c) t (inRange && ltb (c .pp) (2 ^ 2)) both-fit (c .sdr1) number both-ranges given refl z left e
 
--- after any refusal but 11 the answer is the number and three zero words
-refused-answer : (number : ℕ) (lent : List ℕ) → (number ≡ 11 → ⊥) → refusedAnswer number lent ≡ wordAnswer number 0
-unfolding refusedAnswer wordAnswer
+-- after any refusal but that of a length the answer is the number and three zero words
+refused-answer : (number : ℕ) (lent : List ℕ) → (number ≡ 11 → ⊥) → refusedBytes number lent ≡ wordAnswer number 0
+unfolding refusedBytes wordAnswer
 refused-answer number lent n = rw (ne-eqb number 11 n)
 
--- unmap and look, lent an answer of 16 bytes
-module _ (sdr1 : ℕ) (page : Page) (t : List ℕ) (inRange : Bool) (same : inRange ≡ pageInRange page)
-    (number : ℕ) (given : number ≡ firstBroken (pageRules inRange sdr1 (length t))) (answer : List ℕ) (sixteen : length answer ≡ 16) where
-  other-refusal : refusedAnswer number answer ≡ wordAnswer number 0
-  other-refusal = refused-answer number answer (λ q. not-11 inRange sdr1 (length t) (sym given ∙ q))
+-- the same call with another answer
+abbrev pub answering : AnsweredCall (List ℕ) → List ℕ → AnsweredCall (List ℕ)
+answering c answer = record { sdr1 = c .sdr1; page = c .page; answer = answer }
 
-  unmap-rules : refusal (fed (unmap sdr1 page answer)) (length t) ≡ firstBroken (pageRules (pageInRange page) sdr1 (length t))
+-- unmap and look, lent an answer of 16 bytes
+module _ (c : AnsweredCall (List ℕ)) (t : List ℕ) (number : ℕ) (given : number ≡ firstBroken (pageRules (pageInRange (c .page)) (c .sdr1) (length t)))
+    (sixteen : length (c .answer) ≡ 16) where
+  other-refusal : refusedBytes number (c .answer) ≡ wordAnswer number 0
+  other-refusal = refused-answer number (c .answer) (λ q. not-11 (pageInRange (c .page)) (c .sdr1) (length t) (sym given ∙ q))
+
+  unmap-rules : refusal (fed (unmap c)) (length t) ≡ firstBroken (pageRules (pageInRange (c .page)) (c .sdr1) (length t))
   unfolding refusal rules fed
   unmap-rules = rw sixteen
 
-  pub unmap-refused : (number ≡ 0 → ⊥) → onBytes (unmap sdr1 page answer) t ≡ ended number t (wordAnswer number 0)
+  pub unmap-refused : (number ≡ 0 → ⊥) → onBytes (unmap c) t ≡ ended number t (wordAnswer number 0)
   unfolding answerRefused
-  unmap-refused n = by-refusal (unmap sdr1 page answer) t inRange (pageInRange page) sdr1 number same given unmap-rules n ∙ ap (ended number t) other-refusal
+  unmap-refused n =
+      by-refusal (unmap c) t (pageInRange (c .page)) (pageInRange (c .page)) (c .sdr1) number refl given unmap-rules n ∙ ap (ended number t) other-refusal
 
-  pub unmap-taken : number ≡ 0 → (done : Ended (List ℕ)) → done ≡ bytesDo (maskOnes sdr1) (unmap sdr1 page []) t → done ≡ onBytes (unmap sdr1 page answer) t
+  pub unmap-taken : number ≡ 0 → (left : Ended (List ℕ)) → left ≡ bytesDo (maskOnes (c .sdr1)) (unmap (answering c [])) t → left ≡ onBytes (unmap c) t
   unfolding sdr1In bytesDo
-  unmap-taken z done e = by-work (unmap sdr1 page answer) t inRange (pageInRange page) sdr1 number same given unmap-rules z done e
+  unmap-taken z left e = by-work (unmap c) t (pageInRange (c .page)) (pageInRange (c .page)) (c .sdr1) number refl given unmap-rules z left e
 
-  look-rules : refusal (fed (look sdr1 page answer)) (length t) ≡ firstBroken (pageRules (pageInRange page) sdr1 (length t))
+  look-rules : refusal (fed (look c)) (length t) ≡ firstBroken (pageRules (pageInRange (c .page)) (c .sdr1) (length t))
   unfolding refusal rules fed
   look-rules = rw sixteen
 
-  pub look-refused : (number ≡ 0 → ⊥) → onBytes (look sdr1 page answer) t ≡ ended number t (wordAnswer number 0)
+  pub look-refused : (number ≡ 0 → ⊥) → onBytes (look c) t ≡ ended number t (wordAnswer number 0)
   unfolding answerRefused
-  look-refused n = by-refusal (look sdr1 page answer) t inRange (pageInRange page) sdr1 number same given look-rules n ∙ ap (ended number t) other-refusal
+  look-refused n =
+      by-refusal (look c) t (pageInRange (c .page)) (pageInRange (c .page)) (c .sdr1) number refl given look-rules n ∙ ap (ended number t) other-refusal
 
-  pub look-taken : number ≡ 0 → (done : Ended (List ℕ)) → done ≡ bytesDo (maskOnes sdr1) (look sdr1 page []) t → done ≡ onBytes (look sdr1 page answer) t
+  pub look-taken : number ≡ 0 → (left : Ended (List ℕ)) → left ≡ bytesDo (maskOnes (c .sdr1)) (look (answering c [])) t → left ≡ onBytes (look c) t
   unfolding sdr1In bytesDo
-  look-taken z done e = by-work (look sdr1 page answer) t inRange (pageInRange page) sdr1 number same given look-rules z done e
+  look-taken z left e = by-work (look c) t (pageInRange (c .page)) (pageInRange (c .page)) (c .sdr1) number refl given look-rules z left e
 
 -- lent an answer of another length they leave all as it was
-module _ (sdr1 : ℕ) (page : Page) (answer t : List ℕ) (wrong : length answer ≡ 16 → ⊥) where
-  pub unmap-11 : onBytes (unmap sdr1 page answer) t ≡ ended 11 t answer
-  unfolding onBytes refusal rules fed answerRefused refusedAnswer
-  unmap-11 = rw (ne-eqb (length answer) 16 wrong)
+module _ (c : AnsweredCall (List ℕ)) (t : List ℕ) (wrong : length (c .answer) ≡ 16 → ⊥) where
+  pub unmap-11 : onBytes (unmap c) t ≡ ended 11 t (c .answer)
+  unfolding onBytes refusal rules fed answerRefused refusedBytes
+  unmap-11 = rw (ne-eqb (length (c .answer)) 16 wrong)
 
-  pub look-11 : onBytes (look sdr1 page answer) t ≡ ended 11 t answer
-  unfolding onBytes refusal rules fed answerRefused refusedAnswer
-  look-11 = rw (ne-eqb (length answer) 16 wrong)
+  pub look-11 : onBytes (look c) t ≡ ended 11 t (c .answer)
+  unfolding onBytes refusal rules fed answerRefused refusedBytes
+  look-11 = rw (ne-eqb (length (c .answer)) 16 wrong)
 
 -- ---- the search
 
 -- a list of matches that has a first, and what the search told of it
-pub record Matched (ms : List Match) (s : Search) : Type 0 where
+pub record Matched (ms : List Match) (s : Summary) : Type 0 where
   pub x : Match
   pub xs : List Match
   pub are : ms ≡ x ∷ xs
@@ -209,7 +215,7 @@ found-some [] f = absurd (true≢false (sym f ∙ summary-none))
 found-some (x ∷ xs) f = record { x = x; xs = xs; are = refl; told = summarised x xs }
 
 -- what the calls ask of the matches, by what the search told
-module _ (x : Match) (xs : List Match) (s : Search) (told : Summarised x xs s) where
+module _ (x : Match) (xs : List Match) (s : Summary) (told : Summarised x xs s) where
   pub contradict-is : contradict x xs ≡ s .differs
   contradict-is = sym (told .differs)
 
@@ -227,15 +233,15 @@ module _ (k : ℕ) (t : List ℕ) (page : Page) where
   abbrev pub ownGroup : Bool → List ℕ
   ownGroup secondary = groupOf t (groupNumber (10 + k) secondary page)
 
-  abbrev pub pageSearch : Search
-  pageSearch = summary (search.matchesOf (page .vsid) (apiOf (page .index)) (ownGroup false) (ownGroup true))
+  abbrev pub pageSearch : Summary
+  pageSearch = summary (pairMatches (page .vsid) (apiOf (page .index)) (ownGroup false) (ownGroup true))
 
-  pub free-place-is : freePlace (layout k) t page ≡ placeOption (groups.freePlace (ownGroup false) (ownGroup true))
-  unfolding freePlace freeEntry groups.freePlace groups.freeEntry groups.freeAt firstOf
-  free-place-is = go (ltb (groups.freeEntry (ownGroup false)) 8) (ltb (groups.freeEntry (ownGroup true)) 8)
+  pub free-place-is : freePlace (layout k) t page ≡ placeOption (groups.firstFreePlace (ownGroup false) (ownGroup true))
+  unfolding freePlace freeEntry groups.firstFreePlace groups.firstFree groups.entryFree firstOf
+  free-place-is = go (ltb (groups.firstFree (ownGroup false)) 8) (ltb (groups.firstFree (ownGroup true)) 8)
     where
-      go : (a b : Bool) → cond a (some (false, groups.freeEntry (ownGroup false))) (cond b (some (true, groups.freeEntry (ownGroup true))) none)
-          ≡ placeOption (cond a (Entry false (groups.freeEntry (ownGroup false))) (cond b (Entry true (groups.freeEntry (ownGroup true))) Full))
+      go : (a b : Bool) → cond a (some (false, groups.firstFree (ownGroup false))) (cond b (some (true, groups.firstFree (ownGroup true))) none)
+          ≡ placeOption (cond a (Entry false (groups.firstFree (ownGroup false))) (cond b (Entry true (groups.firstFree (ownGroup true))) Full))
       go true b = refl
       go false true = refl
       go false false = refl
@@ -248,8 +254,8 @@ module _ (k : ℕ) (t : List ℕ) (page : Page) where
 
   -- which is one pass over the page's matches
   each : (words : Match → ℕ × ℕ) (ms : List Match) (u : List ℕ)
-      → edits.overwriteEach (λ b. groupNumber (10 + k) b page) words ms u ≡ overwriteEach (layout k) page words ms u
-  unfolding edits.overwriteEach overwriteEach overwrite
+      → edits.putEach (λ b. groupNumber (10 + k) b page) words ms u ≡ overwriteEach (layout k) page words ms u
+  unfolding edits.putEach overwriteEach overwrite
   each words [] u = refl
   each words (x ∷ xs) u = each words xs (putAt u (groupNumber (10 + k) (x .secondary) page) (x .entry) (words x .0) (words x .1))
 
@@ -261,7 +267,7 @@ module _ (k : ℕ) (t : List ℕ) (page : Page) where
       ∙ each (edited edit) _ t
       ∙ ap (λ (ms : List Match). overwriteEach (layout k) page (edited edit) ms t) (sym (matches-by-groups k t page))
 
-  module _ (s : Search) (e : s ≡ pageSearch) where
+  module _ (s : Summary) (e : s ≡ pageSearch) where
     pub unmatched : found s ≡ false → matchesOf (layout k) t page ≡ []
     unmatched f = matches-by-groups k t page ∙ found-none _ (ap found (sym e) ∙ f)
 
@@ -270,40 +276,40 @@ module _ (k : ℕ) (t : List ℕ) (page : Page) where
 
     -- map
     module _ (sdr1 rpn wimg pp : ℕ) where
-      pub map-matched : found s ≡ true → bytesDo k (mapPage sdr1 page rpn wimg pp) t ≡ ended 7 t []
+      pub map-matched : found s ≡ true → bytesDo k (toMap sdr1 page rpn wimg pp) t ≡ ended 7 t []
       unfolding bytesDo
       map-matched f = rw (matched f .are)
 
-      pub map-full : found s ≡ false → groups.freePlace (ownGroup false) (ownGroup true) ≡ Full → bytesDo k (mapPage sdr1 page rpn wimg pp) t ≡ ended 9 t []
+      pub map-full : found s ≡ false → groups.firstFreePlace (ownGroup false) (ownGroup true) ≡ Full → bytesDo k (toMap sdr1 page rpn wimg pp) t ≡ ended 9 t []
       unfolding bytesDo
       map-full f full = rw (unmatched f, free-place-is, full)
 
-      pub map-placed : found s ≡ false → (secondary : Bool) (i : ℕ) → groups.freePlace (ownGroup false) (ownGroup true) ≡ Entry secondary i
-          → bytesDo k (mapPage sdr1 page rpn wimg pp) t
+      pub map-placed : found s ≡ false → (secondary : Bool) (i : ℕ) → groups.firstFreePlace (ownGroup false) (ownGroup true) ≡ Entry secondary i
+          → bytesDo k (toMap sdr1 page rpn wimg pp) t
           ≡ ended 0 (putAt t (groupNumber (10 + k) secondary page) i (entryWord secondary page) (secondWord rpn 0 0 wimg pp)) []
       unfolding bytesDo
       map-placed f secondary i place = rw (unmatched f, free-place-is, place)
 
     -- unmap and look of a page with no match
-    pub unmap-missing : (sdr1 : ℕ) (answer : List ℕ) → found s ≡ false → bytesDo k (unmap sdr1 page answer) t ≡ ended 8 t (wordAnswer 8 0)
+    pub unmap-missing : (sdr1 : ℕ) (answer : List ℕ) → found s ≡ false → bytesDo k (toUnmap sdr1 page answer) t ≡ ended 8 t (wordAnswer 8 0)
     unfolding bytesDo
     unmap-missing sdr1 answer f = rw (unmatched f)
 
-    pub protect-missing : (sdr1 pp : ℕ) → found s ≡ false → bytesDo k (protect sdr1 page pp) t ≡ ended 8 t []
+    pub protect-missing : (sdr1 pp : ℕ) → found s ≡ false → bytesDo k (toProtect sdr1 page pp) t ≡ ended 8 t []
     unfolding bytesDo
     protect-missing sdr1 pp f = rw (unmatched f)
 
-    pub look-missing : (sdr1 : ℕ) (answer : List ℕ) → found s ≡ false → bytesDo k (look sdr1 page answer) t ≡ ended 8 t (wordAnswer 8 0)
+    pub look-missing : (sdr1 : ℕ) (answer : List ℕ) → found s ≡ false → bytesDo k (toLook sdr1 page answer) t ≡ ended 8 t (wordAnswer 8 0)
     unfolding bytesDo
     look-missing sdr1 answer f = rw (unmatched f)
 
-    pub look-contradicted : (sdr1 : ℕ) (answer : List ℕ) → found s ≡ true → s .differs ≡ true → bytesDo k (look sdr1 page answer) t ≡ ended 10 t (wordAnswer 10 0)
+    pub look-contradicted : (sdr1 : ℕ) (answer : List ℕ) → found s ≡ true → s .differs ≡ true → bytesDo k (toLook sdr1 page answer) t ≡ ended 10 t (wordAnswer 10 0)
     unfolding bytesDo
     look-contradicted sdr1 answer f d =
         let m = matched f in
         rw (m .are, contradict-is (m .x) (m .xs) s (m .told) ∙ d)
 
-    pub look-done : (sdr1 : ℕ) (answer : List ℕ) → found s ≡ true → s .differs ≡ false → bytesDo k (look sdr1 page answer) t ≡ ended 0 t (wordAnswer 0 (s .second))
+    pub look-done : (sdr1 : ℕ) (answer : List ℕ) → found s ≡ true → s .differs ≡ false → bytesDo k (toLook sdr1 page answer) t ≡ ended 0 t (wordAnswer 0 (s .second))
     unfolding bytesDo
     look-done sdr1 answer f d =
         let m = matched f in
@@ -312,12 +318,12 @@ module _ (k : ℕ) (t : List ℕ) (page : Page) where
     -- unmap and protect of a page that has a match, whose groups lie in the table
     module _ (inside : (b : Bool) → 64 * groupNumber (10 + k) b page + 64 ≤ length t) (f : found s ≡ true) where
       pub unmap-done : (sdr1 : ℕ) (answer : List ℕ)
-          → bytesDo k (unmap sdr1 page answer) t ≡ ended 0 (editedBoth Clear) (wordAnswer 0 (s .merged))
+          → bytesDo k (toUnmap sdr1 page answer) t ≡ ended 0 (editedBoth Clear) (wordAnswer 0 (s .merged))
       unfolding bytesDo edited
       unmap-done sdr1 answer =
           let m = matched f in
           rw (edit-is Clear inside, m .are, merged-is (m .x) (m .xs) s (m .told))
 
-      pub protect-done : (sdr1 pp : ℕ) → bytesDo k (protect sdr1 page pp) t ≡ ended 0 (editedBoth (Protect pp)) []
+      pub protect-done : (sdr1 pp : ℕ) → bytesDo k (toProtect sdr1 page pp) t ≡ ended 0 (editedBoth (Protect pp)) []
       unfolding bytesDo edited
       protect-done sdr1 pp = rw (edit-is (Protect pp) inside, matched f .are)

@@ -8,11 +8,12 @@ use lib.ListN.{length}
 use borrow.Author.Tests.{not-false, ltb-true, lt-ltb, eqb-true, eq-eqb, ne-eqb}
 use Rattle.words.proofs.Tests.{both}
 use Rattle.register_words.specs.Sdr1.{sdr1Shape, tableLength}
+use Rattle.registers.specs.Rules.{firstBroken}
 use Rattle.registers.specs.Set.{sdr1Of, sideShape, sideApart, segmentsShape, registerWords}
 use Rattle.registers.proofs.Set.{rule-kept}
 use Rattle.groups.specs.Page.{Page, InRange}
-use Rattle.calls.specs.Request.{Request, clear, mapPage, unmap, protect, look, access, sdr1In}
-use Rattle.calls.specs.Rules.{pageInRange, writeThroughInhibited, rules, refusal}
+use Rattle.calls.specs.Request.{ClearCall, MapCall, ProtectCall, AnsweredCall, Request, clear, mapPage, unmap, protect, look, access, sdr1In}
+use Rattle.calls.specs.Rules.{pageInRange, writeThroughInhibited, mapInRange, tableRules, rules, refusal}
 
 -- a page within its ranges, as a test and as facts
 pub page-valid : (page : Page) → pageInRange page ≡ true → InRange page
@@ -29,105 +30,101 @@ valid-page page valid = rw (lt-ltb (page .vsid) (2 ^ 24) (valid .vsid-lt), lt-lt
 kept : (inRange : Bool) (number rest : ℕ) → (number ≡ 0 → ⊥) → cond (not inRange) number rest ≡ 0 → (inRange ≡ true) × (rest ≡ 0)
 kept inRange number rest n e = let (broken, more) = rule-kept (not inRange) number rest n e in (not-false inRange broken, more)
 
-module _ (sdr1 : ℕ) (page : Page) (lent : ℕ) where
-  pub map-kept : (rpn wimg pp : ℕ) → refusal (mapPage sdr1 page rpn wimg pp) lent ≡ 0
-      → InRange page × ((rpn < 2 ^ 20) × ((wimg < 2 ^ 4) × (pp < 2 ^ 2)))
+module _ (lent : ℕ) where
+  pub map-kept : (c : MapCall) → refusal (mapPage c) lent ≡ 0 → InRange (c .page) × ((c .rpn < 2 ^ 20) × ((c .wimg < 2 ^ 4) × (c .pp < 2 ^ 2)))
   unfolding refusal rules
-  map-kept rpn wimg pp e =
-      let p = pageInRange page in
-      let r = ltb rpn (2 ^ 20) in
-      let w = ltb wimg (2 ^ 4) in
-      let q = ltb pp (2 ^ 2) in
-      let (all, last) = kept (p && r && w && q && not (writeThroughInhibited wimg)) 6 _ (λ z. omega arith) e in
-      let (a₄, b₄) = both (p && r && w && q) (not (writeThroughInhibited wimg)) all in
+  map-kept c e =
+      let p = pageInRange (c .page) in
+      let r = ltb (c .rpn) (2 ^ 20) in
+      let w = ltb (c .wimg) (2 ^ 4) in
+      let q = ltb (c .pp) (2 ^ 2) in
+      let (all, last) = kept (mapInRange c) 6 _ (λ z. omega arith) e in
+      let (a₄, b₄) = both (p && r && w && q) (not (writeThroughInhibited (c .wimg))) all in
       let (a₃, b₃) = both (p && r && w) q a₄ in
       let (a₂, b₂) = both (p && r) w a₃ in
       let (a₁, b₁) = both p r a₂ in
-      (page-valid page a₁, (ltb-true rpn (2 ^ 20) b₁, (ltb-true wimg (2 ^ 4) b₂, ltb-true pp (2 ^ 2) b₃)))
+      (page-valid (c .page) a₁, (ltb-true (c .rpn) (2 ^ 20) b₁, (ltb-true (c .wimg) (2 ^ 4) b₂, ltb-true (c .pp) (2 ^ 2) b₃)))
 
-  pub unmap-kept : (answer : ℕ) → refusal (unmap sdr1 page answer) lent ≡ 0 → InRange page
+  -- unmap and look have the same rules
+  pub unmap-kept : (c : AnsweredCall ℕ) → refusal (unmap c) lent ≡ 0 → InRange (c .page)
   unfolding refusal rules
-  unmap-kept answer e =
-      let (a, more) = kept (eqb answer 16) 11 _ (λ z. omega arith) e in
-      let (b, last) = kept (pageInRange page) 6 _ (λ z. omega arith) more in
-      page-valid page b
+  unmap-kept c e =
+      let (a, more) = kept (eqb (c .answer) 16) 11 _ (λ z. omega arith) e in
+      let (b, last) = kept (pageInRange (c .page)) 6 _ (λ z. omega arith) more in
+      page-valid (c .page) b
 
-  pub look-kept : (answer : ℕ) → refusal (look sdr1 page answer) lent ≡ 0 → InRange page
+  pub look-kept : (c : AnsweredCall ℕ) → refusal (look c) lent ≡ 0 → InRange (c .page)
   unfolding refusal rules
-  look-kept answer e =
-      let (a, more) = kept (eqb answer 16) 11 _ (λ z. omega arith) e in
-      let (b, last) = kept (pageInRange page) 6 _ (λ z. omega arith) more in
-      page-valid page b
+  look-kept c e = unmap-kept c e
 
-  pub protect-kept : (pp : ℕ) → refusal (protect sdr1 page pp) lent ≡ 0 → InRange page × (pp < 2 ^ 2)
+  pub protect-kept : (c : ProtectCall) → refusal (protect c) lent ≡ 0 → InRange (c .page) × (c .pp < 2 ^ 2)
   unfolding refusal rules
-  protect-kept pp e =
-      let (all, last) = kept (pageInRange page && ltb pp (2 ^ 2)) 6 _ (λ z. omega arith) e in
-      let (a, b) = both (pageInRange page) (ltb pp (2 ^ 2)) all in
-      (page-valid page a, ltb-true pp (2 ^ 2) b)
+  protect-kept c e =
+      let (all, last) = kept (pageInRange (c .page) && ltb (c .pp) (2 ^ 2)) 6 _ (λ z. omega arith) e in
+      let (a, b) = both (pageInRange (c .page)) (ltb (c .pp) (2 ^ 2)) all in
+      (page-valid (c .page) a, ltb-true (c .pp) (2 ^ 2) b)
 
--- a call that its arguments do not refuse is lent a table of right length
-pub length-kept : (request : Request ℕ) (lent : ℕ) → refusal request lent ≡ 0 → lent ≡ tableLength (sdr1In request)
+-- an SDR1 of right shape, and a table of its length
+pub record Fitting (sdr1 lent : ℕ) : Type 0 where
+  pub shape : sdr1Shape sdr1 ≡ true
+  pub long : lent ≡ tableLength sdr1
+
+table-kept : (sdr1 lent : ℕ) → firstBroken (tableRules sdr1 lent) ≡ 0 → Fitting sdr1 lent
+table-kept sdr1 lent e =
+    let (shape, more) = kept (sdr1Shape sdr1) 2 _ (λ z. omega arith) e in
+    let (long, last) = kept (eqb lent (tableLength sdr1)) 1 _ (λ z. omega arith) more in
+    record { shape = shape; long = eqb-true lent (tableLength sdr1) long }
+
+-- a call that its arguments do not refuse is lent a table of its SDR1
+pub fitting : (request : Request ℕ) (lent : ℕ) → refusal request lent ≡ 0 → Fitting (sdr1In request) lent
 unfolding refusal rules sdr1In
-length-kept (clear sdr1) lent e =
-    let (a, r₁) = kept (sdr1Shape sdr1) 2 _ (λ z. omega arith) e in
-    eqb-true lent (tableLength sdr1) (kept (eqb lent (tableLength sdr1)) 1 _ (λ z. omega arith) r₁ .0)
-length-kept (mapPage sdr1 page rpn wimg pp) lent e =
-    let (a, r₁) = kept (pageInRange page && ltb rpn (2 ^ 20) && ltb wimg (2 ^ 4) && ltb pp (2 ^ 2) && not (writeThroughInhibited wimg)) 6 _ (λ z. omega arith) e in
-    let (b, r₂) = kept (sdr1Shape sdr1) 2 _ (λ z. omega arith) r₁ in
-    eqb-true lent (tableLength sdr1) (kept (eqb lent (tableLength sdr1)) 1 _ (λ z. omega arith) r₂ .0)
-length-kept (unmap sdr1 page answer) lent e =
-    let (a, r₁) = kept (eqb answer 16) 11 _ (λ z. omega arith) e in
-    let (b, r₂) = kept (pageInRange page) 6 _ (λ z. omega arith) r₁ in
-    let (c, r₃) = kept (sdr1Shape sdr1) 2 _ (λ z. omega arith) r₂ in
-    eqb-true lent (tableLength sdr1) (kept (eqb lent (tableLength sdr1)) 1 _ (λ z. omega arith) r₃ .0)
-length-kept (protect sdr1 page pp) lent e =
-    let (a, r₁) = kept (pageInRange page && ltb pp (2 ^ 2)) 6 _ (λ z. omega arith) e in
-    let (b, r₂) = kept (sdr1Shape sdr1) 2 _ (λ z. omega arith) r₁ in
-    eqb-true lent (tableLength sdr1) (kept (eqb lent (tableLength sdr1)) 1 _ (λ z. omega arith) r₂ .0)
-length-kept (look sdr1 page answer) lent e =
-    let (a, r₁) = kept (eqb answer 16) 11 _ (λ z. omega arith) e in
-    let (b, r₂) = kept (pageInRange page) 6 _ (λ z. omega arith) r₁ in
-    let (c, r₃) = kept (sdr1Shape sdr1) 2 _ (λ z. omega arith) r₂ in
-    eqb-true lent (tableLength sdr1) (kept (eqb lent (tableLength sdr1)) 1 _ (λ z. omega arith) r₃ .0)
-length-kept (access registers mode kind address answer) lent e =
-    let words = registerWords registers in
-    let (a, r₁) = kept (eqb (length registers) 132 && eqb answer 16) 11 _ (λ z. omega arith) e in
-    let (b, r₂) = kept (ltb mode 8 && ltb kind 3) 6 _ (λ z. omega arith) r₁ in
-    let (c, r₃) = kept (sdr1Shape (sdr1Of words)) 2 _ (λ z. omega arith) r₂ in
+fitting (clear c) lent e = table-kept (c .sdr1) lent e
+fitting (mapPage c) lent e = table-kept (c .sdr1) lent (kept (mapInRange c) 6 _ (λ z. omega arith) e .1)
+fitting (unmap c) lent e =
+    let (a, more) = kept (eqb (c .answer) 16) 11 _ (λ z. omega arith) e in
+    table-kept (c .sdr1) lent (kept (pageInRange (c .page)) 6 _ (λ z. omega arith) more .1)
+fitting (protect c) lent e = table-kept (c .sdr1) lent (kept (pageInRange (c .page) && ltb (c .pp) (2 ^ 2)) 6 _ (λ z. omega arith) e .1)
+fitting (look c) lent e =
+    let (a, more) = kept (eqb (c .answer) 16) 11 _ (λ z. omega arith) e in
+    table-kept (c .sdr1) lent (kept (pageInRange (c .page)) 6 _ (λ z. omega arith) more .1)
+fitting (access c) lent e =
+    let words = registerWords (c .registers) in
+    let (a, r₁) = kept (eqb (length (c .registers)) 132 && eqb (c .answer) 16) 11 _ (λ z. omega arith) e in
+    let (b, r₂) = kept (ltb (c .mode) 8 && ltb (c .kind) 3) 6 _ (λ z. omega arith) r₁ in
+    let (shape, r₃) = kept (sdr1Shape (sdr1Of words)) 2 _ (λ z. omega arith) r₂ in
     let (d, r₄) = kept (sideShape 4 11 words false && sideShape 4 11 words true) 3 _ (λ z. omega arith) r₃ in
     let (f, r₅) = kept (sideApart 4 11 words false && sideApart 4 11 words true) 4 _ (λ z. omega arith) r₄ in
     let (g, r₆) = kept (segmentsShape words) 5 _ (λ z. omega arith) r₅ in
-    eqb-true lent (tableLength (sdr1Of words)) (kept (eqb lent (tableLength (sdr1Of words))) 1 _ (λ z. omega arith) r₆ .0)
+    record { shape = shape; long = eqb-true lent (tableLength (sdr1Of words)) (kept (eqb lent (tableLength (sdr1Of words))) 1 _ (λ z. omega arith) r₆ .0) }
 
 -- the other way round: arguments in range, an SDR1 of right shape and a table of right length are not refused
-module _ (sdr1 lent : ℕ) (shape : sdr1Shape sdr1 ≡ true) (long : lent ≡ tableLength sdr1) where
-  pub clear-taken : refusal (clear sdr1) lent ≡ 0
-  unfolding refusal rules
-  clear-taken = rw (shape, eq-eqb lent (tableLength sdr1) long)
+pub clear-taken : (c : ClearCall) (lent : ℕ) → Fitting (c .sdr1) lent → refusal (clear c) lent ≡ 0
+unfolding refusal rules
+clear-taken c lent fit = rw (fit .shape, eq-eqb lent (tableLength (c .sdr1)) (fit .long))
 
-  module _ (page : Page) (valid : InRange page) where
-    pub map-taken : (rpn wimg pp : ℕ) → rpn < 2 ^ 20 → wimg < 2 ^ 4 → (wimg / 4 ≡ 3 → ⊥) → pp < 2 ^ 2 → refusal (mapPage sdr1 page rpn wimg pp) lent ≡ 0
-    unfolding refusal rules writeThroughInhibited
-    map-taken rpn wimg pp hr hw n hp =
-        rw (
-          valid-page page valid,
-          lt-ltb rpn (2 ^ 20) hr,
-          lt-ltb wimg (2 ^ 4) hw,
-          lt-ltb pp (2 ^ 2) hp,
-          ne-eqb (wimg / 4) 3 n,
-          shape,
-          eq-eqb lent (tableLength sdr1) long,
-        )
+pub map-taken : (c : MapCall) (lent : ℕ) → Fitting (c .sdr1) lent → InRange (c .page) → c .rpn < 2 ^ 20 → c .wimg < 2 ^ 4 → (c .wimg / 4 ≡ 3 → ⊥) → c .pp < 2 ^ 2
+    → refusal (mapPage c) lent ≡ 0
+unfolding refusal rules writeThroughInhibited
+map-taken c lent fit valid hr hw n hp =
+    rw (
+      valid-page (c .page) valid,
+      lt-ltb (c .rpn) (2 ^ 20) hr,
+      lt-ltb (c .wimg) (2 ^ 4) hw,
+      lt-ltb (c .pp) (2 ^ 2) hp,
+      ne-eqb (c .wimg / 4) 3 n,
+      fit .shape,
+      eq-eqb lent (tableLength (c .sdr1)) (fit .long),
+    )
 
-    pub unmap-taken : (answer : ℕ) → answer ≡ 16 → refusal (unmap sdr1 page answer) lent ≡ 0
-    unfolding refusal rules
-    unmap-taken answer e = rw (eq-eqb answer 16 e, valid-page page valid, shape, eq-eqb lent (tableLength sdr1) long)
+pub unmap-taken : (c : AnsweredCall ℕ) (lent : ℕ) → Fitting (c .sdr1) lent → InRange (c .page) → c .answer ≡ 16 → refusal (unmap c) lent ≡ 0
+unfolding refusal rules
+unmap-taken c lent fit valid e = rw (eq-eqb (c .answer) 16 e, valid-page (c .page) valid, fit .shape, eq-eqb lent (tableLength (c .sdr1)) (fit .long))
 
-    pub look-taken : (answer : ℕ) → answer ≡ 16 → refusal (look sdr1 page answer) lent ≡ 0
-    unfolding refusal rules
-    look-taken answer e = rw (eq-eqb answer 16 e, valid-page page valid, shape, eq-eqb lent (tableLength sdr1) long)
+pub look-taken : (c : AnsweredCall ℕ) (lent : ℕ) → Fitting (c .sdr1) lent → InRange (c .page) → c .answer ≡ 16 → refusal (look c) lent ≡ 0
+unfolding refusal rules
+look-taken c lent fit valid e = unmap-taken c lent fit valid e
 
-    pub protect-taken : (pp : ℕ) → pp < 2 ^ 2 → refusal (protect sdr1 page pp) lent ≡ 0
-    unfolding refusal rules
-    protect-taken pp h = rw (valid-page page valid, lt-ltb pp (2 ^ 2) h, shape, eq-eqb lent (tableLength sdr1) long)
+pub protect-taken : (c : ProtectCall) (lent : ℕ) → Fitting (c .sdr1) lent → InRange (c .page) → c .pp < 2 ^ 2 → refusal (protect c) lent ≡ 0
+unfolding refusal rules
+protect-taken c lent fit valid h =
+    rw (valid-page (c .page) valid, lt-ltb (c .pp) (2 ^ 2) h, fit .shape, eq-eqb lent (tableLength (c .sdr1)) (fit .long))

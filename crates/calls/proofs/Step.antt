@@ -10,7 +10,7 @@ use Rattle.placement.specs.FiniteMap.{fieldsAt, takeOut, revise, mappedPages}
 use Rattle.placement.proofs.FiniteMap.{revise-unmapped}
 use Rattle.registers.specs.Set.{registerWords}
 use Rattle.groups.proofs.Hash.{samePage-refl, samePage-eq}
-use Rattle.matches.proofs.Summary.{merged-one}
+use Rattle.matches.proofs.Summaries.{merged-one}
 use Rattle.entry.specs.Entry.{apiOf, referenced, changed, withMarks, withPP}
 use Rattle.entry.proofs.Addresses.{api-lt}
 use Rattle.entry.proofs.Matches.{match-own, free-zero}
@@ -21,17 +21,17 @@ use Rattle.tables.specs.Layout.{matchesOf, freePlace, overwriteEach}
 use Rattle.tables.proofs.Represented.{OneMatch, unmapped-matches, mapped-match, full-branch, free-branch}
 use Rattle.tables.proofs.Steps.{represents-putIn, represents-takeOut, represents-revise, represents-revise-first}
 use Rattle.protection.specs.Access.{storing}
-use Rattle.translation.specs.Steps.{beforeSearch, afterSearch, outcomeOf, answerOf}
+use Rattle.translation.specs.Steps.{afterSearch, outcomeOf, answerOf}
 use Rattle.translation.specs.declared.Early.{Early}
 use Rattle.translation.specs.declared.Early.the-variants.{Decided, Search}
 use Rattle.translation.specs.declared.Outcome.{Outcome}
 use Rattle.translation.specs.declared.Searched.the-variants.{At}
 use Rattle.translation.specs.declared.Wanted.{Wanted}
 use Rattle.translation.proofs.Steps.{wanted-in-range}
-use Rattle.calls.specs.Request.{Request, clear, mapPage, unmap, protect, look, access, fed}
+use Rattle.calls.specs.Request.{ClearCall, MapCall, ProtectCall, AnsweredCall, AccessCall, fedAnswered, fedAccess, Request, clear, mapPage, unmap, protect, look, access, fed}
 use Rattle.calls.specs.Rules.{refusal}
 use Rattle.calls.specs.Answers.{wordAnswer}
-use Rattle.calls.specs.OnBytes.{layout, Ended, entryWord, wantedPage, searched, markedBy, bytesDo}
+use Rattle.calls.specs.OnBytes.{layout, Ended, entryWord, earlyOf, wantedPage, searched, markedBy, bytesDo}
 use Rattle.calls.specs.OnMap.{PageFields, Map, fieldsWord, markFields, protectFields, arranged?, foundIn, mapMarked, mapDoes}
 use Rattle.calls.specs.Represents.{FieldsInRange, represents}
 use Rattle.calls.proofs.TableLaws.{Word, layout-laws, represents-zeros}
@@ -68,15 +68,15 @@ module _ (b : Bool) (page : Page) (valid : InRange page) where
   own-fits = first-lt 1 (page .vsid) (hOf b) (apiOf (page .index)) (lit< tt) (valid .vsid-lt) (oneIf-lt b) (api-lt (page .index) (valid .index-lt))
 
 module _ (k : ℕ) (t : List ℕ) (m : Map) (r : represents k t m) where
-  clear-step : (sdr1 : ℕ) → Alike k (bytesDo k (clear sdr1) t) (mapDoes k (clear sdr1) m)
+  clear-step : (c : ClearCall) → Alike k (bytesDo k (clear c) t) (mapDoes k (clear c) m)
   unfolding bytesDo mapDoes
-  clear-step sdr1 = record { number = refl; answer = refl; related = represents-zeros k (length t) (r .good .long) }
+  clear-step c = record { number = refl; answer = refl; related = represents-zeros k (length t) (r .good .long) }
 
-  map-step : (sdr1 : ℕ) (page : Page) (rpn wimg pp : ℕ) → InRange page → rpn < 2 ^ 20 → wimg < 2 ^ 4 → pp < 2 ^ 2
-      → Alike k (bytesDo k (mapPage sdr1 page rpn wimg pp) t) (mapDoes k (mapPage sdr1 page rpn wimg pp) m)
+  map-step : (c : MapCall) → InRange (c .page) → c .rpn < 2 ^ 20 → c .wimg < 2 ^ 4 → c .pp < 2 ^ 2 → Alike k (bytesDo k (mapPage c) t) (mapDoes k (mapPage c) m)
   unfolding bytesDo mapDoes fieldsWord
-  map-step sdr1 page rpn wimg pp valid hr hw hp =
-      let new : PageFields = record { frame = rpn; attributes = wimg; protection = pp; referenced = false; changed = false } in
+  map-step c valid hr hw hp =
+      let page = c .page in
+      let new : PageFields = record { frame = c .rpn; attributes = c .wimg; protection = c .pp; referenced = false; changed = false } in
       let range : FieldsInRange new = record { frame-lt = hr; attributes-lt = hw; protection-lt = hp } in
       let d = arranged? k (page ∷ mappedPages m) in
       by-cases (fieldsAt samePage page m)
@@ -102,10 +102,10 @@ module _ (k : ℕ) (t : List ℕ) (m : Map) (r : represents k t m) where
     range-of : FieldsInRange f
     range-of = r .valid page f e .1
 
-  unmap-step : (sdr1 : ℕ) (page : Page) (answer : List ℕ) → InRange page
-      → Alike k (bytesDo k (unmap sdr1 page answer) t) (mapDoes k (unmap sdr1 page (length answer)) m)
+  unmap-step : (c : AnsweredCall (List ℕ)) → InRange (c .page) → Alike k (bytesDo k (unmap c) t) (mapDoes k (unmap (fedAnswered c)) m)
   unfolding bytesDo mapDoes
-  unmap-step sdr1 page answer valid =
+  unmap-step c valid =
+      let page = c .page in
       by-cases (fieldsAt samePage page m)
       (λ e. rw (unmapped-matches (layout-laws k) r page valid e, e) (record { number = refl; answer = refl; related = r }))
       (λ f e.
@@ -119,10 +119,11 @@ module _ (k : ℕ) (t : List ℕ) (m : Map) (r : represents k t m) where
             (represents-takeOut (layout-laws k) r page f e 0 0 free-zero (lit< tt) (lit< tt));
       }))
 
-  protect-step : (sdr1 : ℕ) (page : Page) (pp : ℕ) → InRange page → pp < 2 ^ 2
-      → Alike k (bytesDo k (protect sdr1 page pp) t) (mapDoes k (protect sdr1 page pp) m)
+  protect-step : (c : ProtectCall) → InRange (c .page) → c .pp < 2 ^ 2 → Alike k (bytesDo k (protect c) t) (mapDoes k (protect c) m)
   unfolding bytesDo mapDoes
-  protect-step sdr1 page pp valid fits =
+  protect-step c valid fits =
+      let page = c .page in
+      let pp = c .pp in
       by-cases (fieldsAt samePage page m)
       (λ e. rw (unmapped-matches (layout-laws k) r page valid e, e) (record { number = refl; answer = refl; related = r }))
       (λ f e.
@@ -138,10 +139,10 @@ module _ (k : ℕ) (t : List ℕ) (m : Map) (r : represents k t m) where
             (represents-revise (layout-laws k) r page f e (withPP pp) (protectFields pp) (protected-word f range pp fits) more (word-fits (protectFields pp f) more));
       }))
 
-  look-step : (sdr1 : ℕ) (page : Page) (answer : List ℕ) → InRange page
-      → Alike k (bytesDo k (look sdr1 page answer) t) (mapDoes k (look sdr1 page (length answer)) m)
+  look-step : (c : AnsweredCall (List ℕ)) → InRange (c .page) → Alike k (bytesDo k (look c) t) (mapDoes k (look (fedAnswered c)) m)
   unfolding bytesDo mapDoes contradict
-  look-step sdr1 page answer valid =
+  look-step c valid =
+      let page = c .page in
       by-cases (fieldsAt samePage page m)
       (λ e. rw (unmapped-matches (layout-laws k) r page valid e, e) (record { number = refl; answer = refl; related = r }))
       (λ f e. let o = one page f e in rw (o .only, e) (record { number = refl; answer = ap (wordAnswer 0) (o .second-is); related = r }))
@@ -176,25 +177,24 @@ module _ (k : ℕ) (t : List ℕ) (m : Map) (r : represents k t m) where
       (word-fits (markFields store f) more) (o .match) [] (o .only))))
       (λ not-done. rw not-done r)
 
-  access-step : (registers : List ℕ) (mode kind address : ℕ) (answer : List ℕ)
-      → Alike k (bytesDo k (access registers mode kind address answer) t) (mapDoes k (access registers mode kind address (length answer)) m)
+  access-step : (c : AccessCall (List ℕ)) → Alike k (bytesDo k (access c) t) (mapDoes k (access (fedAccess c)) m)
   unfolding bytesDo mapDoes outcomeOf markedBy mapMarked
-  access-step registers mode kind address answer =
-      by-early (beforeSearch 4 11 (registerWords registers) mode kind address)
+  access-step c =
+      by-early (earlyOf c)
       (λ outcome e. rw e (record { number = refl; answer = refl; related = r }))
       (λ wanted e.
-      let range = wanted-in-range 4 11 (registerWords registers) mode kind address wanted e in
+      let range = wanted-in-range 4 11 (registerWords (c .registers)) (c .mode) (c .kind) (c .address) wanted e in
       let valid : InRange (wantedPage wanted) = record { vsid-lt = range .0; index-lt = range .1 } in
-      let outcome = afterSearch kind (wanted .key) (foundIn m (wantedPage wanted)) in
-      rw (e, search-same (wantedPage wanted) valid) (record { number = refl; answer = refl; related = marks-same kind wanted (answerOf kind address outcome .result) valid }))
+      let outcome = afterSearch (c .kind) (wanted .key) (foundIn m (wantedPage wanted)) in
+      rw (e, search-same (wantedPage wanted) valid)
+      (record { number = refl; answer = refl; related = marks-same (c .kind) wanted (answerOf (c .kind) (c .address) outcome .result) valid }))
 
   -- each call that its arguments do not refuse
   pub step : (request : Request (List ℕ)) (lent : ℕ) → refusal (fed request) lent ≡ 0 → Alike k (bytesDo k request t) (mapDoes k (fed request) m)
   unfolding fed
-  step (clear sdr1) lent e = clear-step sdr1
-  step (mapPage sdr1 page rpn wimg pp) lent e =
-      let kept = map-kept sdr1 page lent rpn wimg pp e in map-step sdr1 page rpn wimg pp (kept .0) (kept .1 .0) (kept .1 .1 .0) (kept .1 .1 .1)
-  step (unmap sdr1 page answer) lent e = unmap-step sdr1 page answer (unmap-kept sdr1 page lent (length answer) e)
-  step (protect sdr1 page pp) lent e = let kept = protect-kept sdr1 page lent pp e in protect-step sdr1 page pp (kept .0) (kept .1)
-  step (look sdr1 page answer) lent e = look-step sdr1 page answer (look-kept sdr1 page lent (length answer) e)
-  step (access registers mode kind address answer) lent e = access-step registers mode kind address answer
+  step (clear c) lent e = clear-step c
+  step (mapPage c) lent e = let kept = map-kept lent c e in map-step c (kept .0) (kept .1 .0) (kept .1 .1 .0) (kept .1 .1 .1)
+  step (unmap c) lent e = unmap-step c (unmap-kept lent (fedAnswered c) e)
+  step (protect c) lent e = let kept = protect-kept lent c e in protect-step c (kept .0) (kept .1)
+  step (look c) lent e = look-step c (look-kept lent (fedAnswered c) e)
+  step (access c) lent e = access-step c

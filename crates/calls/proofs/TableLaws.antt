@@ -1,4 +1,4 @@
--- The table of document 01 is a table in the sense of the crate `tables`: its layout has the laws that are asked of one.
+-- Our table is a table in the sense of the crate `tables`: its layout has the laws that are asked of one.
 use Prim.Native.Nat.{ℕ, suc, _+_, _*_, _^_, _≤_, _<_}
 use mathlib.Core.Path.{_≡_, ap, _∙_}
 use mathlib.Core.List.{List, []}

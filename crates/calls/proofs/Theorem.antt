@@ -1,111 +1,110 @@
--- Demand 3: from the first clear on, table and finite map are related, so every list of calls answers alike; and what a page's own calls answer.
-use Prim.Native.Nat.{ℕ, _-_, _*_, _^_, _<_}
+-- Demand 3: from a first clear that was done on, table and finite map are related, so every list of calls answers alike; and what a page's own
+-- calls answer.
+use Prim.Native.Nat.{ℕ, _<_}
 use mathlib.Core.Path.{_≡_, refl, sym, ap, _∙_, subst}
-use mathlib.Core.Bool.{true, false}
+use mathlib.Core.Bool.{false}
 use mathlib.Core.List.{List, [], _∷_}
 use mathlib.Core.Logic.{ite, if-pos, if-neg}
 use mathlib.Core.Option.{Option, none, some}
-use lib.ListN.{length, replicate}
-use Rattle.placement.specs.FiniteMap.{fieldsAt, putIn, mappedPages}
-use Rattle.register_words.specs.Sdr1.{sdr1Shape, tableLength}
-use Rattle.register_words.proofs.Sdr1.{made-length, made-shape}
-use Rattle.groups.specs.Page.{Page, InRange, samePage}
-use Rattle.tables.specs.Runs.{Each}
-use Rattle.calls.specs.Request.{Request, clear, mapPage, unmap, protect, look, fed, sdr1In}
+use lib.ListN.{length}
+use Rattle.placement.specs.FiniteMap.{putIn, mappedPages}
+use Rattle.register_words.specs.Sdr1.{originOf, maskOnes}
+use Rattle.groups.specs.Page.{Page, InRange}
+use Rattle.calls.specs.Request.{MapCall, AnsweredCall, fedAnswered, ProtectCall, Request, mapPage, unmap, protect, look, fed, sdr1In}
 use Rattle.calls.specs.Rules.{refusal}
-use Rattle.calls.specs.OnBytes.{Ended, ended, byOption, bytesDo, onBytes}
-use Rattle.calls.specs.OnMap.{PageFields, Map, Arranged, arranged?, mapDoes}
+use Rattle.calls.specs.OnBytes.{Ended, ended, byOption}
+use Rattle.calls.specs.OnMap.{PageFields, Map, arranged?, mapDoes}
 use Rattle.calls.specs.Represents.{represents}
-use Rattle.calls.specs.Histories.{Call, Under}
-use Rattle.calls.specs.Theorem.{sdr1With, Start, cleared, tableAfter, mapAfter, MapArguments, TableRefinesMap}
-use Rattle.calls.proofs.OnBytes.{taken}
+use Rattle.calls.specs.Theorem.{History, cleared, tableAfter, mapAfter, next, mappedTo, ArrangedWith, MapInRange, MappedAnswers, TableRefinesMap}
 use Rattle.calls.proofs.Rules as rules
-use Rattle.calls.proofs.TableLaws.{represents-zeros}
+use Rattle.calls.proofs.Rules.{Fitting}
+use Rattle.calls.proofs.FirstClear.{start-done, done-fits, cleared-represents, done-made, done-starts}
 use Rattle.calls.proofs.Histories.{done-plain, runs-follow}
 
-module _ (o k : ℕ) (t : List ℕ) (start : Start o k t) where
-  shape : sdr1Shape (sdr1With o k) ≡ true
-  shape = made-shape o k (start .few) (start .whole)
+module _ (h : History) where
+  -- the ones of the history's mask
+  abbrev pub ones : ℕ
+  ones = maskOnes (h .sdr1)
 
-  size-is : 65536 * 2 ^ k ≡ tableLength (sdr1With o k)
-  size-is = sym (made-length o k (start .few) (start .whole))
+  pub fits : Fitting (h .sdr1) (length (h .table))
+  fits = done-fits (h .sdr1) (h .table) (h .clear-done)
 
-  clear-is : onBytes (clear (sdr1With o k)) t ≡ ended 0 (replicate (length t) 0) []
-  unfolding bytesDo fed sdr1In
-  clear-is = taken (clear (sdr1With o k)) t (rules.clear-taken (sdr1With o k) (length t) shape (start .long ∙ size-is))
+  pub first-represents : represents ones (cleared h) []
+  first-represents = cleared-represents (h .sdr1) (h .table) (h .clear-done)
 
-  -- the clear leaves a table that represents the empty map
-  pub cleared-represents : represents k (cleared o k t) []
-  cleared-represents = subst (λ e. represents k (e .state) []) (sym clear-is) (represents-zeros k (length t) (start .long))
+  pub history-represents : represents ones (tableAfter h) (mapAfter h)
+  history-represents = runs-follow (h .sdr1) (length (h .table)) (fits .shape) (fits .long) (h .calls) (h .under) (cleared h) [] first-represents .1
 
-  module _ (cs : List Call) (each : Each (Under (sdr1With o k) (65536 * 2 ^ k)) cs) where
-    pub history-represents : represents k (tableAfter o k t cs) (mapAfter k cs)
-    history-represents = runs-follow o k (start .few) (start .whole) cs each (cleared o k t) [] cleared-represents .1
+  -- a call under the SDR1 that is not refused answers as the finite map
+  module _ (request : Request (List ℕ)) (same : sdr1In request ≡ h .sdr1) (e : refusal (fed request) (length (h .table)) ≡ 0) where
+    pub map-number : next h request .number ≡ mapDoes ones (fed request) (mapAfter h) .number
+    map-number =
+        done-plain (h .sdr1) (length (h .table)) (fits .shape) (fits .long) request (tableAfter h) (mapAfter h) history-represents same e .number
 
-    -- a call under the SDR1 that is not refused answers as the finite map
-    pub as-map : (request : Request (List ℕ)) → sdr1In request ≡ sdr1With o k → refusal (fed request) (65536 * 2 ^ k) ≡ 0
-        → (onBytes request (tableAfter o k t cs) .number ≡ mapDoes k (fed request) (mapAfter k cs) .number)
-        × (onBytes request (tableAfter o k t cs) .answer ≡ mapDoes k (fed request) (mapAfter k cs) .answer)
-    as-map request same e =
-        let alike = done-plain o k (start .few) (start .whole) request (tableAfter o k t cs) (mapAfter k cs) history-represents same e in
-        (alike .number, alike .answer)
+    pub map-answer : next h request .answer ≡ mapDoes ones (fed request) (mapAfter h) .answer
+    map-answer =
+        done-plain (h .sdr1) (length (h .table)) (fits .shape) (fits .long) request (tableAfter h) (mapAfter h) history-represents same e .answer
 
-    module _ (page : Page) where
-      -- a page that is not mapped
-      unmapped-answers : (rpn wimg pp : ℕ) → InRange page → MapArguments rpn wimg pp → fieldsAt samePage page (mapAfter k cs) ≡ none
-          → (Arranged k (page ∷ mappedPages (mapAfter k cs)) → onBytes (mapPage (sdr1With o k) page rpn wimg pp) (tableAfter o k t cs) .number ≡ 0)
-          × ((Arranged k (page ∷ mappedPages (mapAfter k cs)) → ⊥) → onBytes (mapPage (sdr1With o k) page rpn wimg pp) (tableAfter o k t cs) .number ≡ 9)
-      unfolding sdr1In fed mapDoes
-      unmapped-answers rpn wimg pp valid arguments e =
-          let m = mapAfter k cs in
-          let new : PageFields = record { frame = rpn; attributes = wimg; protection = pp; referenced = false; changed = false } in
-          let d = arranged? k (page ∷ mappedPages m) in
-          let done = ended 0 (putIn page new m) [] in
-          let full = ended 9 m [] in
-          let request = mapPage (sdr1With o k) page rpn wimg pp in
-          let number : onBytes request (tableAfter o k t cs) .number ≡ ite d done full .number =
-          as-map request refl
-          (rules.map-taken (sdr1With o k) (65536 * 2 ^ k) shape size-is page valid rpn wimg pp (arguments .rpn-lt) (arguments .wimg-lt) (arguments .not-both) (arguments .pp-lt)) .0
-          ∙ ap (λ (found : Option PageFields). byOption found (ite d done full) (λ f. ended 7 m []) .number) e in (
-            (λ yes. number ∙ ap (λ (x : Ended Map). x .number) (if-pos d yes done full)),
-            (λ n. number ∙ ap (λ (x : Ended Map). x .number) (if-neg d n done full)),
-          )
+  -- a map in range is not refused by its arguments
+  in-range-taken : (c : MapCall) → MapInRange h c → refusal (mapPage c) (length (h .table)) ≡ 0
+  in-range-taken c a =
+      rules.map-taken c (length (h .table)) (subst (λ (s : ℕ). Fitting s (length (h .table))) (sym (a .same-sdr1)) fits)
+      (record { vsid-lt = a .vsid-lt; index-lt = a .index-lt }) (a .rpn-lt) (a .wimg-lt) (a .not-both) (a .pp-lt)
 
-      -- a page that is mapped
-      module _ (f : PageFields) (e : fieldsAt samePage page (mapAfter k cs) ≡ some f) where
-        valid : InRange page
-        valid = history-represents .valid page f e .0
+  unmapped-answers : (c : MapCall) → MapInRange h c → mappedTo h (c .page) ≡ none
+      → (ArrangedWith h (c .page) → next h (mapPage c) .number ≡ 0) × ((ArrangedWith h (c .page) → ⊥) → next h (mapPage c) .number ≡ 9)
+  unfolding sdr1In fed mapDoes
+  unmapped-answers c a e =
+      let m = mapAfter h in
+      let new : PageFields = record { frame = c .rpn; attributes = c .wimg; protection = c .pp; referenced = false; changed = false } in
+      let d = arranged? ones (c .page ∷ mappedPages m) in
+      let placed = ended 0 (putIn (c .page) new m) [] in
+      let full = ended 9 m [] in
+      let number : next h (mapPage c) .number ≡ ite d placed full .number =
+      map-number (mapPage c) (a .same-sdr1) (in-range-taken c a)
+      ∙ ap (λ (found : Option PageFields). byOption found (ite d placed full) (λ f. ended 7 m []) .number) e in (
+        (λ yes. number ∙ ap (λ (x : Ended Map). x .number) (if-pos d yes placed full)),
+        (λ n. number ∙ ap (λ (x : Ended Map). x .number) (if-neg d n placed full)),
+      )
 
-        map-7 : (rpn wimg pp : ℕ) → MapArguments rpn wimg pp → onBytes (mapPage (sdr1With o k) page rpn wimg pp) (tableAfter o k t cs) .number ≡ 7
-        unfolding sdr1In fed mapDoes
-        map-7 rpn wimg pp arguments =
-            as-map (mapPage (sdr1With o k) page rpn wimg pp) refl
-            (rules.map-taken (sdr1With o k) (65536 * 2 ^ k) shape size-is page valid rpn wimg pp (arguments .rpn-lt) (arguments .wimg-lt) (arguments .not-both) (arguments .pp-lt)) .0
-            ∙ (rw e)
+  -- a page that is mapped
+  module _ (page : Page) (f : PageFields) (e : mappedTo h page ≡ some f) where
+    valid : InRange page
+    valid = history-represents .valid page f e .0
 
-        unmap-0 : (answer : List ℕ) → length answer ≡ 16 → onBytes (unmap (sdr1With o k) page answer) (tableAfter o k t cs) .number ≡ 0
-        unfolding sdr1In fed mapDoes
-        unmap-0 answer l =
-            as-map (unmap (sdr1With o k) page answer) refl (rules.unmap-taken (sdr1With o k) (65536 * 2 ^ k) shape size-is page valid (length answer) l) .0 ∙ (rw e)
+    map-7 : (c : MapCall) → MapInRange h c → c .page ≡ page → next h (mapPage c) .number ≡ 7
+    unfolding sdr1In fed mapDoes
+    map-7 c a is =
+        let here : mappedTo h (c .page) ≡ some f = ap (mappedTo h) is ∙ e in
+        map-number (mapPage c) (a .same-sdr1) (in-range-taken c a) ∙ (rw here)
 
-        protect-0 : (pp : ℕ) → pp < 4 → onBytes (protect (sdr1With o k) page pp) (tableAfter o k t cs) .number ≡ 0
-        unfolding sdr1In fed mapDoes
-        protect-0 pp l = as-map (protect (sdr1With o k) page pp) refl (rules.protect-taken (sdr1With o k) (65536 * 2 ^ k) shape size-is page valid pp l) .0 ∙ (rw e)
+    unmap-0 : (answer : List ℕ) → length answer ≡ 16 → next h (unmap (record { sdr1 = h .sdr1; page = page; answer = answer })) .number ≡ 0
+    unfolding sdr1In fed mapDoes
+    unmap-0 answer l =
+        let c : AnsweredCall (List ℕ) = record { sdr1 = h .sdr1; page = page; answer = answer } in
+        map-number (unmap c) refl (rules.unmap-taken (fedAnswered c) (length (h .table)) fits valid l) ∙ (rw e)
 
-        look-0 : (answer : List ℕ) → length answer ≡ 16 → onBytes (look (sdr1With o k) page answer) (tableAfter o k t cs) .number ≡ 0
-        unfolding sdr1In fed mapDoes
-        look-0 answer l =
-            as-map (look (sdr1With o k) page answer) refl (rules.look-taken (sdr1With o k) (65536 * 2 ^ k) shape size-is page valid (length answer) l) .0 ∙ (rw e)
+    protect-0 : (pp : ℕ) → pp < 4 → next h (protect (record { sdr1 = h .sdr1; page = page; pp = pp })) .number ≡ 0
+    unfolding sdr1In fed mapDoes
+    protect-0 pp l =
+        let c : ProtectCall = record { sdr1 = h .sdr1; page = page; pp = pp } in
+        map-number (protect c) refl (rules.protect-taken c (length (h .table)) fits valid l) ∙ (rw e)
+
+    look-0 : (answer : List ℕ) → length answer ≡ 16 → next h (look (record { sdr1 = h .sdr1; page = page; answer = answer })) .number ≡ 0
+    unfolding sdr1In fed mapDoes
+    look-0 answer l =
+        let c : AnsweredCall (List ℕ) = record { sdr1 = h .sdr1; page = page; answer = answer } in
+        map-number (look c) refl (rules.look-taken (fedAnswered c) (length (h .table)) fits valid l) ∙ (rw e)
+
+    mapped-answers : MappedAnswers h page
+    mapped-answers = record { map-refused = map-7; unmap-done = unmap-0; protect-done = protect-0; look-done = look-0 }
 
 pub table-refines-map : TableRefinesMap
 table-refines-map = record {
-  clear-done = λ o k t start. ap (λ (e : Ended (List ℕ)). e .number) (clear-is o k t start);
-  answers = λ o k t start cs each. runs-follow o k (start .few) (start .whole) cs each (cleared o k t) [] (cleared-represents o k t start) .0;
-  not-mapped = λ o k t start cs each page rpn wimg pp v i arguments e. unmapped-answers o k t start cs each page rpn wimg pp (record { vsid-lt = v; index-lt = i }) arguments e;
-  mapped = λ o k t start cs each page f e. (
-    map-7 o k t start cs each page f e,
-    unmap-0 o k t start cs each page f e,
-    protect-0 o k t start cs each page f e,
-    look-0 o k t start cs each page f e,
-  );
+  clear-done = start-done;
+  only-these = λ sdr1 t lt was-done. (originOf sdr1, maskOnes sdr1, done-made sdr1 t was-done lt, done-starts sdr1 t was-done);
+  answers = λ h.
+      runs-follow (h .sdr1) (length (h .table)) (fits h .shape) (fits h .long) (h .calls) (h .under) (cleared h) [] (first-represents h) .0;
+  not-mapped = unmapped-answers;
+  mapped = mapped-answers;
 }

@@ -3,8 +3,9 @@ use Prim.Native.Nat.{ℕ}
 use mathlib.Core.Bool.{cond}
 use mathlib.Core.List.{List}
 use lib.Dec.{eqb}
+use Rattle.numbers.specs.Numbers.{refusedLentLength}
 use lib.ListN.{length}
 
--- a slice that must have n bytes is refused 11 at any other length, and left as it was
+-- a slice that must have n bytes is refused at any other length, and left as it was
 unfoldable pub ofLength : ℕ → List ℕ → ℕ × List ℕ → ℕ × List ℕ
-ofLength n lent done = cond (eqb (length lent) n) done (11, lent)
+ofLength n lent done = cond (eqb (length lent) n) done (refusedLentLength, lent)

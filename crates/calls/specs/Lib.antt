@@ -2,6 +2,7 @@
 pub mod Lent
 pub mod WithoutTable
 pub mod Request
+pub mod Made
 pub mod Rules
 pub mod Answers
 pub mod OnBytes
@@ -9,5 +10,3 @@ pub mod OnMap
 pub mod Represents
 pub mod Histories
 pub mod Theorem
-pub mod Tables
-pub mod PageRows

@@ -5,9 +5,11 @@ use mathlib.Core.List.{List, [], _∷_}
 use mathlib.Core.Option.{Option, none, some}
 use lib.Dec.{eqb}
 use lib.ListN.{length, replicate}
+use Rattle.numbers.specs.Numbers.{done, refusedMapped, refusedNoMatch, refusedFull, refusedContradiction, groupEntries}
 use Rattle.entry.specs.Entry.{firstWord, secondWord, matches, free, apiOf, withMarks, withPP}
 use Rattle.register_words.specs.Sdr1.{maskOnes}
-use Rattle.registers.specs.Set.{registerWords}
+use Rattle.register_words.specs.Block.{blWidth}
+use Rattle.registers.specs.Set.{blockPairs, registerWords}
 use Rattle.groups.specs.Page.{Page}
 use Rattle.groups.specs.Hash.{groupNumber}
 use Rattle.groups.specs.Group.{firstOf, secondOf, putAt}
@@ -21,16 +23,16 @@ use Rattle.translation.specs.declared.Early.the-variants.{Decided, Search}
 use Rattle.translation.specs.declared.Searched.{Searched}
 use Rattle.translation.specs.declared.Searched.the-variants.{Nothing, At, Contradicting}
 use Rattle.translation.specs.declared.Wanted.{Wanted}
-use Rattle.calls.specs.Request.{Request, clear, mapPage, unmap, protect, look, access, sdr1In, fed}
+use Rattle.calls.specs.Request.{AccessCall, Request, clear, mapPage, unmap, protect, look, access, sdr1In, fed}
 use Rattle.calls.specs.Rules.{refusal}
 use Rattle.calls.specs.Answers.{wordAnswer, accessAnswer, answerRefused}
 
--- the table of document 01 for a mask of k ones: 2 ^ (10 + k) groups of eight entries; an entry matches by V, VSID, H and API
+-- the table for a mask of k ones (rules 4): 2 ^ (10 + k) groups of eight entries; an entry matches by V, VSID, H and API
 abbrev pub layout : ℕ → Layout Page (List ℕ)
 layout k = record {
   group = groupNumber (10 + k);
   half = 2 ^ (9 + k);
-  capacity = 8;
+  capacity = groupEntries;
   matching = λ secondary page first. matches (page .vsid) (hOf secondary) (apiOf (page .index)) first;
   free = free;
   first = firstOf;
@@ -61,6 +63,10 @@ byOption (some a) missing found = found a
 unfoldable pub entryWord : Bool → Page → ℕ
 entryWord secondary page = firstWord 1 (page .vsid) (hOf secondary) (apiOf (page .index))
 
+-- steps 1 to 3 of an access
+abbrev pub earlyOf : {A : Type 0} → AccessCall A → Early
+earlyOf c = beforeSearch blockPairs blWidth (registerWords (c .registers)) (c .mode) (c .kind) (c .address)
+
 -- the page that a search wants
 abbrev pub wantedPage : Wanted → Page
 wantedPage wanted = record { vsid = wanted .vsid; index = wanted .index }
@@ -70,36 +76,36 @@ unfoldable pub searched : List Match → Searched
 searched xs = byMatches xs Nothing (λ x rest. cond (contradict x rest) Contradicting (At (x .second)))
 
 module _ (k : ℕ) where
-  -- step 7: an access that reached the search and is done, its result 0, is done by a page; the page's first match is marked
+  -- step 7: an access that reached the search and is done is done by a page; the page's first match is marked
   unfoldable pub markedBy : ℕ → Early → ℕ → List ℕ → List ℕ
   markedBy kind (Decided outcome) result t = t
   markedBy kind (Search wanted) result t =
       let page = wantedPage wanted in
-      cond (eqb result 0)
+      cond (eqb result done)
       (byMatches (matchesOf (layout k) t page) t (λ x xs. overwrite (layout k) page x (x .first) (withMarks true (storing kind) (x .second)) t)) t
 
   -- a call that its arguments do not refuse
   unfoldable pub bytesDo : Request (List ℕ) → List ℕ → Ended (List ℕ)
-  bytesDo (clear sdr1) t = ended 0 (replicate (length t) 0) []
-  bytesDo (mapPage sdr1 page rpn wimg pp) t =
-      byMatches (matchesOf (layout k) t page)
-      (byOption (freePlace (layout k) t page) (ended 9 t [])
-      (λ place. ended 0 (putAt t (groupNumber (10 + k) (place .0) page) (place .1) (entryWord (place .0) page) (secondWord rpn 0 0 wimg pp)) []))
-      (λ x xs. ended 7 t [])
-  bytesDo (unmap sdr1 page answer) t =
-      byMatches (matchesOf (layout k) t page) (ended 8 t (wordAnswer 8 0))
-      (λ x xs. ended 0 (overwriteEach (layout k) page (λ y. (0, 0)) (x ∷ xs) t) (wordAnswer 0 (merged x xs)))
-  bytesDo (protect sdr1 page pp) t =
-      byMatches (matchesOf (layout k) t page) (ended 8 t [])
-      (λ x xs. ended 0 (overwriteEach (layout k) page (λ y. (y .first, withPP pp (y .second))) (x ∷ xs) t) [])
-  bytesDo (look sdr1 page answer) t =
-      byMatches (matchesOf (layout k) t page) (ended 8 t (wordAnswer 8 0))
-      (λ x xs. cond (contradict x xs) (ended 10 t (wordAnswer 10 0)) (ended 0 t (wordAnswer 0 (x .second))))
-  bytesDo (access registers mode kind address answer) t =
-      let early = beforeSearch 4 11 (registerWords registers) mode kind address in
-      let outcome = outcomeOf kind (λ wanted. searched (matchesOf (layout k) t (wantedPage wanted))) early in
-      let words = answerOf kind address outcome in
-      ended (words .result) (markedBy kind early (words .result) t) (accessAnswer words)
+  bytesDo (clear c) t = ended done (replicate (length t) 0) []
+  bytesDo (mapPage c) t =
+      byMatches (matchesOf (layout k) t (c .page))
+      (byOption (freePlace (layout k) t (c .page)) (ended refusedFull t [])
+      (λ place. ended done
+      (putAt t (groupNumber (10 + k) (place .0) (c .page)) (place .1) (entryWord (place .0) (c .page)) (secondWord (c .rpn) 0 0 (c .wimg) (c .pp))) []))
+      (λ x xs. ended refusedMapped t [])
+  bytesDo (unmap c) t =
+      byMatches (matchesOf (layout k) t (c .page)) (ended refusedNoMatch t (wordAnswer refusedNoMatch 0))
+      (λ x xs. ended done (overwriteEach (layout k) (c .page) (λ y. (0, 0)) (x ∷ xs) t) (wordAnswer done (merged x xs)))
+  bytesDo (protect c) t =
+      byMatches (matchesOf (layout k) t (c .page)) (ended refusedNoMatch t [])
+      (λ x xs. ended done (overwriteEach (layout k) (c .page) (λ y. (y .first, withPP (c .pp) (y .second))) (x ∷ xs) t) [])
+  bytesDo (look c) t =
+      byMatches (matchesOf (layout k) t (c .page)) (ended refusedNoMatch t (wordAnswer refusedNoMatch 0))
+      (λ x xs. cond (contradict x xs) (ended refusedContradiction t (wordAnswer refusedContradiction 0)) (ended done t (wordAnswer done (x .second))))
+  bytesDo (access c) t =
+      let outcome = outcomeOf (c .kind) (λ wanted. searched (matchesOf (layout k) t (wantedPage wanted))) (earlyOf c) in
+      let words = answerOf (c .kind) (c .address) outcome in
+      ended (words .result) (markedBy (c .kind) (earlyOf c) (words .result) t) (accessAnswer words)
 
 -- a call on a lent table
 unfoldable pub onBytes : Request (List ℕ) → List ℕ → Ended (List ℕ)

@@ -1,21 +1,21 @@
--- The plain finite map of document 01, one clause a call. It is fed arguments and lent lengths, and no table byte.
+-- The plain finite map (rules 8), one clause a call. It is fed arguments and lent lengths, and no table byte.
 use Prim.Native.Nat.{ℕ, _+_, _^_}
 use mathlib.Core.Bool.{Bool, true, false, cond, _||_}
 use mathlib.Core.List.{List, [], _∷_}
 use mathlib.Core.Logic.{ite}
 use lib.Dec.{eqb}
+use Rattle.numbers.specs.Numbers.{done, refusedMapped, refusedNoMatch, refusedFull, groupEntries}
 use Rattle.entry.specs.Entry.{secondWord}
 use Rattle.placement.specs.Lists.{oneIf}
 use Rattle.placement.specs.Placement.{Arrangement}
 use Rattle.placement.proofs.Decision.{arrangement?}
 use Rattle.placement.specs.FiniteMap.{fieldsAt, putIn, takeOut, revise, mappedPages}
 use Rattle.register_words.specs.Sdr1.{maskOnes}
-use Rattle.registers.specs.Set.{registerWords}
 use Rattle.groups.specs.Page.{Page, samePage}
 use Rattle.groups.specs.Hash.{groupNumber}
 use Rattle.groups.proofs.Hash.{group-mirror}
 use Rattle.protection.specs.Access.{storing}
-use Rattle.translation.specs.Steps.{beforeSearch, outcomeOf, answerOf}
+use Rattle.translation.specs.Steps.{outcomeOf, answerOf}
 use Rattle.translation.specs.declared.Early.{Early}
 use Rattle.translation.specs.declared.Early.the-variants.{Decided, Search}
 use Rattle.translation.specs.declared.Searched.{Searched}
@@ -23,7 +23,7 @@ use Rattle.translation.specs.declared.Searched.the-variants.{Nothing, At}
 use Rattle.calls.specs.Request.{Request, clear, mapPage, unmap, protect, look, access, sdr1In}
 use Rattle.calls.specs.Rules.{refusal}
 use Rattle.calls.specs.Answers.{wordAnswer, accessAnswer, answerRefused}
-use Rattle.calls.specs.OnBytes.{Ended, ended, byOption, wantedPage}
+use Rattle.calls.specs.OnBytes.{Ended, ended, byOption, earlyOf, wantedPage}
 
 -- what the map has of a mapped page: frame (RPN), attributes (WIMG), protection (PP) and marks (R, C)
 pub record PageFields : Type 0 where
@@ -49,11 +49,11 @@ protectFields pp f = record { frame = f .frame; attributes = f .attributes; prot
 
 -- an arrangement of pages for a mask of k ones: groups of eight entries
 abbrev pub Arranged : ℕ → List Page → Type 0
-Arranged k pages = Arrangement (groupNumber (10 + k)) 8 pages
+Arranged k pages = Arrangement (groupNumber (10 + k)) groupEntries pages
 
 unfoldable pub arranged? : (k : ℕ) (pages : List Page) → Dec (Arranged k pages)
 unfolding arrangement?
-arranged? k pages = arrangement? (groupNumber (10 + k)) 8 (2 ^ (9 + k)) (group-mirror k) pages
+arranged? k pages = arrangement? (groupNumber (10 + k)) groupEntries (2 ^ (9 + k)) (group-mirror k) pages
 
 -- the search of an access is the map
 unfoldable pub foundIn : Map → Page → Searched
@@ -62,27 +62,27 @@ foundIn m page = byOption (fieldsAt samePage page m) Nothing (λ f. At (fieldsWo
 -- step 7 on the map: done by a page
 unfoldable pub mapMarked : ℕ → Early → ℕ → Map → Map
 mapMarked kind (Decided outcome) result m = m
-mapMarked kind (Search wanted) result m = cond (eqb result 0) (revise samePage (wantedPage wanted) (markFields (storing kind)) m) m
+mapMarked kind (Search wanted) result m = cond (eqb result done) (revise samePage (wantedPage wanted) (markFields (storing kind)) m) m
 
 module _ (k : ℕ) where
   -- a call that its arguments do not refuse
   unfoldable pub mapDoes : Request ℕ → Map → Ended Map
-  mapDoes (clear sdr1) m = ended 0 [] []
-  mapDoes (mapPage sdr1 page rpn wimg pp) m =
-      byOption (fieldsAt samePage page m) (ite (arranged? k (page ∷ mappedPages m))
-      (ended 0 (putIn page (record { frame = rpn; attributes = wimg; protection = pp; referenced = false; changed = false }) m) [])
-      (ended 9 m [])) (λ f. ended 7 m [])
-  mapDoes (unmap sdr1 page answer) m =
-      byOption (fieldsAt samePage page m) (ended 8 m (wordAnswer 8 0)) (λ f. ended 0 (takeOut samePage page m) (wordAnswer 0 (fieldsWord f)))
-  mapDoes (protect sdr1 page pp) m =
-      byOption (fieldsAt samePage page m) (ended 8 m []) (λ f. ended 0 (revise samePage page (protectFields pp) m) [])
-  mapDoes (look sdr1 page answer) m =
-      byOption (fieldsAt samePage page m) (ended 8 m (wordAnswer 8 0)) (λ f. ended 0 m (wordAnswer 0 (fieldsWord f)))
-  mapDoes (access registers mode kind address answer) m =
-      let early = beforeSearch 4 11 (registerWords registers) mode kind address in
-      let outcome = outcomeOf kind (λ wanted. foundIn m (wantedPage wanted)) early in
-      let words = answerOf kind address outcome in
-      ended (words .result) (mapMarked kind early (words .result) m) (accessAnswer words)
+  mapDoes (clear c) m = ended done [] []
+  mapDoes (mapPage c) m =
+      byOption (fieldsAt samePage (c .page) m) (ite (arranged? k (c .page ∷ mappedPages m))
+      (ended done (putIn (c .page) (record { frame = c .rpn; attributes = c .wimg; protection = c .pp; referenced = false; changed = false }) m) [])
+      (ended refusedFull m [])) (λ f. ended refusedMapped m [])
+  mapDoes (unmap c) m =
+      byOption (fieldsAt samePage (c .page) m) (ended refusedNoMatch m (wordAnswer refusedNoMatch 0))
+      (λ f. ended done (takeOut samePage (c .page) m) (wordAnswer done (fieldsWord f)))
+  mapDoes (protect c) m =
+      byOption (fieldsAt samePage (c .page) m) (ended refusedNoMatch m []) (λ f. ended done (revise samePage (c .page) (protectFields (c .pp)) m) [])
+  mapDoes (look c) m =
+      byOption (fieldsAt samePage (c .page) m) (ended refusedNoMatch m (wordAnswer refusedNoMatch 0)) (λ f. ended done m (wordAnswer done (fieldsWord f)))
+  mapDoes (access c) m =
+      let outcome = outcomeOf (c .kind) (λ wanted. foundIn m (wantedPage wanted)) (earlyOf c) in
+      let words = answerOf (c .kind) (c .address) outcome in
+      ended (words .result) (mapMarked (c .kind) (earlyOf c) (words .result) m) (accessAnswer words)
 
 -- a call, fed its arguments and the length of what is lent as the table
 unfoldable pub onMap : Request ℕ → ℕ → Map → Ended Map

@@ -1,39 +1,68 @@
--- A call and its arguments (document 01, "Page calls" and "One access").
+-- What each call on a table brings, by name (rules 5 and 6).
 use Prim.Native.Nat.{ℕ}
 use mathlib.Core.List.{List}
 use lib.ListN.{length}
 use Rattle.groups.specs.Page.{Page}
 use Rattle.registers.specs.Set.{sdr1Of, registerWords}
 
--- A is what is said of a lent answer slice: its bytes, or its length alone
+pub record ClearCall : Type 0 where
+  pub sdr1 : ℕ
+
+pub record MapCall : Type 0 where
+  pub sdr1 : ℕ
+  pub page : Page
+  pub rpn : ℕ
+  pub wimg : ℕ
+  pub pp : ℕ
+
+pub record ProtectCall : Type 0 where
+  pub sdr1 : ℕ
+  pub page : Page
+  pub pp : ℕ
+
+-- unmap and look; A is what is said of the lent answer: its bytes, or its length alone
+pub record AnsweredCall (A : Type 0) : Type 0 where
+  pub sdr1 : ℕ
+  pub page : Page
+  pub answer : A
+
+-- an access: the bytes of the register page, mode, kind, effective address, and what is said of the lent answer
+pub record AccessCall (A : Type 0) : Type 0 where
+  pub registers : List ℕ
+  pub mode : ℕ
+  pub kind : ℕ
+  pub address : ℕ
+  pub answer : A
+
+-- a call with what it brings
 pub data Request (A : Type 0) : Type 0 where
-  -- SDR1
-  clear : ℕ → Request A
-  -- SDR1, page, RPN, WIMG, PP
-  mapPage : ℕ → Page → ℕ → ℕ → ℕ → Request A
-  -- SDR1, page, answer
-  unmap : ℕ → Page → A → Request A
-  -- SDR1, page, PP
-  protect : ℕ → Page → ℕ → Request A
-  -- SDR1, page, answer
-  look : ℕ → Page → A → Request A
-  -- register page, mode, kind, effective address, answer
-  access : List ℕ → ℕ → ℕ → ℕ → A → Request A
+  clear : ClearCall → Request A
+  mapPage : MapCall → Request A
+  unmap : AnsweredCall A → Request A
+  protect : ProtectCall → Request A
+  look : AnsweredCall A → Request A
+  access : AccessCall A → Request A
 
 -- the SDR1 that a request brings
 unfoldable pub sdr1In : {A : Type 0} → Request A → ℕ
-sdr1In (clear sdr1) = sdr1
-sdr1In (mapPage sdr1 page rpn wimg pp) = sdr1
-sdr1In (unmap sdr1 page answer) = sdr1
-sdr1In (protect sdr1 page pp) = sdr1
-sdr1In (look sdr1 page answer) = sdr1
-sdr1In (access registers mode kind address answer) = sdr1Of (registerWords registers)
+sdr1In (clear c) = c .sdr1
+sdr1In (mapPage c) = c .sdr1
+sdr1In (unmap c) = c .sdr1
+sdr1In (protect c) = c .sdr1
+sdr1In (look c) = c .sdr1
+sdr1In (access c) = sdr1Of (registerWords (c .registers))
 
--- what the finite map is fed of a request: of a lent answer its length alone
+-- what the finite map is fed of a call: of a lent answer its length alone
+abbrev pub fedAnswered : AnsweredCall (List ℕ) → AnsweredCall ℕ
+fedAnswered c = record { sdr1 = c .sdr1; page = c .page; answer = length (c .answer) }
+
+abbrev pub fedAccess : AccessCall (List ℕ) → AccessCall ℕ
+fedAccess c = record { registers = c .registers; mode = c .mode; kind = c .kind; address = c .address; answer = length (c .answer) }
+
 unfoldable pub fed : Request (List ℕ) → Request ℕ
-fed (clear sdr1) = clear sdr1
-fed (mapPage sdr1 page rpn wimg pp) = mapPage sdr1 page rpn wimg pp
-fed (unmap sdr1 page answer) = unmap sdr1 page (length answer)
-fed (protect sdr1 page pp) = protect sdr1 page pp
-fed (look sdr1 page answer) = look sdr1 page (length answer)
-fed (access registers mode kind address answer) = access registers mode kind address (length answer)
+fed (clear c) = clear c
+fed (mapPage c) = mapPage c
+fed (unmap c) = unmap (fedAnswered c)
+fed (protect c) = protect c
+fed (look c) = look (fedAnswered c)
+fed (access c) = access (fedAccess c)

@@ -4,33 +4,35 @@ use mathlib.Core.Bool.{cond}
 use mathlib.Core.List.{List, [], _∷_}
 use lib.Dec.{eqb}
 use lib.ListN.{length}
+use Rattle.numbers.specs.Numbers.{done, refusedLentLength, registersSize, fieldsSize, entrySize}
 use Rattle.words.specs.Words.{withWord, bytesOf}
 use Rattle.entry.specs.declared.Fields.{Fields}
 use Rattle.entry.specs.Entry.{packed, unpacked}
-use Rattle.registers.specs.Set.{checkWords, replacing, registerWords}
+use Rattle.register_words.specs.Block.{blWidth}
+use Rattle.registers.specs.Set.{blockPairs, checkWords, replacing, registerWords}
 use Rattle.calls.specs.Lent.{ofLength}
 
--- check: 11, then 2, 3, 4, 5 of the set; the page is only read
+-- check: the length, then the rules of the set; the register page is only read
 unfoldable pub checkCall : List ℕ → ℕ
-checkCall page = cond (eqb (length page) 132) (checkWords 4 11 (registerWords page)) 11
+checkCall registers = cond (eqb (length registers) registersSize) (checkWords blockPairs blWidth (registerWords registers)) refusedLentLength
 
--- set_register: 11, then 6 for the number, then 2, 3, 4, 5 of the new set; the page has the new word, or stays
+-- set_register: the length, then the number, then the rules of the new set; the register page has the new word, or stays
 unfoldable pub setRegisterCall : List ℕ → ℕ → ℕ → ℕ × List ℕ
 unfolding ofLength
-setRegisterCall page number word =
-    let result = replacing (registerWords page) number word in
-    ofLength 132 page (result, cond (eqb result 0) (withWord page (4 * number) word) page)
+setRegisterCall registers number word =
+    let result = replacing (registerWords registers) number word in
+    ofLength registersSize registers (result, cond (eqb result done) (withWord registers (4 * number) word) registers)
 
--- pack: 11, then 6; the entry's two words, zero after 6
+-- pack: the length, then the widths; the entry's two words, zero where a field is refused
 unfoldable pub packCall : Fields → List ℕ → ℕ × List ℕ
 unfolding ofLength
-packCall fields entry = ofLength 8 entry (packed fields .0, bytesOf (packed fields .1 .0 ∷ packed fields .1 .1 ∷ []))
+packCall fields entry = ofLength entrySize entry (packed fields .0, bytesOf (packed fields .1 .0 ∷ packed fields .1 .1 ∷ []))
 
--- the nine fields as words, in document 01's order
+-- the nine fields as words, in the order of the rules (rules 4)
 abbrev pub fieldWords : Fields → List ℕ
 fieldWords f = f .v ∷ f .vsid ∷ f .h ∷ f .api ∷ f .rpn ∷ f .r ∷ f .c ∷ f .wimg ∷ f .pp ∷ []
 
--- unpack: 11; the nine fields of the two words
+-- unpack: the length; the nine fields of the two words
 unfoldable pub unpackCall : ℕ → ℕ → List ℕ → ℕ × List ℕ
 unfolding ofLength
-unpackCall first second fields = ofLength 36 fields (0, bytesOf (fieldWords (unpacked first second)))
+unpackCall first second fields = ofLength fieldsSize fields (done, bytesOf (fieldWords (unpacked first second)))

@@ -16,7 +16,6 @@ use Rattle.words.proofs.Tests.{both, cond-by}
 use Rattle.entry.specs.Entry.{secondWord, matches, free, apiOf, withMarks, withPP}
 use Rattle.register_words.specs.Sdr1.{tableLength, maskOnes}
 use Rattle.register_words.proofs.Sdr1.{made-ones, made-length}
-use Rattle.registers.specs.Set.{registerWords}
 use Rattle.groups.specs.Page.{Page}
 use Rattle.groups.specs.Hash.{groupNumber}
 use Rattle.groups.specs.Group.{groupOf, firstAt, secondAt, firstOf, secondOf, putEntry, putAt}
@@ -27,13 +26,14 @@ use Rattle.tables.specs.Matches.{Match}
 use Rattle.tables.specs.Layout.{Layout, matchesIn, matchesOf, freeEntry, freePlace, overwrite, overwriteEach}
 use Rattle.tables.specs.Runs.{after}
 use Rattle.protection.specs.Access.{storing}
-use Rattle.translation.specs.Steps.{beforeSearch, outcomeOf, afterSearch, answerOf}
+use Rattle.translation.specs.Steps.{outcomeOf, afterSearch, answerOf}
 use Rattle.translation.specs.declared.Early.{Early}
 use Rattle.translation.specs.declared.Early.the-variants.{Decided, Search}
-use Rattle.calls.specs.Request.{Request, clear, mapPage, unmap, protect, look, access, sdr1In, fed}
+use Rattle.calls.specs.Made.{toClear}
+use Rattle.calls.specs.Request.{MapCall, AnsweredCall, Request, clear, mapPage, unmap, protect, look, access, sdr1In, fed}
 use Rattle.calls.specs.Rules.{refusal}
 use Rattle.calls.specs.Answers.{wordAnswer}
-use Rattle.calls.specs.OnBytes.{layout, Ended, ended, byMatches, byOption, entryWord, wantedPage, searched, markedBy, bytesDo, onBytes}
+use Rattle.calls.specs.OnBytes.{layout, Ended, ended, byMatches, byOption, entryWord, earlyOf, wantedPage, searched, markedBy, bytesDo, onBytes}
 use Rattle.calls.specs.Histories.{bytesStep}
 use Rattle.calls.specs.Theorem.{sdr1With}
 use Rattle.calls.proofs.OnBytes.{taken}
@@ -72,19 +72,18 @@ pairMarked kind (Search wanted) result x =
 
 -- what a call that its arguments do not refuse leaves of them
 unfoldable pub pairDo : Request (List ℕ) → Pair → Pair
-pairDo (clear sdr1) x = zeros
-pairDo (mapPage sdr1 page rpn wimg pp) x =
-    byMatches (matchesOf pairLayout x page)
-    (byOption (freePlace pairLayout x page) x
-    (λ place. pairLayout .put x (hOf (place .0)) (place .1) (entryWord (place .0) page) (secondWord rpn 0 0 wimg pp)))
+pairDo (clear c) x = zeros
+pairDo (mapPage c) x =
+    byMatches (matchesOf pairLayout x (c .page))
+    (byOption (freePlace pairLayout x (c .page)) x
+    (λ place. pairLayout .put x (hOf (place .0)) (place .1) (entryWord (place .0) (c .page)) (secondWord (c .rpn) 0 0 (c .wimg) (c .pp))))
     (λ m ms. x)
-pairDo (unmap sdr1 page answer) x = overwriteEach pairLayout page (λ m. (0, 0)) (matchesOf pairLayout x page) x
-pairDo (protect sdr1 page pp) x = overwriteEach pairLayout page (λ m. (m .first, withPP pp (m .second))) (matchesOf pairLayout x page) x
-pairDo (look sdr1 page answer) x = x
-pairDo (access registers mode kind address answer) x =
-    let early = beforeSearch 4 11 (registerWords registers) mode kind address in
-    let outcome = outcomeOf kind (λ wanted. searched (matchesOf pairLayout x (wantedPage wanted))) early in
-    pairMarked kind early (answerOf kind address outcome .result) x
+pairDo (unmap c) x = overwriteEach pairLayout (c .page) (λ m. (0, 0)) (matchesOf pairLayout x (c .page)) x
+pairDo (protect c) x = overwriteEach pairLayout (c .page) (λ m. (m .first, withPP (c .pp) (m .second))) (matchesOf pairLayout x (c .page)) x
+pairDo (look c) x = x
+pairDo (access c) x =
+    let outcome = outcomeOf (c .kind) (λ wanted. searched (matchesOf pairLayout x (wantedPage wanted))) (earlyOf c) in
+    pairMarked (c .kind) (earlyOf c) (answerOf (c .kind) (c .address) outcome .result) x
 
 abbrev pub pairAfter : List (Request (List ℕ)) → Pair → Pair
 pairAfter [] x = x
@@ -119,12 +118,12 @@ module _ (k p s : ℕ) where
   ownEarly (Search wanted) = ownPage (wantedPage wanted)
 
   abbrev pub ownCall : Request (List ℕ) → Bool
-  ownCall (clear sdr1) = true
-  ownCall (mapPage sdr1 page rpn wimg pp) = ownPage page
-  ownCall (unmap sdr1 page answer) = ownPage page
-  ownCall (protect sdr1 page pp) = ownPage page
-  ownCall (look sdr1 page answer) = ownPage page
-  ownCall (access registers mode kind address answer) = ownEarly (beforeSearch 4 11 (registerWords registers) mode kind address)
+  ownCall (clear c) = true
+  ownCall (mapPage c) = ownPage (c .page)
+  ownCall (unmap c) = ownPage (c .page)
+  ownCall (protect c) = ownPage (c .page)
+  ownCall (look c) = ownPage (c .page)
+  ownCall (access c) = ownEarly (earlyOf c)
 
   -- each request of a list is of these groups, brings the SDR1 and is not refused
   abbrev pub allOwn : ℕ → List (Request (List ℕ)) → Bool
@@ -211,20 +210,24 @@ module _ (k p s : ℕ) where
       stays : Shows t (pairOf t)
       stays = record { long = long; groups = refl }
 
-      map-shows : (sdr1 : ℕ) (page : Page) (rpn wimg pp : ℕ) → ownPage page ≡ true
-          → Shows (bytesDo k (mapPage sdr1 page rpn wimg pp) t .state) (pairDo (mapPage sdr1 page rpn wimg pp) (pairOf t))
+      map-shows : (c : MapCall) → ownPage (c .page) ≡ true → Shows (bytesDo k (mapPage c) t .state) (pairDo (mapPage c) (pairOf t))
       unfolding bytesDo pairDo
-      map-shows sdr1 page rpn wimg pp own = rw (same-matches page own t, same-place page own t) (go (matchesOf pairLayout (pairOf t) page) (freePlace pairLayout (pairOf t) page))
+      map-shows c own =
+          rw (same-matches (c .page) own t, same-place (c .page) own t) (go (matchesOf pairLayout (pairOf t) (c .page)) (freePlace pairLayout (pairOf t) (c .page)))
         where
+          first : Bool → ℕ
+          first b = entryWord b (c .page)
+
+          second : ℕ
+          second = secondWord (c .rpn) 0 0 (c .wimg) (c .pp)
+
           go : (ms : List Match) (free : Option (Bool × ℕ)) → Shows
               (byMatches ms (byOption free (ended 9 t [])
-              (λ place. ended 0 (putAt t (groupNumber (10 + k) (place .0) page) (place .1) (entryWord (place .0) page) (secondWord rpn 0 0 wimg pp)) []))
+              (λ place. ended 0 (putAt t (groupNumber (10 + k) (place .0) (c .page)) (place .1) (first (place .0)) second) []))
               (λ m rest. ended 7 t []) .state)
-              (byMatches ms (byOption free (pairOf t)
-              (λ place. pairLayout .put (pairOf t) (hOf (place .0)) (place .1) (entryWord (place .0) page) (secondWord rpn 0 0 wimg pp)))
-              (λ m rest. pairOf t))
+              (byMatches ms (byOption free (pairOf t) (λ place. pairLayout .put (pairOf t) (hOf (place .0)) (place .1) (first (place .0)) second)) (λ m rest. pairOf t))
           go [] none = stays
-          go [] (some place) = put-shows page own t long (place .0) (place .1) (entryWord (place .0) page) (secondWord rpn 0 0 wimg pp)
+          go [] (some place) = put-shows (c .page) own t long (place .0) (place .1) (first (place .0)) second
           go (m ∷ ms) free = stays
 
       -- unmap and protect: each match is edited
@@ -241,9 +244,9 @@ module _ (k p s : ℕ) where
           go [] = each-shows page own edit [] t long
           go (m ∷ ms) = each-shows page own edit (m ∷ ms) t long
 
-      look-stays : (sdr1 : ℕ) (page : Page) (answer : List ℕ) → bytesDo k (look sdr1 page answer) t .state ≡ t
+      look-stays : (c : AnsweredCall (List ℕ)) → bytesDo k (look c) t .state ≡ t
       unfolding bytesDo
-      look-stays sdr1 page answer = go (matchesOf (layout k) t page)
+      look-stays c = go (matchesOf (layout k) t (c .page))
         where
           go : (ms : List Match)
               → byMatches ms (ended 8 t (wordAnswer 8 0)) (λ m rest. cond (contradict m rest) (ended 10 t (wordAnswer 10 0)) (ended 0 t (wordAnswer 0 (m .second)))) .state ≡ t
@@ -271,12 +274,12 @@ module _ (k p s : ℕ) where
 
       do-shows : (request : Request (List ℕ)) → ownCall request ≡ true → Shows (bytesDo k request t .state) (pairDo request (pairOf t))
       unfolding bytesDo pairDo
-      do-shows (clear sdr1) own = zeros-show (length t) long
-      do-shows (mapPage sdr1 page rpn wimg pp) own = map-shows sdr1 page rpn wimg pp own
-      do-shows (unmap sdr1 page answer) own = edited-shows page own (λ m. (0, 0)) (wordAnswer 8 0) (λ m ms. wordAnswer 0 (merged m ms))
-      do-shows (protect sdr1 page pp) own = edited-shows page own (λ m. (m .first, withPP pp (m .second))) [] (λ m ms. [])
-      do-shows (look sdr1 page answer) own = subst (λ u. Shows u (pairOf t)) (sym (look-stays sdr1 page answer)) stays
-      do-shows (access registers mode kind address answer) own = marked-shows kind address (beforeSearch 4 11 (registerWords registers) mode kind address) own
+      do-shows (clear c) own = zeros-show (length t) long
+      do-shows (mapPage c) own = map-shows c own
+      do-shows (unmap c) own = edited-shows (c .page) own (λ m. (0, 0)) (wordAnswer 8 0) (λ m ms. wordAnswer 0 (merged m ms))
+      do-shows (protect c) own = edited-shows (c .page) own (λ m. (m .first, withPP (c .pp) (m .second))) [] (λ m ms. [])
+      do-shows (look c) own = subst (λ u. Shows u (pairOf t)) (sym (look-stays c)) stays
+      do-shows (access c) own = marked-shows (c .kind) (c .address) (earlyOf c) own
 
     module _ (o : ℕ) (few : k ≤ 9) (whole : o % 2 ^ k ≡ 0) where
       after-shows : (requests : List (Request (List ℕ))) → allOwn (sdr1With o k) requests ≡ true → (t : List ℕ) → length t ≡ 65536 * 2 ^ k
@@ -296,11 +299,11 @@ module _ (k p s : ℕ) where
           (after-shows requests rest (onBytes request t .state) (next .long))
 
       -- the two groups after a clear and calls of theirs
-      module _ (requests : List (Request (List ℕ))) (stated : List ℕ) (own : allOwn (sdr1With o k) (clear (sdr1With o k) ∷ requests) ≡ true) where
+      module _ (requests : List (Request (List ℕ))) (stated : List ℕ) (own : allOwn (sdr1With o k) (toClear (sdr1With o k) ∷ requests) ≡ true) where
         groups-after : (t : List ℕ) → length t ≡ tableLength (sdr1With o k)
             → pairOf (after bytesStep (history (sdr1With o k) requests) t) ≡ pairAfter requests zeros
         unfolding pairDo
-        groups-after t long = after-shows (clear (sdr1With o k) ∷ requests) own t (long ∙ made-length o k few whole) .groups
+        groups-after t long = after-shows (toClear (sdr1With o k) ∷ requests) own t (long ∙ made-length o k few whole) .groups
 
         pub primary-holds : pairAfter requests zeros .0 ≡ bytesOf stated → Holds (stored (sdr1With o k) requests p stated)
         primary-holds e t long = ap (λ (x : Pair). x .0) (groups-after t long) ∙ e

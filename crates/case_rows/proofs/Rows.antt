@@ -9,7 +9,8 @@ use borrow.Author.Tests.{eqb-true, eqb-false}
 use Rattle.words.specs.Words.{bytesOf}
 use Rattle.tables.specs.Runs.{Each}
 use Rattle.tables.proofs.Runs.{each-weaker}
-use Rattle.calls.specs.Request.{Request, clear, fed}
+use Rattle.calls.specs.Made.{toClear}
+use Rattle.calls.specs.Request.{Request, fed}
 use Rattle.calls.specs.Rules.{refusal}
 use Rattle.calls.specs.Theorem.{sdr1With}
 use Rattle.calls.proofs.OnBytes as call
@@ -35,11 +36,11 @@ module _ (o k p s : ℕ) where
   Computes (answered sdr1 requests stated) =
       _≡_ {A = ℕ × Bool × List (ℕ × List ℕ)} (sdr1, allBring sdr1 requests, mapAnswers (65536 * 2 ^ k) requests) (sdr1With o k, true, stated)
   Computes (stored sdr1 requests g stated) =
-      _≡_ {A = ℕ × Bool × Bool × List ℕ} (sdr1, allOwn k p s sdr1 (clear sdr1 ∷ requests), eqb g p || eqb g s, groupAt g (pairAfter requests zeros))
+      _≡_ {A = ℕ × Bool × Bool × List ℕ} (sdr1, allOwn k p s sdr1 (toClear sdr1 ∷ requests), eqb g p || eqb g s, groupAt g (pairAfter requests zeros))
       (sdr1With o k, true, true, bytesOf stated)
 
   module _ (setting : Setting o k p s) where
-    one-of-two : (requests : List (Request (List ℕ))) (g : ℕ) (stated : List ℕ) → allOwn k p s (sdr1With o k) (clear (sdr1With o k) ∷ requests) ≡ true
+    one-of-two : (requests : List (Request (List ℕ))) (g : ℕ) (stated : List ℕ) → allOwn k p s (sdr1With o k) (toClear (sdr1With o k) ∷ requests) ≡ true
         → (t : Bool) → eqb g p ≡ t → t || eqb g s ≡ true → cond t (pairAfter requests zeros .0) (pairAfter requests zeros .1) ≡ bytesOf stated
         → Holds (stored (sdr1With o k) requests g stated)
     one-of-two requests g stated own true is one e = rw (eqb-true g p is) (primary-holds k p s (setting .mirror) o (setting .few) (setting .whole) requests stated own e)
@@ -56,8 +57,8 @@ module _ (o k p s : ℕ) where
         subst (λ n. Holds (answered n requests stated)) (sym same) (answered-holds o k (setting .few) (setting .whole) requests stated bring (ap (λ x. x .2) e))
     claim-holds (stored sdr1 requests g stated) e =
         let same : sdr1 ≡ sdr1With o k = ap (λ x. x .0) e in
-        let own : allOwn k p s (sdr1With o k) (clear (sdr1With o k) ∷ requests) ≡ true =
-        subst (λ n. allOwn k p s n (clear n ∷ requests) ≡ true) same (ap (λ x. x .1) e) in
+        let own : allOwn k p s (sdr1With o k) (toClear (sdr1With o k) ∷ requests) ≡ true =
+        subst (λ n. allOwn k p s n (toClear n ∷ requests) ≡ true) same (ap (λ x. x .1) e) in
         subst (λ n. Holds (stored n requests g stated)) (sym same) (one-of-two requests g stated own (eqb g p) refl (ap (λ x. x .2) e) (ap (λ x. x .3) e))
 
     pub rows-hold : (rows : List Row) → Each (λ row. Computes (row .1)) rows → AllHold rows

@@ -1,11 +1,11 @@
--- The twelve cases of document 01 ("Cases by number") as rows: a case's number, and a claim that sets what the definitions compute beside what the
--- paper states. The calls of a row are whole calls on a table, of which only the length is known before its clear.
+-- The twelve cases (rules 9) as rows: a case's number, and a claim that sets what the definitions compute beside what is stated. The calls of a row are whole calls on a table, of which only the length is known before its clear.
 use Prim.Native.Nat.{ℕ, _+_, _*_}
 use mathlib.Core.Bool.{Bool, true, false}
 use mathlib.Core.List.{List, [], _∷_, _++_, map}
 use mathlib.Core.Option.{none}
 use mathlib.Core.Path.{_≡_}
 use lib.ListN.{length, replicate}
+use Rattle.numbers.specs.Numbers.{done, dataStorageFault, refusedSdr1, refusedBlock, refusedFull, answerSize}
 use Rattle.words.specs.Words.{bytesOf}
 use Rattle.entry.specs.Entry.{pageIndex}
 use Rattle.register_words.specs.Sdr1.{tableLength, hashBits}
@@ -13,7 +13,8 @@ use Rattle.groups.specs.Page.{Page}
 use Rattle.groups.specs.Hash.{hashOf, groupNumber, groupAddress}
 use Rattle.groups.specs.Group.{groupOf}
 use Rattle.tables.specs.Runs.{run, after, Each}
-use Rattle.calls.specs.Request.{Request, clear, mapPage, unmap, look, access}
+use Rattle.calls.specs.Request.{Request}
+use Rattle.calls.specs.Made.{toClear, toMap, toUnmap, toLook, toAccess}
 use Rattle.calls.specs.WithoutTable.{checkCall}
 use Rattle.calls.specs.OnBytes.{onBytes}
 use Rattle.calls.specs.Histories.{Call, bytesStep}
@@ -36,7 +37,7 @@ abbrev pub onTable : Request (List ℕ) → Call
 onTable request = record { request = request; lent = none }
 
 abbrev pub history : ℕ → List (Request (List ℕ)) → List Call
-history sdr1 requests = map onTable (clear sdr1 ∷ requests)
+history sdr1 requests = map onTable (toClear sdr1 ∷ requests)
 
 -- what clear, map and protect answer: a result number alone
 abbrev pub result : ℕ → ℕ × List ℕ
@@ -49,7 +50,7 @@ fourWords w₀ w₁ w₂ w₃ = (w₀, bytesOf (w₀ ∷ w₁ ∷ w₂ ∷ w₃ 
 abbrev pub Holds : Claim → Type 0
 Holds (computes computed stated) = computed ≡ stated
 Holds (refused request stated) = (t : List ℕ) → (onBytes request t .number ≡ stated) × (onBytes request t .state ≡ t)
-Holds (answered sdr1 requests stated) = (t : List ℕ) → length t ≡ tableLength sdr1 → run bytesStep (history sdr1 requests) t ≡ result 0 ∷ stated
+Holds (answered sdr1 requests stated) = (t : List ℕ) → length t ≡ tableLength sdr1 → run bytesStep (history sdr1 requests) t ≡ result done ∷ stated
 Holds (stored sdr1 requests group stated) =
     (t : List ℕ) → length t ≡ tableLength sdr1 → groupOf (after bytesStep (history sdr1 requests) t) group ≡ bytesOf stated
 
@@ -71,27 +72,27 @@ groupUnder sdr1 secondary = groupNumber (hashBits sdr1) secondary thePage
 
 -- a page mapped to RPN 0x12345 with WIMG 2 and PP pp
 abbrev pub mapTo : ℕ → ℕ → Page → Request (List ℕ)
-mapTo sdr1 pp page = mapPage sdr1 page 0x12345 2 pp
+mapTo sdr1 pp page = toMap sdr1 page 0x12345 2 pp
 
--- a lent answer of 16 bytes
+-- a lent answer
 abbrev pub blank : List ℕ
-blank = replicate 16 0
+blank = replicate answerSize 0
 
 -- a register page: SDR1, segment register 0 and the first data block; every other word is zero
 abbrev pub registerPage : ℕ → ℕ → ℕ → ℕ → List ℕ
 registerPage sdr1 segment upper lower = bytesOf ((sdr1 ∷ segment ∷ replicate 23 0) ++ (upper ∷ lower ∷ replicate 6 0))
 
 -- a store to address 00FFA01B in mode 1, by segment 0 with Ks and Kp zero and all blocks off
-abbrev pub store : ℕ → Request (List ℕ)
-store sdr1 = access (registerPage sdr1 0x000C701C 0 0) 1 2 0x00FFA01B blank
+abbrev pub storing : ℕ → Request (List ℕ)
+storing sdr1 = toAccess (registerPage sdr1 0x000C701C 0 0) 1 2 0x00FFA01B blank
 
 -- eight other pages with the same primary group under both SDR1s: their VSIDs agree in the low 13 bits
 abbrev pub others : List Page
 others = map (λ i. record { vsid = 0x0C701C + 0x2000 * i; index = 0x0FFA }) (1 ∷ 2 ∷ 3 ∷ 4 ∷ 5 ∷ 6 ∷ 7 ∷ 8 ∷ [])
 
 -- a load in mode 1 with a data block
-abbrev pub load : ℕ → ℕ → ℕ → ℕ → Request (List ℕ)
-load sdr1 upper lower address = access (registerPage sdr1 0 upper lower) 1 1 address blank
+abbrev pub loading : ℕ → ℕ → ℕ → ℕ → Request (List ℕ)
+loading sdr1 upper lower address = toAccess (registerPage sdr1 0 upper lower) 1 1 address blank
 
 -- VSIDs 0, 0x400 .. 0x3C00, page 0
 abbrev pub sixteen : List Page
@@ -123,23 +124,23 @@ case1 =
 -- under an SDR1, given the numbers of the page's two groups there: the entry in the primary, and in the secondary where the primary is full; then stores
 abbrev pub cases2to5 : ℕ → ℕ → ℕ → List Row
 cases2to5 sdr1 primary secondary =
-    (2, answered sdr1 (mapTo sdr1 2 thePage ∷ []) (result 0 ∷ []))
+    (2, answered sdr1 (mapTo sdr1 2 thePage ∷ []) (result done ∷ []))
     ∷ (2, stored sdr1 (mapTo sdr1 2 thePage ∷ []) primary (0x86380E03 ∷ 0x12345012 ∷ replicate 14 0))
-    ∷ (2, answered sdr1 (map (mapTo sdr1 2) (others ++ (thePage ∷ []))) (replicate 9 (result 0)))
+    ∷ (2, answered sdr1 (map (mapTo sdr1 2) (others ++ (thePage ∷ []))) (replicate 9 (result done)))
     ∷ (2, stored sdr1 (map (mapTo sdr1 2) (others ++ (thePage ∷ []))) secondary (0x86380E43 ∷ 0x12345012 ∷ replicate 14 0))
     ∷ (
       3,
-      answered sdr1 (mapTo sdr1 2 thePage ∷ store sdr1 ∷ look sdr1 thePage blank ∷ [])
-          (result 0 ∷ fourWords 0 0x1234501B 2 0x00FFA01B ∷ fourWords 0 0x12345192 0 0 ∷ []),
+      answered sdr1 (mapTo sdr1 2 thePage ∷ storing sdr1 ∷ toLook sdr1 thePage blank ∷ [])
+          (result done ∷ fourWords done 0x1234501B 2 0x00FFA01B ∷ fourWords done 0x12345192 0 0 ∷ []),
     )
-    ∷ (3, stored sdr1 (mapTo sdr1 2 thePage ∷ store sdr1 ∷ []) primary (0x86380E03 ∷ 0x12345192 ∷ replicate 14 0))
+    ∷ (3, stored sdr1 (mapTo sdr1 2 thePage ∷ storing sdr1 ∷ []) primary (0x86380E03 ∷ 0x12345192 ∷ replicate 14 0))
     ∷ (
       4,
-      answered sdr1 (mapTo sdr1 3 thePage ∷ store sdr1 ∷ look sdr1 thePage blank ∷ [])
-          (result 0 ∷ fourWords 64 0x0A000000 0x300 0x00FFA01B ∷ fourWords 0 0x12345013 0 0 ∷ []),
+      answered sdr1 (mapTo sdr1 3 thePage ∷ storing sdr1 ∷ toLook sdr1 thePage blank ∷ [])
+          (result done ∷ fourWords dataStorageFault 0x0A000000 0x300 0x00FFA01B ∷ fourWords done 0x12345013 0 0 ∷ []),
     )
-    ∷ (4, stored sdr1 (mapTo sdr1 3 thePage ∷ store sdr1 ∷ []) primary (0x86380E03 ∷ 0x12345013 ∷ replicate 14 0))
-    ∷ (5, answered sdr1 (store sdr1 ∷ []) (fourWords 64 0x42000000 0x300 0x00FFA01B ∷ []))
+    ∷ (4, stored sdr1 (mapTo sdr1 3 thePage ∷ storing sdr1 ∷ []) primary (0x86380E03 ∷ 0x12345013 ∷ replicate 14 0))
+    ∷ (5, answered sdr1 (storing sdr1 ∷ []) (fourWords dataStorageFault 0x42000000 0x300 0x00FFA01B ∷ []))
     ∷ []
 
 abbrev pub case6 : List Row
@@ -151,27 +152,27 @@ case6 =
 -- under an SDR1 of wrong shape: clear, map and access, and the check of a register page with it
 abbrev pub case7 : ℕ → List Row
 case7 sdr1 =
-    (7, refused (clear sdr1) 2)
-    ∷ (7, refused (mapTo sdr1 2 thePage) 2)
-    ∷ (7, refused (store sdr1) 2)
-    ∷ (7, computes (checkCall (registerPage sdr1 0 0 0)) 2)
+    (7, refused (toClear sdr1) refusedSdr1)
+    ∷ (7, refused (mapTo sdr1 2 thePage) refusedSdr1)
+    ∷ (7, refused (storing sdr1) refusedSdr1)
+    ∷ (7, computes (checkCall (registerPage sdr1 0 0 0)) refusedSdr1)
     ∷ []
 
 -- an address outside the block goes by its segment, and its page has no match; BL 2 is refused by access and by check
 abbrev pub cases8to10 : ℕ → List Row
 cases8to10 sdr1 =
-    (8, answered sdr1 (load sdr1 0x80001FFE 0x10000002 0x8FFFFFFF ∷ []) (fourWords 0 0x1FFFFFFF 0 0x8FFFFFFF ∷ []))
-    ∷ (8, answered sdr1 (load sdr1 0x80001FFE 0x10000002 0x90000000 ∷ []) (fourWords 64 0x40000000 0x300 0x90000000 ∷ []))
-    ∷ (9, answered sdr1 (load sdr1 0x00000002 0x10000002 0x0001FFFF ∷ []) (fourWords 0 0x1001FFFF 0 0x0001FFFF ∷ []))
-    ∷ (9, answered sdr1 (load sdr1 0x00000002 0x10000002 0x00020000 ∷ []) (fourWords 64 0x40000000 0x300 0x00020000 ∷ []))
-    ∷ (10, refused (load sdr1 0x0000000A 0x10000002 0) 3)
-    ∷ (10, computes (checkCall (registerPage sdr1 0 0x0000000A 0x10000002)) 3)
+    (8, answered sdr1 (loading sdr1 0x80001FFE 0x10000002 0x8FFFFFFF ∷ []) (fourWords done 0x1FFFFFFF 0 0x8FFFFFFF ∷ []))
+    ∷ (8, answered sdr1 (loading sdr1 0x80001FFE 0x10000002 0x90000000 ∷ []) (fourWords dataStorageFault 0x40000000 0x300 0x90000000 ∷ []))
+    ∷ (9, answered sdr1 (loading sdr1 0x00000002 0x10000002 0x0001FFFF ∷ []) (fourWords done 0x1001FFFF 0 0x0001FFFF ∷ []))
+    ∷ (9, answered sdr1 (loading sdr1 0x00000002 0x10000002 0x00020000 ∷ []) (fourWords dataStorageFault 0x40000000 0x300 0x00020000 ∷ []))
+    ∷ (10, refused (loading sdr1 0x0000000A 0x10000002 0) refusedBlock)
+    ∷ (10, computes (checkCall (registerPage sdr1 0 0x0000000A 0x10000002)) refusedBlock)
     ∷ []
 
 -- the sixteen map, two more do not; and what the two groups then hold, eight entries each with V = 1, in the secondary group with H = 1
 abbrev pub case11 : List Row
 case11 =
-    (11, answered 0 (sixteenMaps ++ (mapTo 0 2 oneMore ∷ mapTo 0 2 exchanged ∷ [])) (replicate 16 (result 0) ++ (result 9 ∷ result 9 ∷ [])))
+    (11, answered 0 (sixteenMaps ++ (mapTo 0 2 oneMore ∷ mapTo 0 2 exchanged ∷ [])) (replicate 16 (result done) ++ (result refusedFull ∷ result refusedFull ∷ [])))
     ∷ (
       11,
       stored 0 sixteenMaps 0
@@ -196,13 +197,13 @@ case11 =
 abbrev pub freed : Page → Page → Row
 freed page one = (
   12,
-  answered 0 (sixteenMaps ++ (unmap 0 one blank ∷ mapTo 0 2 page ∷ [])) (replicate 16 (result 0) ++ (fourWords 0 0x12345012 0 0 ∷ result 0 ∷ [])),
+  answered 0 (sixteenMaps ++ (toUnmap 0 one blank ∷ mapTo 0 2 page ∷ [])) (replicate 16 (result done) ++ (fourWords done 0x12345012 0 0 ∷ result done ∷ [])),
 )
 
 abbrev pub case12 : Page → List Row
 case12 page = map (freed page) sixteen
 
--- the twelve cases, under each SDR1 that the paper names
+-- the twelve cases, under each SDR1 that they name
 pub record TwelveCases : Type 0 where
   pub hold : Each AllHold (
       case1

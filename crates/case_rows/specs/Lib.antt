@@ -1,2 +1,2 @@
--- The twelve cases of document 01.
+-- The twelve cases (rules 9).
 pub mod Cases

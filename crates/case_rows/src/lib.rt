@@ -1,1 +1,1 @@
-// No code: document 01's twelve cases as rows under one proposition, which the checker shows to follow from the definitions.
+// No code: the twelve cases (rules 9) as rows under one proposition, which the checker shows to follow from the definitions.

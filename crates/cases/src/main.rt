@@ -1,4 +1,4 @@
-// The twelve cases of document 01, run on the exported calls: a line a case, its number and `ok` or `bad`.
+// The twelve cases (rules 9), run on the exported calls: a line a case, its number and `ok` or `bad`.
 // The table of SDR1 0F980000 has 65,536 bytes, and so has that of SDR1 0.
 use libc::STDOUT_FILENO;
 ghost use Prim.Native.Nat.{_+_, _^_, _≤_, _<_};

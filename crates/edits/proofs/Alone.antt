@@ -7,16 +7,16 @@ use Prim.Native.Nat.{ℕ, _+_, _*_, _≤_, _<_}
 use lib.ListN.{length}
 use Rattle.tables.specs.Matches.{Match}
 use Rattle.groups.specs.Group.{groupOf, onGroup, firstAt, firstOf, putAt}
-use Rattle.matches.specs.Search.{matchesOf, placeOf, summary, found}
-use Rattle.edits.specs.Edit.{edited, editMatches, overwriteEach}
+use Rattle.matches.specs.Search.{pairMatches, placeOf, summary, found}
+use Rattle.edits.specs.Edit.{edited, editMatches, putEach}
 use Rattle.edits.specs.declared.Edit.{Edit}
-use Rattle.matches.specs.declared.Search.{Search}
+use Rattle.matches.specs.declared.Summary.{Summary}
 use Rattle.edits.proofs.Edits.{edit-both-each}
 use Rattle.matches.proofs.Matches.{match-words}
-use Rattle.matches.proofs.Summary.{Summarised, summarised, found-some, alone}
+use Rattle.matches.proofs.Summaries.{Summarised, summarised, found-some, alone}
 
 module _ (edit : Edit) (vsid api : ℕ) (group : Bool → ℕ) (t : List ℕ) (inside : (b : Bool) → 64 * group b + 64 ≤ length t) (apart : group true ≢ group false)
-    (s : Search) (is : s ≡ summary (matchesOf vsid api (groupOf t (group false)) (groupOf t (group true)))) where
+    (s : Summary) (is : s ≡ summary (pairMatches vsid api (groupOf t (group false)) (groupOf t (group true)))) where
   -- the one match, and its entry
   pub record Alone : Type 0 where
     pub match : Match
@@ -28,9 +28,9 @@ module _ (edit : Edit) (vsid api : ℕ) (group : Bool → ℕ) (t : List ℕ) (i
         ≡ putAt t (group (match .secondary)) (match .entry) (edited edit match .0) (edited edit match .1)
 
   pub edit-alone : found s ≡ true → s .several ≡ false → Alone
-  unfolding overwriteEach firstOf
+  unfolding putEach firstOf
   edit-alone some-found single =
-      let ms = matchesOf vsid api (groupOf t (group false)) (groupOf t (group true)) in
+      let ms = pairMatches vsid api (groupOf t (group false)) (groupOf t (group true)) in
       let some = found-some ms (ap found (sym is) ∙ some-found) in
       let m = some .0 in
       let rest = some .1 .0 in
@@ -44,7 +44,7 @@ module _ (edit : Edit) (vsid api : ℕ) (group : Bool → ℕ) (t : List ℕ) (i
         entry-lt = own .0;
         first = first-of m (own .1);
         second = sym (told .second);
-        edits = edit-both-each edit vsid api group t inside apart ∙ ap (λ (l : List Match). overwriteEach group (edited edit) l t) only;
+        edits = edit-both-each edit vsid api group t inside apart ∙ ap (λ (l : List Match). putEach group (edited edit) l t) only;
       }
     where
       first-of : (m : Match) → m .first ≡ firstAt (cond (m .secondary) (groupOf t (group true)) (groupOf t (group false))) (m .entry)

@@ -10,8 +10,8 @@ use Rattle.words.proofs.Words.{Bytes}
 use Rattle.entry.proofs.Marks.{withPP-lt}
 use Rattle.tables.specs.Matches.{Match}
 use Rattle.groups.specs.Group.{groupOf, onGroup, firstAt, secondAt, putEntry, putAt}
-use Rattle.matches.specs.Search.{matchesIn, matchesOf}
-use Rattle.edits.specs.Edit.{EditFits, edited, editEach, editMatches, overwriteEach}
+use Rattle.matches.specs.Search.{groupMatches, pairMatches}
+use Rattle.edits.specs.Edit.{EditFits, edited, editEach, editMatches, putEach}
 use Rattle.edits.specs.declared.Edit.{Edit}
 use Rattle.edits.specs.declared.Edit.the-variants.{Clear, Protect}
 use Rattle.groups.proofs.Group.{length-group, put-same, group-other, length-on, on-on}
@@ -63,8 +63,8 @@ module _ (edit : Edit) where
 
   -- edits of matches that stand in one group are writes of entries in the table
   edits-in-table : (group : Bool → ℕ) (b : Bool) (ms : List Match) (t : List ℕ) → 64 * group b + 64 ≤ length t
-      → ((m : Match) → List·Memᴰ m ms → m .secondary ≡ b) → onGroup t (group b) (editEach edit ms) ≡ overwriteEach group (edited edit) ms t
-  unfolding editEach overwriteEach onGroup putAt
+      → ((m : Match) → List·Memᴰ m ms → m .secondary ≡ b) → onGroup t (group b) (editEach edit ms) ≡ putEach group (edited edit) ms t
+  unfolding editEach putEach onGroup putAt
   edits-in-table group b [] t inside side = put-same t (group b)
   edits-in-table group b (m ∷ ms) t inside side =
       let u = edited edit m .0 in
@@ -72,7 +72,7 @@ module _ (edit : Edit) where
       let next = putAt t (group b) (m .entry) u v in
       sym (on-on t (group b) (λ x. putEntry x (m .entry) u v) (editEach edit ms) inside (λ x. length-entry x (m .entry) u v))
       ∙ edits-in-table group b ms next (rw (stored-length t (group b) (m .entry) u v inside) inside) (λ x k. side x (List·Memᴰ·tail k))
-      ∙ ap (λ (c : Bool). overwriteEach group (edited edit) ms (putAt t (group c) (m .entry) u v)) (sym (side m (List·Memᴰ·head refl)))
+      ∙ ap (λ (c : Bool). putEach group (edited edit) ms (putAt t (group c) (m .entry) u v)) (sym (side m (List·Memᴰ·head refl)))
 
   pub length-edit-matches : (b : Bool) (vsid api : ℕ) (group : List ℕ) → length (editMatches edit b vsid api group) ≡ length group
   unfolding editMatches
@@ -84,24 +84,24 @@ module _ (edit : Edit) where
 
 module _ (edit : Edit) (vsid api : ℕ) (group : Bool → ℕ) where
   edit-one : (b : Bool) (t : List ℕ) → 64 * group b + 64 ≤ length t
-      → onGroup t (group b) (editMatches edit b vsid api) ≡ overwriteEach group (edited edit) (matchesIn b vsid api (groupOf t (group b))) t
+      → onGroup t (group b) (editMatches edit b vsid api) ≡ putEach group (edited edit) (groupMatches b vsid api (groupOf t (group b))) t
   unfolding onGroup editMatches
   edit-one b t inside =
-      edits-in-table edit group b (matchesIn b vsid api (groupOf t (group b))) t inside
+      edits-in-table edit group b (groupMatches b vsid api (groupOf t (group b))) t inside
       (λ m h. ap (λ (x : Match). x .secondary) (match-in b vsid api (groupOf t (group b)) m h .is-entry))
 
   -- the edit of a page's primary group, then of its secondary, is one pass over the page's matches in search order
   pub edit-both-each : (t : List ℕ) → ((b : Bool) → 64 * group b + 64 ≤ length t) → group true ≢ group false
       → onGroup (onGroup t (group false) (editMatches edit false vsid api)) (group true) (editMatches edit true vsid api)
-      ≡ overwriteEach group (edited edit) (matchesOf vsid api (groupOf t (group false)) (groupOf t (group true))) t
-  unfolding overwriteEach matchesOf onGroup
+      ≡ putEach group (edited edit) (pairMatches vsid api (groupOf t (group false)) (groupOf t (group true))) t
+  unfolding putEach pairMatches onGroup
   edit-both-each t inside apart =
       let whole = length-edit-matches edit false vsid api (groupOf t (group false)) ∙ length-group t (group false) (inside false) in
       let next = onGroup t (group false) (editMatches edit false vsid api) in
       let kept : length next ≡ length t = length-on t (group false) (editMatches edit false vsid api) (inside false) whole in
       let same : groupOf next (group true) ≡ groupOf t (group true) = group-other t (group false) (editMatches edit false vsid api (groupOf t (group false))) (inside false) whole (group true) apart in
-      let first = matchesIn false vsid api (groupOf t (group false)) in
-      let second = matchesIn true vsid api (groupOf t (group true)) in
+      let first = groupMatches false vsid api (groupOf t (group false)) in
+      let second = groupMatches true vsid api (groupOf t (group true)) in
       edit-one true next (rw kept (inside true))
-      ∙ ap₂ (λ (b u : List ℕ). overwriteEach group (edited edit) (matchesIn true vsid api b) u) same (edit-one false t (inside false))
+      ∙ ap₂ (λ (b u : List ℕ). putEach group (edited edit) (groupMatches true vsid api b) u) same (edit-one false t (inside false))
       ∙ sym (foldl-append (λ (u : List ℕ) (m : Match). putAt u (group (m .secondary)) (m .entry) (edited edit m .0) (edited edit m .1)) t first second)

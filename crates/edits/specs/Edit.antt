@@ -1,11 +1,11 @@
--- What unmap and protect do to each match of a page (document 01, "Page calls").
+-- What unmap and protect do to each match of a page (rules 6).
 use Prim.Native.Nat.{ℕ, _^_, _<_}
 use mathlib.Core.Bool.{Bool}
 use mathlib.Core.List.{List, foldl}
 use Rattle.entry.specs.Entry.{withPP}
 use Rattle.tables.specs.Matches.{Match}
 use Rattle.groups.specs.Group.{putEntry, putAt}
-use Rattle.matches.specs.Search.{matchesIn}
+use Rattle.matches.specs.Search.{groupMatches}
 use Rattle.edits.specs.declared.Edit.{Edit}
 use Rattle.edits.specs.declared.Edit.the-variants.{Clear, Protect}
 
@@ -28,8 +28,8 @@ editEach edit ms group = foldl (λ b m. putEntry b (m .entry) (edited edit m .0)
 
 -- a group with each of its own matches edited
 unfoldable pub editMatches : Edit → Bool → ℕ → ℕ → List ℕ → List ℕ
-editMatches edit secondary vsid api group = editEach edit (matchesIn secondary vsid api group) group
+editMatches edit secondary vsid api group = editEach edit (groupMatches secondary vsid api group) group
 
 -- a table with each match of a list replaced by two words of it; `group` tells the number of a page's primary or secondary group
-unfoldable pub overwriteEach : (Bool → ℕ) → (Match → ℕ × ℕ) → List Match → List ℕ → List ℕ
-overwriteEach group words ms t = foldl (λ u m. putAt u (group (m .secondary)) (m .entry) (words m .0) (words m .1)) t ms
+unfoldable pub putEach : (Bool → ℕ) → (Match → ℕ × ℕ) → List Match → List ℕ → List ℕ
+putEach group words ms t = foldl (λ u m. putAt u (group (m .secondary)) (m .entry) (words m .0) (words m .1)) t ms

@@ -3,8 +3,9 @@ ghost use mathlib.Core.Path.{_≡_};
 ghost use mathlib.Core.Bool.{true, false};
 ghost use Prim.Native.Nat.{_+_, _*_, _<_, _≤_, _^_};
 ghost use lib.ListN.{length};
+ghost use Rattle.numbers.specs.Numbers.{groupSize};
 ghost use Rattle.groups.specs.Group.{groupOf, onGroup};
-ghost use Rattle.matches.specs.Search.{matchesOf, summary, found};
+ghost use Rattle.matches.specs.Search.{pairMatches, summary, found};
 ghost use Rattle.edits.specs.Edit.{EditFits, editedWords, editMatches};
 
 // What is done to each match: eight zero bytes, or another PP.
@@ -32,14 +33,18 @@ pub fn edited_words(edit: Edit, first: u32, second: u32) -> entry::Words
 
 // Edits each match of one group.
 pub fn edit_group(group: &mut [u8], secondary: bool, vsid: u32, api: u32, edit: Edit)
-    requires { ⌜ (EditFits edit) × (length (now group) ≡ 64) × (vsid < 2 ^ 24) × (api < 2 ^ 6) ⌝ }
+    requires { ⌜ (EditFits edit) × (length (now group) ≡ groupSize) × (vsid < 2 ^ 24) × (api < 2 ^ 6) ⌝ }
     ensures { λ _. ⌜ now (group .exit) ≡ editMatches edit secondary vsid api (now (group .entry)) ⌝ }
 {
     let wanted = entry::match_word(vsid, secondary as u32, api);
-    for i in 0..8 {
-        if words::is_word(group, 8 * i, wanted) {
-            let first = words::read_word(group, 8 * i);
-            let made = edited_words(edit, first, words::read_word(group, 8 * i + 4));
+    for i in 0..numbers::GROUP_ENTRIES {
+        if words::is_word(group, numbers::ENTRY_SIZE * i, wanted) {
+            let first = words::read_word(group, numbers::ENTRY_SIZE * i);
+            let made = edited_words(
+                edit,
+                first,
+                words::read_word(group, numbers::ENTRY_SIZE * i + 4),
+            );
             groups::write_entry(group, i, made.first, made.second);
         }
     }
@@ -54,15 +59,15 @@ pub fn edit_both(
     api: u32,
     edit: Edit,
 )
-    requires { ⌜ (EditFits edit) × (64 * primary + 64 ≤ length (now table)) × (64 * secondary + 64 ≤ length (now table))
+    requires { ⌜ (EditFits edit) × (groupSize * primary + groupSize ≤ length (now table)) × (groupSize * secondary + groupSize ≤ length (now table))
         × (vsid < 2 ^ 24) × (api < 2 ^ 6) ⌝ }
     ensures { λ _. ⌜ now (table .exit) ≡ onGroup (onGroup (now (table .entry)) primary (editMatches edit false vsid api)) secondary (editMatches edit true vsid api) ⌝ }
 {
-    let from = primary * 64;
-    let to = from + 64;
+    let from = primary * numbers::GROUP_SIZE;
+    let to = from + numbers::GROUP_SIZE;
     edit_group(&mut table[from..to], false, vsid, api, edit);
-    let next = secondary * 64;
-    let end = next + 64;
+    let next = secondary * numbers::GROUP_SIZE;
+    let end = next + numbers::GROUP_SIZE;
     edit_group(&mut table[next..end], true, vsid, api, edit);
 }
 
@@ -73,12 +78,12 @@ pub fn edit_found(
     secondary: usize,
     vsid: u32,
     api: u32,
-    search: matches::Search,
+    search: matches::Summary,
     edit: Edit,
 )
-    requires { ⌜ (EditFits edit) × (64 * primary + 64 ≤ length (now table)) × (64 * secondary + 64 ≤ length (now table))
+    requires { ⌜ (EditFits edit) × (groupSize * primary + groupSize ≤ length (now table)) × (groupSize * secondary + groupSize ≤ length (now table))
         × (vsid < 2 ^ 24) × (api < 2 ^ 6) × (primary ≡ secondary → ⊥) × (found search ≡ true)
-        × (search ≡ summary (matchesOf vsid api (groupOf (now table) primary) (groupOf (now table) secondary))) ⌝ }
+        × (search ≡ summary (pairMatches vsid api (groupOf (now table) primary) (groupOf (now table) secondary))) ⌝ }
     ensures { λ _. ⌜ now (table .exit) ≡ onGroup (onGroup (now (table .entry)) primary (editMatches edit false vsid api)) secondary (editMatches edit true vsid api) ⌝ }
 {
     if search.several {

@@ -5,4 +5,5 @@ pub mod Matches
 pub mod Marks
 pub mod Addresses
 pub mod RoundTrip
+pub mod Computes
 pub mod Tables

@@ -1,11 +1,10 @@
 -- Every row of the tables of an entry holds: both sides compute to the same.
 use mathlib.Core.Path.{refl}
-use Rattle.entry.specs.Entry.{firstWord, secondWord, ignoredBits, withinWidths, packed, unpacked, matches, free}
-use Rattle.entry.specs.Entry.{pageIndex, apiOf, referenced, changed, withMarks, withPP, physicalAddress}
 use Rattle.entry.specs.Tables.{EntryTables}
+use Rattle.entry.proofs.Computes.{entry-computes}
 
 pub entry-tables : EntryTables
-unfolding firstWord secondWord ignoredBits withinWidths packed unpacked matches free pageIndex apiOf referenced changed withMarks withPP physicalAddress
+unfolding entry-computes
 entry-tables = record {
   case-2 = (refl, refl);
   places = (refl, refl, refl, refl, refl, refl, refl, refl, refl);
@@ -19,4 +18,9 @@ entry-tables = record {
   protection = (refl, refl, refl);
   physical = (refl, refl, refl);
   page = (refl, refl, refl, refl, refl, refl);
+  page-bits = record { equal = refl };
+  bit-tests = record { equal = refl };
+  one-bit-off = record { equal = refl };
+  change-bits = record { equal = refl };
+  physical-bits = record { equal = refl };
 }

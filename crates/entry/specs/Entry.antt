@@ -1,8 +1,9 @@
--- A page table entry, as document 01 lays it out under "Entries and groups": two words, the fields in them, and what is read and changed there.
+-- A page table entry (rules 4): two words, the fields in them, and what is read and changed there.
 use Prim.Native.Nat.{ℕ, _+_, _/_, _^_}
 use mathlib.Core.Bool.{Bool, cond, _&&_}
 use mathlib.Core.List.{List, [], _∷_}
 use lib.Dec.{eqb, ltb}
+use Rattle.numbers.specs.Numbers.{done, refusedArgument}
 use Rattle.words.specs.Bits.{bits, placed, withBits}
 use Rattle.entry.specs.declared.Fields.{Fields}
 
@@ -24,9 +25,9 @@ withinWidths f =
     ltb (f .v) (2 ^ 1) && ltb (f .vsid) (2 ^ 24) && ltb (f .h) (2 ^ 1) && ltb (f .api) (2 ^ 6)
     && ltb (f .rpn) (2 ^ 20) && ltb (f .r) (2 ^ 1) && ltb (f .c) (2 ^ 1) && ltb (f .wimg) (2 ^ 4) && ltb (f .pp) (2 ^ 2)
 
--- packing: 0 and the two words of fields each within its width; else 6 and zero words
+-- packing: done and the two words of fields each within its width; else a refused argument and zero words
 unfoldable pub packed : Fields → ℕ × (ℕ × ℕ)
-packed f = cond (withinWidths f) (0, (firstWord (f .v) (f .vsid) (f .h) (f .api), secondWord (f .rpn) (f .r) (f .c) (f .wimg) (f .pp))) (6, (0, 0))
+packed f = cond (withinWidths f) (done, (firstWord (f .v) (f .vsid) (f .h) (f .api), secondWord (f .rpn) (f .r) (f .c) (f .wimg) (f .pp))) (refusedArgument, (0, 0))
 
 -- the fields of a second word that an access reads
 abbrev pub rpnOf : ℕ → ℕ

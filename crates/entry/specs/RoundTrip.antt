@@ -1,4 +1,4 @@
--- What document 01 says of packing and unpacking an entry, for all fields and words.
+-- What the rules (4) say of packing and unpacking an entry, for all fields and words.
 use Prim.Native.Nat.{ℕ, _^_, _<_}
 use mathlib.Core.Bool.{true, false}
 use mathlib.Core.List.{[], _∷_}

@@ -1,13 +1,17 @@
--- Worked examples of an entry's definitions, each row closed by computation: document 01's cases 2 and 3, and every field's place and limits.
-use Prim.Native.Nat.{ℕ}
+-- Worked examples of an entry's definitions, each row closed by computation: cases 2 and 3 (rules 9), every field's place and limits, and for
+-- what reads or changes a word each bit of it by itself.
+use Prim.Native.Nat.{ℕ, _+_, _-_}
 use mathlib.Core.Bool.{true, false}
-use mathlib.Core.List.{[], _∷_}
+use mathlib.Core.List.{[], _∷_, _++_, map}
 use mathlib.Core.Path.{_≡_}
+use lib.Bits.{bitXor}
+use lib.ListN.{replicate, take}
+use Rattle.words.specs.Rows.{Hold, powers, eachBit, allButEach, onlyAt, notAt, fieldOfEach, fieldOfAllBut}
 use Rattle.entry.specs.declared.Fields.{Fields}
 use Rattle.entry.specs.Entry.{ignoredBits, packed, unpacked, matches, free, pageIndex, apiOf}
 use Rattle.entry.specs.Entry.{referenced, changed, withMarks, withPP, physicalAddress}
 
--- fields in document 01's order
+-- fields in the order of the rules
 abbrev pub fields : ℕ → ℕ → ℕ → ℕ → ℕ → ℕ → ℕ → ℕ → ℕ → Fields
 fields v vsid h api rpn r c wimg pp =
     record { v = v; vsid = vsid; h = h; api = api; rpn = rpn; r = r; c = c; wimg = wimg; pp = pp }
@@ -94,3 +98,40 @@ pub record EntryTables : Type 0 where
       × (pageIndex 0x0FFFF000 ≡ 0xFFFF)
       × (apiOf 0x03FF ≡ 0)
       × (apiOf 0xFFFF ≡ 63)
+  -- the page index is address bits 4 to 19, and the API its six highest
+  pub page-bits : Hold (
+      (map pageIndex eachBit, fieldOfEach 4 19)
+      ∷ (map pageIndex allButEach, fieldOfAllBut 4 19)
+      ∷ (map apiOf (powers 16), powers 6 ++ replicate 10 0)
+      ∷ []
+      )
+  -- V alone makes an entry used; R is bit 23 and C bit 24
+  pub bit-tests : Hold (
+      (map free eachBit, notAt 0 0)
+      ∷ (map free allButEach, onlyAt 0 0)
+      ∷ (map referenced eachBit, onlyAt 23 23)
+      ∷ (map referenced allButEach, notAt 23 23)
+      ∷ (map changed eachBit, onlyAt 24 24)
+      ∷ (map changed allButEach, notAt 24 24)
+      ∷ []
+      )
+  -- a first word that differs from a match in one bit is none, whichever bit it is
+  pub one-bit-off : Hold ((map (λ bit. matches 0x0C701C 0 3 (bitXor 0x86380E03 bit)) eachBit, replicate 32 false) ∷ [])
+  -- R, C or both set, another PP: every other bit is kept, one or zero
+  pub change-bits : Hold (
+      (map (withMarks true false) eachBit, map (λ bit. bit + 0x100) (take 23 eachBit) ++ (0x100 ∷ map (λ bit. bit + 0x100) (powers 8)))
+      ∷ (map (withMarks false true) eachBit, map (λ bit. bit + 0x80) (take 24 eachBit) ++ (0x80 ∷ map (λ bit. bit + 0x80) (powers 7)))
+      ∷ (map (withMarks false false) eachBit, eachBit)
+      ∷ (map (withMarks true false) allButEach, take 23 allButEach ++ (0xFFFFFFFF ∷ map (λ bit. 0xFFFFFFFF - bit) (powers 8)))
+      ∷ (map (withMarks false true) allButEach, take 24 allButEach ++ (0xFFFFFFFF ∷ map (λ bit. 0xFFFFFFFF - bit) (powers 7)))
+      ∷ (map (withPP 0) eachBit, take 30 eachBit ++ (0 ∷ 0 ∷ []))
+      ∷ (map (withPP 3) allButEach, take 30 allButEach ++ (0xFFFFFFFF ∷ 0xFFFFFFFF ∷ []))
+      ∷ (map (λ pp. withPP pp 0) (0 ∷ 1 ∷ 2 ∷ 3 ∷ []), 0 ∷ 1 ∷ 2 ∷ 3 ∷ [])
+      ∷ []
+      )
+  -- the frame is bits 0 to 19 of the second word, the byte in the page bits 20 to 31 of the address
+  pub physical-bits : Hold (
+      (map (λ second. physicalAddress second 0) eachBit, take 20 eachBit ++ replicate 12 0)
+      ∷ (map (λ address. physicalAddress 0 address) eachBit, replicate 20 0 ++ powers 12)
+      ∷ []
+      )

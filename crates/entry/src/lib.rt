@@ -24,7 +24,7 @@ pub struct Words {
     pub second: u32,
 }
 
-// What packing answers: 0 and the words, or 6 and zero words where a field is past its width.
+// What packing answers: done and the words, or a refused argument and zero words where a field is past its width.
 pub struct Packed {
     pub result: u32,
     pub words: Words,
@@ -67,7 +67,7 @@ pub fn pack(f: Fields) -> Packed
 {
     if within_widths(f) {
         Packed {
-            result: 0,
+            result: numbers::DONE,
             words: Words {
                 first: first_word(f.v, f.vsid, f.h, f.api),
                 second: second_word(f.rpn, f.r, f.c, f.wimg, f.pp),
@@ -75,7 +75,7 @@ pub fn pack(f: Fields) -> Packed
         }
     } else {
         Packed {
-            result: 6,
+            result: numbers::REFUSED_ARGUMENT,
             words: Words {
                 first: 0,
                 second: 0,

@@ -5,4 +5,5 @@ pub mod Entries
 pub mod Stored
 pub mod Lent
 pub mod Free
+pub mod Computes
 pub mod Tables

@@ -1,22 +1,23 @@
--- A table as its groups, and a group as its eight entries of 8 bytes (document 01, "Entries and groups").
+-- A table as its groups, and a group as its eight entries of 8 bytes (rules 4).
 use Prim.Native.Nat.{ℕ, _+_, _*_}
 use mathlib.Core.Bool.{Bool, true, false, cond}
 use mathlib.Core.List.{List, _++_}
 use lib.Dec.{ltb}
 use lib.ListN.{take, drop}
+use Rattle.numbers.specs.Numbers.{groupSize, entrySize, groupEntries}
 use Rattle.words.specs.Below.{firstBelow}
 use Rattle.words.specs.Words.{wordAt, withWord}
 use Rattle.entry.specs.Entry.{free}
 use Rattle.groups.specs.declared.Place.{Place}
 use Rattle.groups.specs.declared.Place.the-variants.{Entry, Full}
 
--- group g of a table: the 64 bytes from byte 64 × g on
+-- group g of a table: its 64 bytes from byte 64 × g on
 unfoldable pub groupOf : List ℕ → ℕ → List ℕ
-groupOf t g = take 64 (drop (64 * g) t)
+groupOf t g = take groupSize (drop (groupSize * g) t)
 
 -- the table t with the 64 bytes b as its group g
 unfoldable pub putGroup : List ℕ → ℕ → List ℕ → List ℕ
-putGroup t g b = take (64 * g) t ++ (b ++ drop (64 * g + 64) t)
+putGroup t g b = take (groupSize * g) t ++ (b ++ drop (groupSize * g + groupSize) t)
 
 -- the table with f done to its group g
 unfoldable pub onGroup : List ℕ → ℕ → (List ℕ → List ℕ) → List ℕ
@@ -24,29 +25,29 @@ onGroup t g f = putGroup t g (f (groupOf t g))
 
 -- the first and the second word of entry i of a group
 unfoldable pub firstAt : List ℕ → ℕ → ℕ
-firstAt group i = wordAt group (8 * i)
+firstAt group i = wordAt group (entrySize * i)
 
 unfoldable pub secondAt : List ℕ → ℕ → ℕ
-secondAt group i = wordAt group (8 * i + 4)
+secondAt group i = wordAt group (entrySize * i + 4)
 
 -- a group with two words as its entry i
 unfoldable pub putEntry : List ℕ → ℕ → ℕ → ℕ → List ℕ
-putEntry group i first second = withWord (withWord group (8 * i) first) (8 * i + 4) second
+putEntry group i first second = withWord (withWord group (entrySize * i) first) (entrySize * i + 4) second
 
 -- entry i of a group is free: V = 0
-unfoldable pub freeAt : List ℕ → ℕ → Bool
-freeAt group i = free (firstAt group i)
+unfoldable pub entryFree : List ℕ → ℕ → Bool
+entryFree group i = free (firstAt group i)
 
 -- the first free entry of a group, or 8 where none is free
-unfoldable pub freeEntry : List ℕ → ℕ
-freeEntry group = firstBelow 8 (freeAt group)
+unfoldable pub firstFree : List ℕ → ℕ
+firstFree group = firstBelow groupEntries (entryFree group)
 
 -- the first free entry in search order, primary entries 0 to 7, then secondary, given the bytes of both groups
-unfoldable pub freePlace : List ℕ → List ℕ → Place
-freePlace primary secondary =
-    let i = freeEntry primary in
-    let j = freeEntry secondary in
-    cond (ltb i 8) (Entry false i) (cond (ltb j 8) (Entry true j) Full)
+unfoldable pub firstFreePlace : List ℕ → List ℕ → Place
+firstFreePlace primary secondary =
+    let i = firstFree primary in
+    let j = firstFree secondary in
+    cond (ltb i groupEntries) (Entry false i) (cond (ltb j groupEntries) (Entry true j) Full)
 
 -- the words of entry i of a table's group g, and the table with two words as that entry
 unfoldable pub firstOf : List ℕ → ℕ → ℕ → ℕ

@@ -1,4 +1,4 @@
--- The hash of a page and its two groups (document 01, "Entries and groups"), for any number n of hash bits that name a group.
+-- The hash of a page and its two groups (rules 4), for any number n of hash bits that name a group.
 use Prim.Native.Nat.{ℕ, _+_, _-_, _*_, _%_, _^_}
 use mathlib.Core.Bool.{Bool, cond}
 use lib.Bits.{bitXor}

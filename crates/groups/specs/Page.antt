@@ -1,4 +1,4 @@
--- A virtual page, as document 01 names it: a VSID and a page index.
+-- A virtual page (rules 4): a VSID and a page index.
 use Prim.Native.Nat.{ℕ, _^_, _<_}
 use mathlib.Core.Bool.{Bool, _&&_}
 use lib.Dec.{eqb}

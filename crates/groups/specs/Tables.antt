@@ -1,16 +1,16 @@
--- Worked examples of hash, groups and free entries, each row closed by computation: document 01's cases 1, 6 and 11, the manual's group addresses,
+-- Worked examples of hash, groups and free entries, each row closed by computation: cases 1, 6 and 11 (rules 9), the manual's group addresses,
 -- and a group of 64 bytes with used and free entries.
-use Prim.Native.Nat.{ℕ, _^_}
+use Prim.Native.Nat.{ℕ, _-_, _^_}
 use mathlib.Core.Bool.{true, false}
 use mathlib.Core.List.{List, [], _∷_, _++_, map}
 use mathlib.Core.Path.{_≡_}
 use lib.ListN.{replicate}
-use Rattle.words.specs.Rows.{Hold}
+use Rattle.words.specs.Rows.{Hold, powers}
 use Rattle.words.specs.Words.{bytesOf}
 use Rattle.register_words.specs.Sdr1.{hashBits}
 use Rattle.groups.specs.Page.{Page, samePage}
-use Rattle.groups.specs.Hash.{hashOf, groupNumber, groupAddress}
-use Rattle.groups.specs.Group.{groupOf, firstOf, secondOf, putAt, freePlace}
+use Rattle.groups.specs.Hash.{hashOf, groupsOf, groupNumber, groupAddress}
+use Rattle.groups.specs.Group.{groupOf, firstOf, secondOf, putAt, firstFreePlace}
 use Rattle.groups.specs.declared.Place.the-variants.{Entry, Full}
 
 abbrev pub page : ℕ → ℕ → Page
@@ -74,6 +74,22 @@ pub record GroupsTables : Type 0 where
       ∷ (groupNumber 19 true (page 0x0C701C 0x0FFA), 0x38019)
       ∷ []
       )
+  -- both groups of a hash, at each number of hash bits' ends; the complement is in n bits
+  pub both-groups : Hold (
+      (groupsOf 10 0x47FE6, record { primary = 0x3E6; secondary = 0x019 })
+      ∷ (groupsOf 13 0x47FE6, record { primary = 0x1FE6; secondary = 0x0019 })
+      ∷ (groupsOf 19 0x47FE6, record { primary = 0x47FE6; secondary = 0x38019 })
+      ∷ (groupsOf 10 0, record { primary = 0; secondary = 0x3FF })
+      ∷ (groupsOf 19 0x7FFFF, record { primary = 0x7FFFF; secondary = 0 })
+      ∷ []
+      )
+  -- each bit of the VSID and of the page index by itself
+  pub hash-bits : Hold (
+      (map (λ vsid. hashOf vsid 0) (powers 24), replicate 5 0 ++ powers 19)
+      ∷ (map (hashOf 0) (powers 16), powers 16)
+      ∷ (map (hashOf 0x7FFFF) (powers 16), map (λ bit. 0x7FFFF - bit) (powers 16))
+      ∷ []
+      )
   pub pages : Hold (
       (samePage (page 1 2) (page 1 2), true)
       ∷ (samePage (page 1 2) (page 3 2), false)
@@ -82,13 +98,13 @@ pub record GroupsTables : Type 0 where
       )
   -- the first free entry: of the primary group, of the secondary where the primary is full, or none
   pub free-places : Hold (
-      (freePlace example last, Entry false 2)
-      ∷ (freePlace last example, Entry false 7)
-      ∷ (freePlace full example, Entry true 2)
-      ∷ (freePlace full last, Entry true 7)
-      ∷ (freePlace (replicate 64 0) example, Entry false 0)
-      ∷ (freePlace full (replicate 64 0), Entry true 0)
-      ∷ (freePlace full full, Full)
+      (firstFreePlace example last, Entry false 2)
+      ∷ (firstFreePlace last example, Entry false 7)
+      ∷ (firstFreePlace full example, Entry true 2)
+      ∷ (firstFreePlace full last, Entry true 7)
+      ∷ (firstFreePlace (replicate 64 0) example, Entry false 0)
+      ∷ (firstFreePlace full (replicate 64 0), Entry true 0)
+      ∷ (firstFreePlace full full, Full)
       ∷ []
       )
   -- groups of a table, and an entry put in one
@@ -96,6 +112,9 @@ pub record GroupsTables : Type 0 where
       (groupOf (example ++ full ++ last) 1, full)
       ∷ (groupOf (example ++ full ++ last) 2, last)
       ∷ (putAt (example ++ full ++ full) 2 7 0x7FFFFFFF 0xFFFFFFFF, example ++ full ++ last)
+      ∷ (putAt (example ++ full ++ example) 1 7 0x7FFFFFFF 0xFFFFFFFF, example ++ last ++ example)
+      ∷ (putAt (full ++ last ++ example) 0 7 0x7FFFFFFF 0xFFFFFFFF, last ++ last ++ example)
+      ∷ (putAt (full ++ full) 0 0 0 0, replicate 8 0 ++ replicate 120 255)
       ∷ []
       )
   pub words : Hold (

@@ -3,9 +3,10 @@ ghost use mathlib.Core.Path.{_≡_};
 ghost use mathlib.Core.Bool.{true};
 ghost use Prim.Native.Nat.{ℕ, _+_, _-_, _*_, _<_, _≤_, _^_};
 ghost use lib.ListN.{length, replicate};
+ghost use Rattle.numbers.specs.Numbers.{groupSize, groupEntries};
 ghost use Rattle.register_words.specs.Sdr1.{sdr1Shape, hashBits};
 ghost use Rattle.groups.specs.Hash.{hashOf, groupsOf, groupAddress};
-ghost use Rattle.groups.specs.Group.{groupOf, firstOf, putEntry, putAt, freePlace};
+ghost use Rattle.groups.specs.Group.{groupOf, firstOf, putEntry, putAt, firstFreePlace};
 
 // The numbers of the two groups of a hash.
 pub struct Groups {
@@ -46,15 +47,15 @@ pub enum Place {
 
 // The first free entry in search order. The search ends there.
 pub fn find_free(table: &[u8], primary: usize, secondary: usize) -> Place
-    requires { ⌜ (64 * primary + 64 ≤ length (now table)) × (64 * secondary + 64 ≤ length (now table)) ⌝ }
-    ensures { λ r. ⌜ r ≡ freePlace (groupOf (now (table .entry)) primary) (groupOf (now (table .entry)) secondary) ⌝ }
+    requires { ⌜ (groupSize * primary + groupSize ≤ length (now table)) × (groupSize * secondary + groupSize ≤ length (now table)) ⌝ }
+    ensures { λ r. ⌜ r ≡ firstFreePlace (groupOf (now (table .entry)) primary) (groupOf (now (table .entry)) secondary) ⌝ }
 {
     let mut found = Place::Full;
     'search: for h in 0..2u32 {
         let group = if h == 0 { primary } else { secondary };
-        let from = group * 64;
-        for entry in 0..8 {
-            if entry::is_free(words::read_word(table, from + 8 * entry)) {
+        let from = group * numbers::GROUP_SIZE;
+        for entry in 0..numbers::GROUP_ENTRIES {
+            if entry::is_free(words::read_word(table, from + numbers::ENTRY_SIZE * entry)) {
                 found = Place::Entry(h == 1, entry);
                 break 'search;
             }
@@ -65,29 +66,32 @@ pub fn find_free(table: &[u8], primary: usize, secondary: usize) -> Place
 
 // Writes two words as an entry of the one group that it is handed.
 pub fn write_entry(group: &mut [u8], entry: usize, first: u32, second: u32)
-    requires { ⌜ (entry < 8) × (length (now group) ≡ 64) ⌝ }
+    requires { ⌜ (entry < groupEntries) × (length (now group) ≡ groupSize) ⌝ }
     ensures { λ _. ⌜ now (group .exit) ≡ putEntry (now (group .entry)) entry first second ⌝ }
 {
-    words::write_word(group, 8 * entry, first);
-    words::write_word(group, 8 * entry + 4, second);
+    words::write_word(group, numbers::ENTRY_SIZE * entry, first);
+    words::write_word(group, numbers::ENTRY_SIZE * entry + 4, second);
 }
 
 // Writes two words as an entry of a group of the table: the entry writer is lent the group's 64 bytes.
 pub fn put_entry(table: &mut [u8], group: usize, entry: usize, first: u32, second: u32)
-    requires { ⌜ (entry < 8) × (64 * group + 64 ≤ length (now table)) ⌝ }
+    requires { ⌜ (entry < groupEntries) × (groupSize * group + groupSize ≤ length (now table)) ⌝ }
     ensures { λ _. ⌜ now (table .exit) ≡ putAt (now (table .entry)) group entry first second ⌝ }
 {
-    let from = group * 64;
-    let to = from + 64;
+    let from = group * numbers::GROUP_SIZE;
+    let to = from + numbers::GROUP_SIZE;
     write_entry(&mut table[from..to], entry, first, second);
 }
 
 // Writes a second word into an entry of a group of the table. The first word is written back as it stands.
 pub fn put_second(table: &mut [u8], group: usize, entry: usize, second: u32)
-    requires { ⌜ (entry < 8) × (64 * group + 64 ≤ length (now table)) ⌝ }
+    requires { ⌜ (entry < groupEntries) × (groupSize * group + groupSize ≤ length (now table)) ⌝ }
     ensures { λ _. ⌜ now (table .exit) ≡ putAt (now (table .entry)) group entry (firstOf (now (table .entry)) group entry) second ⌝ }
 {
-    let first = words::read_word(table, group * 64 + 8 * entry);
+    let first = words::read_word(
+        table,
+        group * numbers::GROUP_SIZE + numbers::ENTRY_SIZE * entry,
+    );
     put_entry(table, group, entry, first, second);
 }
 

@@ -1,4 +1,5 @@
 -- Laws of a page's matches, for the crates above.
 pub mod Matches
-pub mod Summary
+pub mod Summaries
+pub mod Computes
 pub mod Tables

@@ -16,7 +16,7 @@ use Rattle.tables.specs.Matches.{Match, matchesBelow}
 use Rattle.groups.specs.Page.{Page}
 use Rattle.groups.specs.Hash.{groupNumber}
 use Rattle.groups.specs.Group.{firstAt, secondAt}
-use Rattle.matches.specs.Search.{hOf, matchesIn, matchesOf}
+use Rattle.matches.specs.Search.{hOf, groupMatches, pairMatches}
 use Rattle.groups.proofs.Hash.{one-page}
 
 -- entry i of a group, as a match
@@ -78,17 +78,17 @@ module _ (secondary : Bool) (vsid api : ℕ) (group : List ℕ) where
       last false e k = absurd (List·Memᴰ·not-nil k)
 
 -- each match in a group
-pub match-in : (secondary : Bool) (vsid api : ℕ) (group : List ℕ) (m : Match) → List·Memᴰ m (matchesIn secondary vsid api group) → IsMatch secondary vsid api group 8 m
-unfolding matchesIn
+pub match-in : (secondary : Bool) (vsid api : ℕ) (group : List ℕ) (m : Match) → List·Memᴰ m (groupMatches secondary vsid api group) → IsMatch secondary vsid api group 8 m
+unfolding groupMatches
 match-in secondary vsid api group m h = match-is secondary vsid api group 8 m h
 
 -- each match of both groups is one of the eight entries of its group
-pub match-words : (vsid api : ℕ) (primary secondary : List ℕ) (m : Match) → List·Memᴰ m (matchesOf vsid api primary secondary)
+pub match-words : (vsid api : ℕ) (primary secondary : List ℕ) (m : Match) → List·Memᴰ m (pairMatches vsid api primary secondary)
     → (m .entry < 8) × (m .first ≡ firstAt (cond (m .secondary) secondary primary) (m .entry))
-unfolding matchesOf
+unfolding pairMatches
 match-words vsid api primary secondary m h =
     ⊎-elim (λ k. of false primary refl (match-in false vsid api primary m k)) (λ k. of true secondary refl (match-in true vsid api secondary m k))
-    (List·Memᴰ·append-cases (matchesIn false vsid api primary) h)
+    (List·Memᴰ·append-cases (groupMatches false vsid api primary) h)
   where
     of : (b : Bool) (group : List ℕ) → group ≡ cond b secondary primary → IsMatch b vsid api group 8 m
         → (m .entry < 8) × (m .first ≡ firstAt (cond (m .secondary) secondary primary) (m .entry))

@@ -1,24 +1,25 @@
--- The search for a page's matches (document 01, "Entries and groups"), and what one pass over them tells.
+-- The search for a page's matches (rules 4), and what one pass over them tells.
 use Prim.Native.Nat.{ℕ, _+_, _%_}
 use mathlib.Core.Bool.{Bool, true, false, cond, not, _||_}
 use mathlib.Core.List.{List, [], _∷_, _++_, foldr}
 use lib.Dec.{eqb, leb}
+use Rattle.numbers.specs.Numbers.{groupEntries}
 use Rattle.entry.specs.Entry.{matches, referenced, changed, withMarks}
 use Rattle.tables.specs.Matches.{Match, matchesBelow}
 use Rattle.groups.specs.Group.{firstAt, secondAt}
-use Rattle.matches.specs.declared.Search.{Search}
+use Rattle.matches.specs.declared.Summary.{Summary}
 
 -- H of an entry: 0 in the primary group (false), 1 in the secondary (true)
 abbrev pub hOf : Bool → ℕ
 hOf secondary = cond secondary 1 0
 
 -- the matches in the 64 bytes of a page's primary (false) or secondary (true) group, in order
-unfoldable pub matchesIn : Bool → ℕ → ℕ → List ℕ → List Match
-matchesIn secondary vsid api group = matchesBelow (matches vsid (hOf secondary) api) (firstAt group) (secondAt group) secondary 8
+unfoldable pub groupMatches : Bool → ℕ → ℕ → List ℕ → List Match
+groupMatches secondary vsid api group = matchesBelow (matches vsid (hOf secondary) api) (firstAt group) (secondAt group) secondary groupEntries
 
 -- the matches in search order: primary entries 0 to 7, then secondary, given the bytes of both groups
-unfoldable pub matchesOf : ℕ → ℕ → List ℕ → List ℕ → List Match
-matchesOf vsid api primary secondary = matchesIn false vsid api primary ++ matchesIn true vsid api secondary
+unfoldable pub pairMatches : ℕ → ℕ → List ℕ → List ℕ → List Match
+pairMatches vsid api primary secondary = groupMatches false vsid api primary ++ groupMatches true vsid api secondary
 
 -- the second words of two matches agree: they are equal in every bit
 unfoldable pub agree : ℕ → ℕ → Bool
@@ -46,7 +47,7 @@ placeOf m = cond (m .secondary) 24 16 + m .entry
 
 -- what the search tells of the matches of a list: the first one's place and second word, that word merged with the others' marks, whether there
 -- are others, and whether they contradict
-unfoldable pub summary : List Match → Search
+unfoldable pub summary : List Match → Summary
 summary [] = record { place = 0; second = 0; merged = 0; several = false; differs = false }
 summary (m ∷ ms) = record {
   place = placeOf m;
@@ -57,11 +58,11 @@ summary (m ∷ ms) = record {
 }
 
 -- whether a search found a match, whether the first is in the secondary group, and its entry's number
-unfoldable pub found : Search → Bool
+unfoldable pub found : Summary → Bool
 found s = not (eqb (s .place) 0)
 
-unfoldable pub inSecondary : Search → Bool
+unfoldable pub inSecondary : Summary → Bool
 inSecondary s = leb 24 (s .place)
 
-unfoldable pub entryOf : Search → ℕ
+unfoldable pub entryOf : Summary → ℕ
 entryOf s = s .place % 8

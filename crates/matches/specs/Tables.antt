@@ -1,39 +1,48 @@
--- Worked examples of searches, each row closed by computation: a group of 64 bytes with twins, a match that contradicts and matches of
--- the other H.
+-- Worked examples of searches, each row closed by computation: a group of 64 bytes with duplicate matches, a match that contradicts and matches
+-- of the other H.
 use Prim.Native.Nat.{ℕ}
 use mathlib.Core.Bool.{Bool, true, false}
-use mathlib.Core.List.{[], _∷_}
-use Rattle.words.specs.Rows.{Hold}
+use mathlib.Core.List.{[], _∷_, map}
+use lib.Bits.{bitXor}
+use lib.ListN.{replicate}
+use Rattle.words.specs.Rows.{Hold, eachBit}
 use Rattle.tables.specs.Matches.{Match}
 use Rattle.groups.specs.Tables.{example, full}
-use Rattle.matches.specs.Search.{matchesIn, matchesOf, summary}
-use Rattle.matches.specs.declared.Search.{Search}
+use Rattle.matches.specs.Search.{groupMatches, pairMatches, agree, summary, found, inSecondary, entryOf}
+use Rattle.matches.specs.declared.Summary.{Summary}
 
 abbrev pub matched : Bool → ℕ → ℕ → ℕ → Match
 matched secondary entry first second = record { secondary = secondary; entry = entry; first = first; second = second }
 
 -- what a search tells: place and second word of the first match, that word merged, whether there is a further match, whether one contradicts
-abbrev pub told : ℕ → ℕ → ℕ → Bool → Bool → Search
+abbrev pub told : ℕ → ℕ → ℕ → Bool → Bool → Summary
 told place second merged several differs = record { place = place; second = second; merged = merged; several = several; differs = differs }
 
 pub record MatchesTables : Type 0 where
   -- every match is found, in order, and H tells which
-  pub found : Hold (
-      (matchesIn true 0x0C701C 3 example, matched true 0 0x86380E43 0x12345012 ∷ [])
+  pub all-found : Hold (
+      (groupMatches true 0x0C701C 3 example, matched true 0 0x86380E43 0x12345012 ∷ [])
       ∷ (
-        matchesIn false 0x0C701C 3 example,
+        groupMatches false 0x0C701C 3 example,
         matched false 1 0x86380E03 0x12345E96 ∷ matched false 3 0x86380E03 0x12345E96 ∷ matched false 6 0x86380E03 0x12345112 ∷ [],
       )
-      ∷ (matchesIn false 0x0C701D 3 example, matched false 4 0x86380E83 0x12345E96 ∷ [])
-      ∷ (matchesIn true 0xFFFFFF 63 example, matched true 7 0xFFFFFFFF 0xFFFFFFFF ∷ [])
-      ∷ (matchesIn false 0xFFFFFF 63 example, [])
-      ∷ (matchesIn false 0x0C701C 2 example, [])
+      ∷ (groupMatches false 0x0C701D 3 example, matched false 4 0x86380E83 0x12345E96 ∷ [])
+      ∷ (groupMatches true 0xFFFFFF 63 example, matched true 7 0xFFFFFFFF 0xFFFFFFFF ∷ [])
+      ∷ (groupMatches false 0xFFFFFF 63 example, [])
+      ∷ (groupMatches false 0x0C701C 2 example, [])
       ∷ []
       )
-  -- the first match in search order, its second word with R and C of any, a further one, and one that contradicts; twins do not contradict
+  -- second words that differ in one bit do not agree, whichever bit it is
+  pub agreement : Hold (
+      (map (λ bit. agree 0x12345E96 (bitXor 0x12345E96 bit)) eachBit, replicate 32 false)
+      ∷ (map (λ bit. agree (bitXor 0x12345E96 bit) 0x12345E96) eachBit, replicate 32 false)
+      ∷ (agree 0x12345E96 0x12345E96 ∷ agree 0 0 ∷ agree 0xFFFFFFFF 0xFFFFFFFF ∷ [], true ∷ true ∷ true ∷ [])
+      ∷ []
+      )
+  -- the first match in search order, its second word with R and C of any, a further one, and one that contradicts; equal ones do not contradict
   pub summaries : Hold (
-      (summary (matchesOf 0x0C701C 3 example example), told 17 0x12345E96 0x12345F96 true true)
-      ∷ (summary (matchesOf 0x0C701C 3 full example), told 24 0x12345012 0x12345012 false false)
+      (summary (pairMatches 0x0C701C 3 example example), told 17 0x12345E96 0x12345F96 true true)
+      ∷ (summary (pairMatches 0x0C701C 3 full example), told 24 0x12345012 0x12345012 false false)
       ∷ (summary (matched false 1 0x86380E03 0x12345E96 ∷ matched false 3 0x86380E03 0x12345E96 ∷ []), told 17 0x12345E96 0x12345E96 true false)
       ∷ (summary (matched false 6 0x86380E03 0x12345112 ∷ matched true 0 0x86380E43 0x12345012 ∷ []), told 22 0x12345112 0x12345112 true true)
       ∷ (summary (matched true 0 0x86380E43 0x12345012 ∷ matched true 6 0x86380E43 0x12345E96 ∷ []), told 24 0x12345012 0x12345092 true true)
@@ -41,6 +50,16 @@ pub record MatchesTables : Type 0 where
         summary (matched false 1 0x86380E03 0x12345012 ∷ matched false 2 0x86380E03 0x12345016 ∷ matched true 0 0x86380E43 0x12345012 ∷ []),
         told 17 0x12345012 0x12345012 true true,
       )
-      ∷ (summary (matchesOf 0x0C701C 2 example example), told 0 0 0 false false)
+      ∷ (summary (pairMatches 0x0C701C 2 example example), told 0 0 0 false false)
+      ∷ []
+      )
+  -- what a place tells: a match, its group, its entry's number
+  pub told-places : Hold (
+      (map (λ place. found (told place 0 0 false false)) (0 ∷ 16 ∷ 23 ∷ 24 ∷ 31 ∷ []), false ∷ true ∷ true ∷ true ∷ true ∷ [])
+      ∷ (map (λ place. inSecondary (told place 0 0 false false)) (0 ∷ 16 ∷ 23 ∷ 24 ∷ 31 ∷ []), false ∷ false ∷ false ∷ true ∷ true ∷ [])
+      ∷ []
+      )
+  pub told-entries : Hold (
+      (map (λ place. entryOf (told place 0 0 false false)) (16 ∷ 17 ∷ 20 ∷ 23 ∷ 24 ∷ 25 ∷ 28 ∷ 31 ∷ []), 0 ∷ 1 ∷ 4 ∷ 7 ∷ 0 ∷ 1 ∷ 4 ∷ 7 ∷ [])
       ∷ []
       )

@@ -4,9 +4,10 @@ ghost use mathlib.Core.Bool.{true, false};
 ghost use mathlib.Core.List.{List, [], _∷_, _++_};
 ghost use Prim.Native.Nat.{_+_, _*_, _<_, _≤_, _^_};
 ghost use lib.ListN.{length};
+ghost use Rattle.numbers.specs.Numbers.{groupSize};
 ghost use Rattle.tables.specs.Matches.{Match};
 ghost use Rattle.groups.specs.Group.{groupOf};
-ghost use Rattle.matches.specs.Search.{matchesIn, matchesOf, agree, placeOf, summary, found, inSecondary, entryOf};
+ghost use Rattle.matches.specs.Search.{groupMatches, pairMatches, agree, placeOf, summary, found, inSecondary, entryOf};
 
 // Whether the second words of two matches agree.
 pub fn words_agree(second: u32, other: u32) -> bool
@@ -17,7 +18,7 @@ pub fn words_agree(second: u32, other: u32) -> bool
 
 // What a search tells of a page's matches: the first one's place (0 for none, else its entry's number and 16, or 24 in the secondary group) and
 // second word, that word merged with the marks of the others, whether there are others, and whether an other's second word does not agree.
-pub struct Search {
+pub struct Summary {
     pub place: usize,
     pub second: u32,
     pub merged: u32,
@@ -25,7 +26,7 @@ pub struct Search {
     pub differs: bool,
 }
 
-impl Search {
+impl Summary {
     // Before any match is met.
     pub fn nothing() -> Self
         ensures { λ r. ⌜ r ≡ summary [] ⌝ }
@@ -74,7 +75,7 @@ impl Search {
     }
 
     // The matches of this search, then those of a further one.
-    pub fn then(self, further: Search) -> Self
+    pub fn then(self, further: Summary) -> Self
         ensures { λ r. ⌜ ((ms ns : List Match) → self ≡ summary ms → further ≡ summary ns → r ≡ summary (ms ++ ns)) ⌝ }
     {
         if self.place == 0 {
@@ -96,31 +97,31 @@ impl Search {
 }
 
 // The matches of one group: the primary with H = 0, the secondary with H = 1.
-pub fn search_group(group: &[u8], secondary: bool, vsid: u32, api: u32) -> Search
-    requires { ⌜ (length (now group) ≡ 64) × (vsid < 2 ^ 24) × (api < 2 ^ 6) ⌝ }
-    ensures { λ r. ⌜ r ≡ summary (matchesIn secondary vsid api (now (group .entry))) ⌝ }
+pub fn search_group(group: &[u8], secondary: bool, vsid: u32, api: u32) -> Summary
+    requires { ⌜ (length (now group) ≡ groupSize) × (vsid < 2 ^ 24) × (api < 2 ^ 6) ⌝ }
+    ensures { λ r. ⌜ r ≡ summary (groupMatches secondary vsid api (now (group .entry))) ⌝ }
 {
     let wanted = entry::match_word(vsid, secondary as u32, api);
     let start = if secondary { 24 } else { 16 };
-    let mut search = Search::nothing();
-    for i in 0..8 {
-        if words::is_word(group, 8 * i, wanted) {
-            let second = words::read_word(group, 8 * i + 4);
-            search = search.then(Search::one(start + i, second));
+    let mut search = Summary::nothing();
+    for i in 0..numbers::GROUP_ENTRIES {
+        if words::is_word(group, numbers::ENTRY_SIZE * i, wanted) {
+            let second = words::read_word(group, numbers::ENTRY_SIZE * i + 4);
+            search = search.then(Summary::one(start + i, second));
         }
     }
     search
 }
 
 // The matches of both groups, in search order.
-pub fn search_both(table: &[u8], primary: usize, secondary: usize, vsid: u32, api: u32) -> Search
-    requires { ⌜ (64 * primary + 64 ≤ length (now table)) × (64 * secondary + 64 ≤ length (now table)) × (vsid < 2 ^ 24) × (api < 2 ^ 6) ⌝ }
-    ensures { λ r. ⌜ r ≡ summary (matchesOf vsid api (groupOf (now (table .entry)) primary) (groupOf (now (table .entry)) secondary)) ⌝ }
+pub fn search_both(table: &[u8], primary: usize, secondary: usize, vsid: u32, api: u32) -> Summary
+    requires { ⌜ (groupSize * primary + groupSize ≤ length (now table)) × (groupSize * secondary + groupSize ≤ length (now table)) × (vsid < 2 ^ 24) × (api < 2 ^ 6) ⌝ }
+    ensures { λ r. ⌜ r ≡ summary (pairMatches vsid api (groupOf (now (table .entry)) primary) (groupOf (now (table .entry)) secondary)) ⌝ }
 {
-    let from = primary * 64;
-    let to = from + 64;
+    let from = primary * numbers::GROUP_SIZE;
+    let to = from + numbers::GROUP_SIZE;
     let first = search_group(&table[from..to], false, vsid, api);
-    let next = secondary * 64;
-    let end = next + 64;
+    let next = secondary * numbers::GROUP_SIZE;
+    let end = next + numbers::GROUP_SIZE;
     first.then(search_group(&table[next..end], true, vsid, api))
 }

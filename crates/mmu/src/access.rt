@@ -6,19 +6,25 @@ ghost use Rattle.calls.specs.OnBytes.{ended, onBytes};
 // Translates one access and marks the entry that did it.
 #[no_mangle]
 pub extern "C" fn mmu_access(
-    page: &[u8],
+    registers: &[u8],
     mode: u32,
     kind: u32,
     address: u32,
     table: &mut [u8],
     answer: &mut [u8],
 ) -> u32
-    ensures { λ r. ⌜ ended r (now (table .exit)) (now (answer .exit)) ≡ onBytes (access (now (page .entry)) mode kind address (now (answer .entry))) (now (table .entry)) ⌝ }
+    ensures { λ r. ⌜ ended r (now (table .exit)) (now (answer .exit)) ≡ onBytes (access (record {
+      registers = now (registers .entry);
+      mode = mode;
+      kind = kind;
+      address = address;
+      answer = now (answer .entry);
+    })) (now (table .entry)) ⌝ }
 {
-    if !((page.len() == 132) & (answer.len() == 16)) {
-        return 11;
+    if !((registers.len() == numbers::REGISTERS_SIZE) & (answer.len() == numbers::ANSWER_SIZE)) {
+        return numbers::REFUSED_LENT_LENGTH;
     }
-    let told = table_access::translate(page, mode, kind, address, table);
+    let told = table_access::translate(registers, mode, kind, address, table);
     let four = [told.result, told.address, told.attributes, told.effective];
     words::write_words(answer, &four);
     told.result

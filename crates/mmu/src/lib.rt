@@ -13,30 +13,30 @@ ghost use Rattle.calls.specs.WithoutTable.{checkCall, setRegisterCall, packCall
 
 // Checks a register page.
 #[no_mangle]
-pub extern "C" fn mmu_check(page: &[u8]) -> u32
-    ensures { λ r. ⌜ r ≡ checkCall (now (page .entry)) ⌝ }
+pub extern "C" fn mmu_check(registers: &[u8]) -> u32
+    ensures { λ r. ⌜ r ≡ checkCall (now (registers .entry)) ⌝ }
 {
-    if page.len() != 132 {
-        return 11;
+    if registers.len() != numbers::REGISTERS_SIZE {
+        return numbers::REFUSED_LENT_LENGTH;
     }
     let mut words = [0u32; 33];
-    registers::read_words(page, &mut words);
+    registers::read_words(registers, &mut words);
     registers::check_words(&words)
 }
 
-// Replaces one register word of a page.
+// Replaces one word of a register page.
 #[no_mangle]
-pub extern "C" fn mmu_set_register(page: &mut [u8], number: u32, word: u32) -> u32
-    ensures { λ r. ⌜ (r, now (page .exit)) ≡ setRegisterCall (now (page .entry)) number word ⌝ }
+pub extern "C" fn mmu_set_register(registers: &mut [u8], number: u32, word: u32) -> u32
+    ensures { λ r. ⌜ (r, now (registers .exit)) ≡ setRegisterCall (now (registers .entry)) number word ⌝ }
 {
-    if page.len() != 132 {
-        return 11;
+    if registers.len() != numbers::REGISTERS_SIZE {
+        return numbers::REFUSED_LENT_LENGTH;
     }
-    let set = registers::read_set(page);
+    let set = registers::read_set(registers);
     let replaced = set.with_word(number, word);
     let result = replaced.result;
-    if result == 0 {
-        words::write_word(page, 4 * (number as usize), word);
+    if result == numbers::DONE {
+        words::write_word(registers, 4 * (number as usize), word);
     }
     result
 }
@@ -58,8 +58,8 @@ pub extern "C" fn mmu_pack(
     ensures { λ n. ⌜ (n, now (entry .exit))
         ≡ packCall (record { v = v; vsid = vsid; h = h; api = api; rpn = rpn; r = r; c = c; wimg = wimg; pp = pp }) (now (entry .entry)) ⌝ }
 {
-    if entry.len() != 8 {
-        return 11;
+    if entry.len() != numbers::ENTRY_SIZE {
+        return numbers::REFUSED_LENT_LENGTH;
     }
     let packed = entry::pack(entry::Fields {
         v,
@@ -82,11 +82,11 @@ pub extern "C" fn mmu_pack(
 pub extern "C" fn mmu_unpack(first: u32, second: u32, fields: &mut [u8]) -> u32
     ensures { λ n. ⌜ (n, now (fields .exit)) ≡ unpackCall first second (now (fields .entry)) ⌝ }
 {
-    if fields.len() != 36 {
-        return 11;
+    if fields.len() != numbers::FIELDS_SIZE {
+        return numbers::REFUSED_LENT_LENGTH;
     }
     let f = entry::unpack(first, second);
     let nine = [f.v, f.vsid, f.h, f.api, f.rpn, f.r, f.c, f.wimg, f.pp];
     words::write_words(fields, &nine);
-    0
+    numbers::DONE
 }

@@ -3,15 +3,15 @@ pub mod located;
 
 use located::locate;
 ghost use mathlib.Core.Path.{_≡_};
-ghost use mathlib.Core.Bool.{true, not, _&&_};
+ghost use mathlib.Core.Bool.{true, not};
 ghost use mathlib.Core.List.{[], _∷_};
-ghost use Prim.Native.Nat.{_<_, _^_};
-ghost use lib.Dec.{ltb};
+ghost use Prim.Native.Nat.{ℕ, _<_, _^_};
 ghost use lib.ListN.{length};
+ghost use Rattle.numbers.specs.Numbers.{refusedArgument};
 ghost use Rattle.registers.specs.Rules.{firstBroken};
 ghost use Rattle.register_words.specs.Sdr1.{sdr1Shape, tableLength, maskOnes};
 ghost use Rattle.calls.specs.Request.{mapPage, unmap, protect, look};
-ghost use Rattle.calls.specs.Rules.{pageInRange, writeThroughInhibited, tableRules};
+ghost use Rattle.calls.specs.Rules.{pageInRange, mapInRange, tableRules};
 ghost use Rattle.calls.specs.Answers.{wordAnswer};
 ghost use Rattle.calls.specs.OnBytes.{ended, bytesDo};
 
@@ -30,26 +30,38 @@ pub fn page_in_range(vsid: u32, index: u32) -> bool
 
 // Whether map's arguments are in their ranges, W and I not both one.
 pub fn map_in_range(vsid: u32, index: u32, rpn: u32, wimg: u32, pp: u32) -> bool
-    ensures { λ r. ⌜ r ≡ (pageInRange (record { vsid = vsid; index = index })
-        && ltb rpn (2 ^ 20) && ltb wimg (2 ^ 4) && ltb pp (2 ^ 2) && not (writeThroughInhibited wimg)) ⌝ }
+    ensures { λ r. ⌜ ((sdr1 : ℕ) → r ≡ mapInRange (record { sdr1 = sdr1; page = record { vsid = vsid; index = index }; rpn = rpn; wimg = wimg; pp = pp })) ⌝ }
 {
     page_in_range(vsid, index) & (rpn < 0x100000) & (wimg < 16) & (pp < 4) & (wimg >> 2 != 3)
 }
 
 // The refusal by the arguments' ranges, by SDR1 and by the table's length, in this order, or 0.
 pub fn page_refusal(fits: bool, sdr1: u32, lent: usize) -> u32
-    ensures { λ r. ⌜ r ≡ firstBroken ((not fits, 6) ∷ tableRules sdr1 lent) ⌝ }
+    ensures { λ r. ⌜ r ≡ firstBroken ((not fits, refusedArgument) ∷ tableRules sdr1 lent) ⌝ }
 {
     if !fits {
-        return 6;
+        return numbers::REFUSED_ARGUMENT;
     }
     if !register_words::sdr1_shape(sdr1) {
-        return 2;
+        return numbers::REFUSED_SDR1;
     }
     if lent != register_words::table_length(sdr1) {
-        return 1;
+        return numbers::REFUSED_TABLE_LENGTH;
     }
-    0
+    numbers::DONE
+}
+
+// What unmap and look answer where the arguments refuse them: the number and a zero word; done where they do not.
+pub fn word_refusal(sdr1: u32, vsid: u32, index: u32, lent: usize) -> WordAnswer
+    ensures { λ r. ⌜ r ≡ record {
+      result = firstBroken ((not (pageInRange (record { vsid = vsid; index = index })), refusedArgument) ∷ tableRules sdr1 lent);
+      word = 0;
+    } ⌝ }
+{
+    WordAnswer {
+        result: page_refusal(page_in_range(vsid, index), sdr1, lent),
+        word: 0,
+    }
 }
 
 // Maps a page that has no match: its entry goes into the first free place of its two groups.
@@ -65,21 +77,21 @@ pub fn map_page(
     requires { ⌜ (sdr1Shape sdr1 ≡ true) × (length (now table) ≡ tableLength sdr1)
         × (vsid < 2 ^ 24) × (index < 2 ^ 16) × (rpn < 2 ^ 20) × (wimg < 2 ^ 4) × (pp < 2 ^ 2) ⌝ }
     ensures { λ r. ⌜ ended r (now (table .exit)) []
-        ≡ bytesDo (maskOnes sdr1) (mapPage sdr1 (record { vsid = vsid; index = index }) rpn wimg pp) (now (table .entry)) ⌝ }
+        ≡ bytesDo (maskOnes sdr1) (mapPage (record { sdr1 = sdr1; page = record { vsid = vsid; index = index }; rpn = rpn; wimg = wimg; pp = pp })) (now (table .entry)) ⌝ }
 {
     let at = locate(sdr1, vsid, index);
     let search = matches::search_both(table, at.primary, at.secondary, vsid, at.api);
     if search.found() {
-        return 7;
+        return numbers::REFUSED_MAPPED;
     }
     match groups::find_free(table, at.primary, at.secondary) {
         groups::Place::Entry(secondary, entry) => {
             let first = entry::first_word(1, vsid, secondary as u32, at.api);
             let second = entry::second_word(rpn, 0, 0, wimg, pp);
             groups::put_entry(table, at.group(secondary), entry, first, second);
-            0
+            numbers::DONE
         }
-        groups::Place::Full => 9,
+        groups::Place::Full => numbers::REFUSED_FULL,
     }
 }
 
@@ -87,12 +99,15 @@ pub fn map_page(
 pub fn unmap_page(sdr1: u32, vsid: u32, index: u32, table: &mut [u8]) -> WordAnswer
     requires { ⌜ (sdr1Shape sdr1 ≡ true) × (length (now table) ≡ tableLength sdr1) × (vsid < 2 ^ 24) × (index < 2 ^ 16) ⌝ }
     ensures { λ r. ⌜ ended (r .result) (now (table .exit)) (wordAnswer (r .result) (r .word))
-        ≡ bytesDo (maskOnes sdr1) (unmap sdr1 (record { vsid = vsid; index = index }) []) (now (table .entry)) ⌝ }
+        ≡ bytesDo (maskOnes sdr1) (unmap (record { sdr1 = sdr1; page = record { vsid = vsid; index = index }; answer = [] })) (now (table .entry)) ⌝ }
 {
     let at = locate(sdr1, vsid, index);
     let search = matches::search_both(table, at.primary, at.secondary, vsid, at.api);
     if !search.found() {
-        return WordAnswer { result: 8, word: 0 };
+        return WordAnswer {
+            result: numbers::REFUSED_NO_MATCH,
+            word: 0,
+        };
     }
     edits::edit_found(
         table,
@@ -104,7 +119,7 @@ pub fn unmap_page(sdr1: u32, vsid: u32, index: u32, table: &mut [u8]) -> WordAns
         edits::Edit::Clear,
     );
     WordAnswer {
-        result: 0,
+        result: numbers::DONE,
         word: search.merged,
     }
 }
@@ -113,12 +128,12 @@ pub fn unmap_page(sdr1: u32, vsid: u32, index: u32, table: &mut [u8]) -> WordAns
 pub fn protect_page(sdr1: u32, vsid: u32, index: u32, pp: u32, table: &mut [u8]) -> u32
     requires { ⌜ (sdr1Shape sdr1 ≡ true) × (length (now table) ≡ tableLength sdr1) × (vsid < 2 ^ 24) × (index < 2 ^ 16) × (pp < 2 ^ 2) ⌝ }
     ensures { λ r. ⌜ ended r (now (table .exit)) []
-        ≡ bytesDo (maskOnes sdr1) (protect sdr1 (record { vsid = vsid; index = index }) pp) (now (table .entry)) ⌝ }
+        ≡ bytesDo (maskOnes sdr1) (protect (record { sdr1 = sdr1; page = record { vsid = vsid; index = index }; pp = pp })) (now (table .entry)) ⌝ }
 {
     let at = locate(sdr1, vsid, index);
     let search = matches::search_both(table, at.primary, at.secondary, vsid, at.api);
     if !search.found() {
-        return 8;
+        return numbers::REFUSED_NO_MATCH;
     }
     edits::edit_found(
         table,
@@ -129,28 +144,31 @@ pub fn protect_page(sdr1: u32, vsid: u32, index: u32, pp: u32, table: &mut [u8])
         search,
         edits::Edit::Protect(pp),
     );
-    0
+    numbers::DONE
 }
 
 // Looks a page up.
 pub fn look_page(sdr1: u32, vsid: u32, index: u32, table: &[u8]) -> WordAnswer
     requires { ⌜ (sdr1Shape sdr1 ≡ true) × (length (now table) ≡ tableLength sdr1) × (vsid < 2 ^ 24) × (index < 2 ^ 16) ⌝ }
     ensures { λ r. ⌜ ended (r .result) (now (table .entry)) (wordAnswer (r .result) (r .word))
-        ≡ bytesDo (maskOnes sdr1) (look sdr1 (record { vsid = vsid; index = index }) []) (now (table .entry)) ⌝ }
+        ≡ bytesDo (maskOnes sdr1) (look (record { sdr1 = sdr1; page = record { vsid = vsid; index = index }; answer = [] })) (now (table .entry)) ⌝ }
 {
     let at = locate(sdr1, vsid, index);
     let search = matches::search_both(table, at.primary, at.secondary, vsid, at.api);
     if !search.found() {
-        return WordAnswer { result: 8, word: 0 };
+        return WordAnswer {
+            result: numbers::REFUSED_NO_MATCH,
+            word: 0,
+        };
     }
     if search.differs {
         return WordAnswer {
-            result: 10,
+            result: numbers::REFUSED_CONTRADICTION,
             word: 0,
         };
     }
     WordAnswer {
-        result: 0,
+        result: numbers::DONE,
         word: search.second,
     }
 }

@@ -2,7 +2,7 @@
 pub mod Lists
 pub mod Perm
 pub mod Decision
-pub mod FourGroups
+pub mod Tables
 pub mod FiniteMap
 pub mod Pairs
 pub mod Arrangements

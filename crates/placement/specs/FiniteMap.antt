@@ -1,10 +1,8 @@
--- The plain finite map (document 01): an association list from pages to their fields. A page is mapped while it is in it.
-use mathlib.Core.Path.{_≡_, refl}
+-- The plain finite map (rules 8): an association list from pages to their fields. A page is mapped while it is in it.
+use mathlib.Core.Path.{_≡_}
 use mathlib.Core.Bool.{Bool, not, cond}
 use mathlib.Core.List.{List, [], _∷_, map}
-use mathlib.Core.Option.{Option, none, some, Option·some-ne-none}
-use Prim.Native.Nat.{ℕ, _+_}
-use lib.Dec.{eqb}
+use mathlib.Core.Option.{Option, none, some}
 use Rattle.placement.specs.Lists.{selected}
 
 module _ {P F : Type 0} where
@@ -34,24 +32,3 @@ module _ {P F : Type 0} (same : P → P → Bool) where
   abbrev pub NoPageTwice : List (P × F) → Type 0
   NoPageTwice [] = Unit {0}
   NoPageTwice (x ∷ m) = (fieldsAt (x .0) m ≡ none) × NoPageTwice m
-
--- By computation: three pages that are numbers, then page 4 put in, page 2 taken out, page 2 revised.
-abbrev three : List (ℕ × ℕ)
-three = (1, 10) ∷ (2, 20) ∷ (3, 30) ∷ []
-
-abbrev changes : List (List (ℕ × ℕ))
-changes = three ∷ putIn 4 40 three ∷ takeOut eqb 2 three ∷ revise eqb 2 (λ f. f + 1) three ∷ []
-
-fields-rows : map (λ m. map (λ p. fieldsAt eqb p m) (1 ∷ 2 ∷ 3 ∷ 4 ∷ [])) changes
-    ≡ (some 10 ∷ some 20 ∷ some 30 ∷ none ∷ [])
-    ∷ (some 10 ∷ some 20 ∷ some 30 ∷ some 40 ∷ [])
-    ∷ (some 10 ∷ none ∷ some 30 ∷ none ∷ [])
-    ∷ (some 10 ∷ some 21 ∷ some 30 ∷ none ∷ []) ∷ []
-fields-rows = refl
-
-pages-rows : map mappedPages changes ≡ (1 ∷ 2 ∷ 3 ∷ []) ∷ (4 ∷ 1 ∷ 2 ∷ 3 ∷ []) ∷ (1 ∷ 3 ∷ []) ∷ (1 ∷ 2 ∷ 3 ∷ []) ∷ []
-pages-rows = refl
-
--- page 2 put in again is there twice
-twice : NoPageTwice eqb (putIn 2 40 three) → ⊥
-twice h = Option·some-ne-none 20 (h .0)

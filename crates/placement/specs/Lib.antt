@@ -3,3 +3,4 @@ pub mod Lists
 pub mod Placement
 pub mod Pairs
 pub mod FiniteMap
+pub mod Tables

@@ -1,4 +1,4 @@
--- Arrangements of pages in groups (document 01, "the plain finite map"), over any page type, any hash and any number of entries in a group.
+-- Arrangements of pages in groups (rules 8), over any page type, any hash and any number of entries in a group.
 use mathlib.Core.Bool.{Bool}
 use mathlib.Core.List.{List, [], _∷_}
 use Prim.Native.Nat.{ℕ, _+_, _≤_}
@@ -18,7 +18,7 @@ module _ {P : Type 0} (group : Bool → P → ℕ) where
   timesChosen g (p ∷ ps) c = oneIf (eqb (group (c .0) p) g) + timesChosen g ps (c .1)
 
   -- An arrangement chooses, for each page of the list, its primary or its secondary group, no group more often than it has entries:
-  -- `capacity` is the number of entries in a group, eight in document 01.
+  -- `capacity` is the number of entries in a group, eight in our tables.
   pub record Arrangement (capacity : ℕ) (ps : List P) : Type 0 where
     pub choice : Choices ps
     pub fits : (g : ℕ) → timesChosen g ps choice ≤ capacity

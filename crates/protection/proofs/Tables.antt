@@ -1,12 +1,10 @@
 -- Every row of the tables of protection and faults holds: both sides compute to the same.
 use mathlib.Core.Path.{refl}
-use Rattle.protection.specs.Access.{userMode, fetching, storing, relocated, sideOf}
-use Rattle.protection.specs.Protection.{pageReadable, pageWritable, pageAllows, blockAllows, guarded}
-use Rattle.protection.specs.Fault.{causeWord, faultOf}
 use Rattle.protection.specs.Tables.{ProtectionTables}
+use Rattle.protection.proofs.Computes.{protection-computes}
 
 pub protection-tables : ProtectionTables
-unfolding userMode fetching storing relocated sideOf pageReadable pageWritable pageAllows blockAllows guarded causeWord faultOf
+unfolding protection-computes
 protection-tables = record {
   privilege = record { equal = refl };
   relocation = record { equal = refl };

@@ -1,7 +1,8 @@
--- The mode and the kind of an access (document 01, "One access"): mode 0 to 7, kind 0 fetch, 1 load, 2 store.
+-- The mode and the kind of an access (rules 5): mode 0 to 7, kind 0 fetch, 1 load, 2 store.
 use Prim.Native.Nat.{ℕ, _/_, _%_}
 use mathlib.Core.Bool.{Bool, cond, not}
 use lib.Dec.{eqb}
+use Rattle.numbers.specs.Numbers.{fetch, store}
 
 -- PR, 4 of the mode, is on: the access is the user's, else the supervisor's
 unfoldable pub userMode : ℕ → Bool
@@ -9,11 +10,11 @@ userMode mode = eqb (mode / 4 % 2) 1
 
 -- a fetch
 unfoldable pub fetching : ℕ → Bool
-fetching kind = eqb kind 0
+fetching kind = eqb kind fetch
 
 -- a store
 unfoldable pub storing : ℕ → Bool
-storing kind = eqb kind 2
+storing kind = eqb kind store
 
 -- the access is translated: IR, 2 of the mode, is on for a fetch, or DR, 1 of the mode, for data
 unfoldable pub relocated : ℕ → ℕ → Bool

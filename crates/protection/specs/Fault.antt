@@ -1,7 +1,8 @@
--- Storage faults: "The fault word is a sum by cause" (document 01, "One access").
+-- Storage faults: "The fault word is a sum by cause" (rules 5).
 use Prim.Native.Nat.{ℕ, _+_}
 use mathlib.Core.Bool.{cond}
 use lib.Dec.{eqb}
+use Rattle.numbers.specs.Numbers.{dataStorageFault, instructionStorageFault}
 use Rattle.protection.specs.Access.{fetching, storing}
 use Rattle.protection.specs.declared.Fault.{Fault}
 
@@ -19,10 +20,10 @@ protection = 2
 unfoldable pub causeWord : ℕ → ℕ
 causeWord cause = cond (eqb cause noMatch) 0x40000000 (cond (eqb cause noFetch) 0x10000000 0x08000000)
 
--- a fetch meets an instruction storage fault, 65 at 0x400, a load or a store a data storage fault, 64 at 0x300; a store has its own part of the word
+-- a fetch meets an instruction storage fault, at 0x400, a load or a store a data storage fault, at 0x300; a store has its own part of the word
 unfoldable pub faultOf : ℕ → ℕ → Fault
 faultOf cause kind = record {
-  result = cond (fetching kind) 65 64;
+  result = cond (fetching kind) instructionStorageFault dataStorageFault;
   word = causeWord cause + cond (storing kind) 0x02000000 0;
   offset = cond (fetching kind) 0x400 0x300;
 }

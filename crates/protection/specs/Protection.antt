@@ -1,4 +1,4 @@
--- Protection: what PP allows in a page and in a block (document 01, steps 2 and 6), and guarded storage (step 5). A fetch needs the right to read.
+-- Protection: what PP allows in a page and in a block (rules 5, steps 2 and 6), and guarded storage (step 5). A fetch needs the right to read.
 use Prim.Native.Nat.{ℕ, _%_}
 use mathlib.Core.Bool.{Bool, cond, not, _&&_}
 use lib.Dec.{eqb}

@@ -1,5 +1,5 @@
 -- Tables that pin mode and kind, protection and fault words, each complete and closed by computation. The stated sides are those of
--- document 01 and of document 004's tables 7-8, 7-15 and 7-16.
+-- the rules and of the manual's tables 7-8, 7-15 and 7-16.
 use Prim.Native.Nat.{ℕ}
 use mathlib.Core.Bool.{Bool, true, false}
 use mathlib.Core.List.{List, [], _∷_, map}
@@ -13,7 +13,7 @@ use Rattle.protection.specs.declared.Fault.{Fault}
 abbrev pub byKind : {A : Type 0} → (ℕ → A) → List A
 byKind f = f 0 ∷ f 1 ∷ f 2 ∷ []
 
--- the accesses allowed, in the words of document 004's tables
+-- the accesses allowed, in the words of the manual's tables
 abbrev pub noAccess : List Bool
 noAccess = false ∷ false ∷ false ∷ []
 

@@ -5,11 +5,6 @@ ghost use Rattle.protection.specs.Access.{relocated};
 ghost use Rattle.protection.specs.Protection.{pageAllows, blockAllows};
 ghost use Rattle.protection.specs.Fault.{faultOf};
 
-// The kinds of access that the steps tell apart: a fetch, and a store; a load is 1.
-pub const FETCH: u32 = 0;
-
-pub const STORE: u32 = 2;
-
 // The causes of a fault: no match, N or G, protection.
 pub const NO_MATCH: u32 = 0;
 
@@ -28,7 +23,7 @@ pub struct Fault {
 pub fn is_relocated(mode: u32, kind: u32) -> bool
     ensures { λ r. ⌜ r ≡ relocated mode kind ⌝ }
 {
-    if kind == FETCH {
+    if kind == numbers::FETCH {
         (mode >> 1) & 1 == 1
     } else {
         mode & 1 == 1
@@ -50,7 +45,7 @@ pub fn key_of(user: bool, segment: u32) -> bool
 pub fn page_allows(key: bool, pp: u32, kind: u32) -> bool
     ensures { λ r. ⌜ r ≡ pageAllows key pp kind ⌝ }
 {
-    if kind == STORE {
+    if kind == numbers::STORE {
         if key { pp == 2 } else { pp != 3 }
     } else {
         !(key & (pp == 0))
@@ -61,7 +56,11 @@ pub fn page_allows(key: bool, pp: u32, kind: u32) -> bool
 pub fn block_allows(pp: u32, kind: u32) -> bool
     ensures { λ r. ⌜ r ≡ blockAllows pp kind ⌝ }
 {
-    if kind == STORE { pp == 2 } else { pp != 0 }
+    if kind == numbers::STORE {
+        pp == 2
+    } else {
+        pp != 0
+    }
 }
 
 // A fault by its three words.
@@ -81,19 +80,19 @@ pub fn fault_of(cause: u32, kind: u32) -> Fault
 {
     match cause {
         NO_MATCH => match kind {
-            FETCH => fault_with(65, 0x40000000, 0x400),
-            STORE => fault_with(64, 0x42000000, 0x300),
-            _ => fault_with(64, 0x40000000, 0x300),
+            numbers::FETCH => fault_with(numbers::INSTRUCTION_STORAGE_FAULT, 0x40000000, 0x400),
+            numbers::STORE => fault_with(numbers::DATA_STORAGE_FAULT, 0x42000000, 0x300),
+            _ => fault_with(numbers::DATA_STORAGE_FAULT, 0x40000000, 0x300),
         },
         NO_FETCH => match kind {
-            FETCH => fault_with(65, 0x10000000, 0x400),
-            STORE => fault_with(64, 0x12000000, 0x300),
-            _ => fault_with(64, 0x10000000, 0x300),
+            numbers::FETCH => fault_with(numbers::INSTRUCTION_STORAGE_FAULT, 0x10000000, 0x400),
+            numbers::STORE => fault_with(numbers::DATA_STORAGE_FAULT, 0x12000000, 0x300),
+            _ => fault_with(numbers::DATA_STORAGE_FAULT, 0x10000000, 0x300),
         },
         _ => match kind {
-            FETCH => fault_with(65, 0x08000000, 0x400),
-            STORE => fault_with(64, 0x0A000000, 0x300),
-            _ => fault_with(64, 0x08000000, 0x300),
+            numbers::FETCH => fault_with(numbers::INSTRUCTION_STORAGE_FAULT, 0x08000000, 0x400),
+            numbers::STORE => fault_with(numbers::DATA_STORAGE_FAULT, 0x0A000000, 0x300),
+            _ => fault_with(numbers::DATA_STORAGE_FAULT, 0x08000000, 0x300),
         },
     }
 }

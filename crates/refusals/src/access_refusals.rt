@@ -1,4 +1,4 @@
-// Each refusal of an access, and each two that can hold together, in document 01's order. A refusal leaves the whole table and, of the
+// Each refusal of an access, and each two that can hold together, in the order of the rules (7). A refusal leaves the whole table and, of the
 // answer, the number and three zero words (11: the answer too).
 use report::lent::BAD_BLOCK;
 use report::lent::BAD_SDR1;
@@ -128,7 +128,7 @@ fn real(kind: u32, sdr1: u32, segment: u32, first: u32, second: u32) -> u32 {
 // The refusals alone.
 pub fn alone() {
     let good = page_of(SDR1, SEGMENT, OFF, OFF);
-    // Access: each refusal alone: 11 (short and long page, short and long answer), 6 (mode, kind), 2, 3, 4, 5, 1 (short and long table), 10 (load, store, fetch). Source: document 01, table of causes.
+    // Access: each refusal alone: 11 (short and long page, short and long answer), 6 (mode, kind), 2, 3, 4, 5, 1 (short and long table), 10 (load, store, fetch). Source: rules 7.
     line(415, access(Scene::Mapped, SHORT_PAGE, 1, 1, good) == 11);
     line(416, access(Scene::Mapped, LONG_PAGE, 1, 1, good) == 11);
     line(417, access(Scene::Mapped, SHORT_ANSWER, 1, 1, good) == 11);
@@ -155,7 +155,7 @@ pub fn numbers_first() {
     let three = page_of(SDR1, SEGMENT, BAD_BLOCK, OFF);
     let four = page_of(SDR1, SEGMENT, OFF, SHARED);
     let five = page_of(SDR1, BAD_SEGMENT, OFF, OFF);
-    // Access: 11 before 6, 2, 3, 4, 5, 1, 10. Source: document 01, order of refusals.
+    // Access: 11 before 6, 2, 3, 4, 5, 1, 10. Source: rules 7.
     line(432, access(Scene::Mapped, SHORT_PAGE, 8, 1, good) == 11);
     line(433, access(Scene::Mapped, SHORT_ANSWER, 1, 1, two) == 11);
     line(434, access(Scene::Mapped, SHORT_PAGE, 1, 1, three) == 11);
@@ -169,7 +169,7 @@ pub fn numbers_first() {
         438,
         access(Scene::Contradicting, SHORT_ANSWER, 1, 1, good) == 11,
     );
-    // Access: 6 before 2, 3, 4, 5, 1, 10. Source: document 01, order of refusals.
+    // Access: 6 before 2, 3, 4, 5, 1, 10. Source: rules 7.
     line(439, access(Scene::Mapped, RIGHT, 8, 1, two) == 6);
     line(440, access(Scene::Mapped, RIGHT, 1, 3, three) == 6);
     line(441, access(Scene::Mapped, RIGHT, 8, 1, four) == 6);
@@ -184,18 +184,18 @@ pub fn registers_next() {
     let three = page_of(SDR1, SEGMENT, BAD_BLOCK, OFF);
     let four = page_of(SDR1, SEGMENT, OFF, SHARED);
     let five = page_of(SDR1, BAD_SEGMENT, OFF, OFF);
-    // Access: 2 before 3, 4, 5, 1, 10. Source: document 01, order of refusals.
+    // Access: 2 before 3, 4, 5, 1, 10. Source: rules 7.
     line(445, load(BAD_SDR1, SEGMENT, BAD_BLOCK, OFF) == 2);
     line(446, load(BAD_SDR1, SEGMENT, OFF, SHARED) == 2);
     line(447, load(BAD_SDR1, BAD_SEGMENT, OFF, OFF) == 2);
     line(448, access(Scene::Mapped, SHORT_TABLE, 1, 1, two) == 2);
     line(449, access(Scene::Contradicting, RIGHT, 1, 1, two) == 2);
-    // Access: 3 before 4, 5, 1, 10. Source: document 01, order of refusals.
+    // Access: 3 before 4, 5, 1, 10. Source: rules 7.
     line(450, load(SDR1, SEGMENT, BAD_BLOCK, SHARED) == 3);
     line(451, load(SDR1, BAD_SEGMENT, BAD_BLOCK, OFF) == 3);
     line(452, access(Scene::Mapped, SHORT_TABLE, 1, 1, three) == 3);
     line(453, access(Scene::Contradicting, RIGHT, 1, 1, three) == 3);
-    // Access: 4 before 5, 1, 10; 5 before 1, 10; 1 before 10. Source: document 01, order of refusals.
+    // Access: 4 before 5, 1, 10; 5 before 1, 10; 1 before 10. Source: rules 7.
     line(454, load(SDR1, BAD_SEGMENT, OFF, SHARED) == 4);
     line(455, access(Scene::Mapped, SHORT_TABLE, 1, 1, four) == 4);
     line(456, access(Scene::Contradicting, RIGHT, 1, 1, four) == 4);
@@ -217,7 +217,7 @@ pub fn registers_next() {
 // The register page and the table's length are judged in every mode and also where a block would do the access.
 pub fn every_mode() {
     let five = page_of(SDR1, BAD_SEGMENT, OFF, OFF);
-    // Access: refusals 2, 3, 4, 5 and 1 also in real mode. Source: document 01, order of refusals.
+    // Access: refusals 2, 3, 4, 5 and 1 also in real mode. Source: rules 7.
     line(460, real(1, BAD_SDR1, SEGMENT, OFF, OFF) == 2);
     line(461, real(2, SDR1, SEGMENT, BAD_BLOCK, OFF) == 3);
     line(462, real(0, SDR1, SEGMENT, OFF, SHARED) == 4);

@@ -49,7 +49,7 @@ fn run_readings() {
     readings::fields_of_match();
     readings::contradicting_1();
     readings::contradicting_2();
-    readings::twins_used();
+    readings::duplicates_used();
     readings::merged();
     readings::ignored();
     readings::map_places();

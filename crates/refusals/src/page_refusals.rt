@@ -1,4 +1,4 @@
-// Each refusal of clear, map, unmap, protect and look, and each two that can hold together, in document 01's order. A refusal leaves the
+// Each refusal of clear, map, unmap, protect and look, and each two that can hold together, in the order of the rules (7). A refusal leaves the
 // whole table and, of an answer, the number and three zero words (11: the answer too).
 use report::lent::BAD_SDR1;
 use report::lent::INDEX;
@@ -33,10 +33,10 @@ fn clear_done(sdr1: u32) -> bool {
 
 // The clear's refusals.
 pub fn clears_1() {
-    // Clear: every byte is zeroed. Source: document 01, Page calls.
+    // Clear: every byte is zeroed. Source: rules 6.
     line(327, clear_done(SDR1));
     line(328, clear_done(0xFFFF0000));
-    // Clear: each refusal alone (2 by a reserved bit, by mask 2, by an origin bit under the mask; 1 at four lengths). Source: document 01, table of causes.
+    // Clear: each refusal alone (2 by a reserved bit, by mask 2, by an origin bit under the mask; 1 at four lengths). Source: rules 7.
     line(329, clear(BAD_SDR1, 65536) == 2);
     line(330, clear(0x0F980002, 65536) == 2);
     line(331, clear(0x0F990001, 131072) == 2);
@@ -49,7 +49,7 @@ pub fn clears_1() {
 pub fn clears_2() {
     line(335, clear(SDR1, 131072) == 1);
     line(336, clear(0x0F980001, 65536) == 1);
-    // Clear: 2 before 1. Source: document 01, order of refusals.
+    // Clear: 2 before 1. Source: rules 7.
     line(337, clear(BAD_SDR1, 65535) == 2);
 }
 
@@ -76,7 +76,7 @@ fn map_with(vsid: u32, index: u32, rpn: u32, wimg: u32, pp: u32) -> u32 {
 
 // Map's arguments out of range.
 pub fn map_arguments_1() {
-    // Map: 6 by each argument just past its range, and by WIMG with W and I. Source: document 01, Page calls.
+    // Map: 6 by each argument just past its range, and by WIMG with W and I. Source: rules 6.
     line(338, map_with(0x1000000, INDEX, 1, 2, 2) == 6);
     line(339, map_with(VSID, 0x10000, 1, 2, 2) == 6);
     line(340, map_with(VSID, INDEX, 0x100000, 2, 2) == 6);
@@ -94,7 +94,7 @@ pub fn map_arguments_2() {
 
 // Map's refusals.
 pub fn maps_1() {
-    // Map: each refusal alone (6, 2, 1, 7, 9). Source: document 01, table of causes.
+    // Map: each refusal alone (6, 2, 1, 7, 9). Source: rules 7.
     line(347, map(Scene::Empty, 0x100000, SDR1, 65536) == 6);
     line(348, map(Scene::Empty, 1, BAD_SDR1, 65536) == 2);
     line(349, map(Scene::Empty, 1, SDR1, 65535) == 1);
@@ -105,7 +105,7 @@ pub fn maps_1() {
 
 // Continues `maps_1`.
 pub fn maps_2() {
-    // Map: 6 before 2, 1, 7, 9; 2 before 1, 7, 9; 1 before 7, 9; 7 before 9. Source: document 01, order of refusals.
+    // Map: 6 before 2, 1, 7, 9; 2 before 1, 7, 9; 1 before 7, 9; 7 before 9. Source: rules 7.
     line(353, map(Scene::Empty, 0x100000, BAD_SDR1, 65536) == 6);
     line(354, map(Scene::Empty, 0x100000, SDR1, 65537) == 6);
     line(355, map(Scene::Mapped, 0x100000, SDR1, 65536) == 6);
@@ -150,7 +150,7 @@ fn unmap(scene: Scene, answer_length: isize, index: u32, sdr1: u32, length: isiz
 
 // Unmap's refusals.
 pub fn unmaps_1() {
-    // Unmap: each refusal alone (11 at four lengths, 6, 2, 1, 8). Source: document 01, table of causes.
+    // Unmap: each refusal alone (11 at four lengths, 6, 2, 1, 8). Source: rules 7.
     line(363, unmap(Scene::Mapped, 15, INDEX, SDR1, 65536) == 11);
     line(364, unmap(Scene::Mapped, 17, INDEX, SDR1, 65536) == 11);
     line(365, unmap(Scene::Mapped, 0, INDEX, SDR1, 65536) == 11);
@@ -164,7 +164,7 @@ pub fn unmaps_1() {
 // Continues `unmaps_1`.
 pub fn unmaps_2() {
     line(371, unmap(Scene::Full, 16, INDEX, SDR1, 65536) == 8);
-    // Unmap: 11 before 6, 2, 1, 8; 6 before 2, 1, 8; 2 before 1, 8; 1 before 8. Source: document 01, order of refusals.
+    // Unmap: 11 before 6, 2, 1, 8; 6 before 2, 1, 8; 2 before 1, 8; 1 before 8. Source: rules 7.
     line(372, unmap(Scene::Mapped, 15, 0x10000, SDR1, 65536) == 11);
     line(373, unmap(Scene::Mapped, 15, INDEX, BAD_SDR1, 65536) == 11);
     line(374, unmap(Scene::Mapped, 15, INDEX, SDR1, 65535) == 11);
@@ -197,7 +197,7 @@ fn protect(scene: Scene, vsid: u32, pp: u32, sdr1: u32, length: isize) -> u32 {
 
 // Protect's refusals.
 pub fn protects_1() {
-    // Protect: each refusal alone (6 by VSID and twice by PP, 2, 1, 8). Source: document 01, table of causes.
+    // Protect: each refusal alone (6 by VSID and twice by PP, 2, 1, 8). Source: rules 7.
     line(382, protect(Scene::Mapped, 0x1000000, 0, SDR1, 65536) == 6);
     line(383, protect(Scene::Mapped, VSID, 4, SDR1, 65536) == 6);
     line(
@@ -211,7 +211,7 @@ pub fn protects_1() {
 
 // Continues `protects_1`.
 pub fn protects_2() {
-    // Protect: 6 before 2, 1, 8; 2 before 1, 8; 1 before 8. Source: document 01, order of refusals.
+    // Protect: 6 before 2, 1, 8; 2 before 1, 8; 1 before 8. Source: rules 7.
     line(388, protect(Scene::Mapped, VSID, 4, BAD_SDR1, 65536) == 6);
     line(389, protect(Scene::Mapped, VSID, 4, SDR1, 65535) == 6);
     line(390, protect(Scene::Empty, VSID, 4, SDR1, 65536) == 6);
@@ -244,7 +244,7 @@ fn look(scene: Scene, answer_length: isize, index: u32, sdr1: u32, length: isize
 
 // Look's refusals alone, and 11 before the others.
 pub fn looks_1() {
-    // Look: each refusal alone (11 twice, 6, 2, 1, 10, 8). Source: document 01, table of causes.
+    // Look: each refusal alone (11 twice, 6, 2, 1, 10, 8). Source: rules 7.
     line(394, look(Scene::Mapped, 15, INDEX, SDR1, 65536) == 11);
     line(395, look(Scene::Mapped, 17, INDEX, SDR1, 65536) == 11);
     line(396, look(Scene::Mapped, 16, 0x10000, SDR1, 65536) == 6);
@@ -259,7 +259,7 @@ pub fn looks_1() {
 
 // Continues `looks_1`.
 pub fn looks_2() {
-    // Look: 11 before 6, 2, 1, 10, 8. Source: document 01, order of refusals.
+    // Look: 11 before 6, 2, 1, 10, 8. Source: rules 7.
     line(401, look(Scene::Mapped, 15, 0x10000, SDR1, 65536) == 11);
     line(402, look(Scene::Mapped, 15, INDEX, BAD_SDR1, 65536) == 11);
     line(403, look(Scene::Mapped, 15, INDEX, SDR1, 65535) == 11);
@@ -272,7 +272,7 @@ pub fn looks_2() {
 
 // The orders of two refusals of look, 11 apart.
 pub fn looks_ordered_1() {
-    // Look: 6 before 2, 1, 10, 8; 2 before 1, 10, 8; 1 before 10, 8. Source: document 01, order of refusals.
+    // Look: 6 before 2, 1, 10, 8; 2 before 1, 10, 8; 1 before 10, 8. Source: rules 7.
     line(406, look(Scene::Mapped, 16, 0x10000, BAD_SDR1, 65536) == 6);
     line(407, look(Scene::Mapped, 16, 0x10000, SDR1, 65535) == 6);
     line(

@@ -1,4 +1,4 @@
-// Readings that tempt, twins, ignored bits, the order of a search, and the modes.
+// Readings that tempt, duplicate matches, ignored bits, the order of a search, and the modes.
 use report::lent::INDEX;
 use report::lent::SDR1;
 use report::lent::SEGMENT;
@@ -95,13 +95,13 @@ pub fn secondary() {
     let only = with_two(25, 3, 0x86380E43, 0x12345012, NONE);
     let marked = with_two(25, 3, 0x86380E43, 0x12345192, NONE);
     let protected = with_two(25, 3, 0x86380E43, 0x12345013, NONE);
-    // An entry in the secondary group alone: unmap zeroes it, protect changes it, look finds it, a store marks it, map says 7. Source: document 01, Readings that tempt (only the primary group).
+    // An entry in the secondary group alone: unmap zeroes it, protect changes it, look finds it, a store marks it, map says 7. Source: rules 10 (only the primary group).
     line(465, unmap(only, 0, 0x12345012, zero));
     line(466, protect(3, only, 0, protected));
     line(467, look(VSID, only, 0, 0x12345012));
     line(468, access(1, 2, only, [0, 0x1234501B, 2], marked));
     line(469, map(only, 7, only));
-    // After that unmap: look and unmap say 8, a load meets no match. Source: document 01, Page calls.
+    // After that unmap: look and unmap say 8, a load meets no match. Source: rules 6.
     line(470, look(VSID, zero, 8, 0));
     line(471, unmap(zero, 8, 0, zero));
     line(472, access(1, 1, zero, [64, 0x40000000, 0x300], zero));
@@ -114,7 +114,7 @@ pub fn fields_of_match() {
     let other_vsid = with_two(998, 0, 0xC6380E03, 0x12345012, NONE);
     let other_api = with_two(998, 0, 0x86380E02, 0x12345012, NONE);
     let not_valid = with_two(998, 0, 0x06380E03, 0x12345012, NONE);
-    // H 1 in the primary group and H 0 in the secondary are no match: load, look, unmap. Source: document 01, Readings that tempt (forgetting H).
+    // H 1 in the primary group and H 0 in the secondary are no match: load, look, unmap. Source: rules 10 (forgetting H).
     line(
         473,
         access(1, 1, h_in_primary, [64, 0x40000000, 0x300], h_in_primary),
@@ -124,7 +124,7 @@ pub fn fields_of_match() {
     line(476, access(1, 1, no_h, [64, 0x40000000, 0x300], no_h));
     line(477, look(VSID, no_h, 8, 0));
     line(478, unmap(no_h, 8, 0, no_h));
-    // VSID 0x8C701C has the same hash and API: load, look, unmap find no match, and its own look does. Source: document 01, Readings that tempt (the full VSID).
+    // VSID 0x8C701C has the same hash and API: load, look, unmap find no match, and its own look does. Source: rules 10 (the full VSID).
     line(
         479,
         access(1, 1, other_vsid, [64, 0x40000000, 0x300], other_vsid),
@@ -132,7 +132,7 @@ pub fn fields_of_match() {
     line(480, look(VSID, other_vsid, 8, 0));
     line(481, unmap(other_vsid, 8, 0, other_vsid));
     line(482, look(0x8C701C, other_vsid, 0, 0x12345012));
-    // Another API, and V 0, are no match: load and look. Source: document 01, Entries and groups.
+    // Another API, and V 0, are no match: load and look. Source: rules 4.
     line(
         483,
         access(1, 1, other_api, [64, 0x40000000, 0x300], other_api),
@@ -145,8 +145,8 @@ pub fn fields_of_match() {
     line(486, look(VSID, not_valid, 8, 0));
 }
 
-// Twins: a look of two entries whose second words are these.
-fn twins(second: u32, other: u32, result: u32, word: u32) -> bool {
+// Duplicate matches: a look of two entries whose second words are these.
+fn duplicates(second: u32, other: u32, result: u32, word: u32) -> bool {
     look(
         VSID,
         with_two(998, 7, 0x86380E03, second, in_secondary(other)),
@@ -157,38 +157,38 @@ fn twins(second: u32, other: u32, result: u32, word: u32) -> bool {
 
 // Whether two matches contradict.
 pub fn contradicting_1() {
-    // Twins equal in every bit but H are one match. Source: document 01, Entries and groups.
-    line(487, twins(0x12345012, 0x12345012, 0, 0x12345012));
-    line(488, twins(0x12345E16, 0x12345E16, 0, 0x12345E16));
-    // They contradict by RPN, by WIMG, by PP, by R, by C, by each ignored bit (20, 21, 22, 29). Source: document 01, Entries and groups, "equal in every bit but H".
-    line(489, twins(0x12345012, 0x12346012, 10, 0));
-    line(490, twins(0x12345012, 0x1234501A, 10, 0));
-    line(491, twins(0x12345012, 0x12345013, 10, 0));
-    line(492, twins(0x12345112, 0x12345012, 10, 0));
-    line(493, twins(0x12345012, 0x12345092, 10, 0));
-    line(494, twins(0x12345012, 0x12345812, 10, 0));
+    // Duplicate matches equal in every bit but H are one match. Source: rules 4.
+    line(487, duplicates(0x12345012, 0x12345012, 0, 0x12345012));
+    line(488, duplicates(0x12345E16, 0x12345E16, 0, 0x12345E16));
+    // They contradict by RPN, by WIMG, by PP, by R, by C, by each ignored bit (20, 21, 22, 29). Source: rules 4, "equal in every bit but H".
+    line(489, duplicates(0x12345012, 0x12346012, 10, 0));
+    line(490, duplicates(0x12345012, 0x1234501A, 10, 0));
+    line(491, duplicates(0x12345012, 0x12345013, 10, 0));
+    line(492, duplicates(0x12345112, 0x12345012, 10, 0));
+    line(493, duplicates(0x12345012, 0x12345092, 10, 0));
+    line(494, duplicates(0x12345012, 0x12345812, 10, 0));
 }
 
 // Continues `contradicting_1`.
 pub fn contradicting_2() {
-    line(495, twins(0x12345012, 0x12345412, 10, 0));
-    line(496, twins(0x12345012, 0x12345212, 10, 0));
-    line(497, twins(0x12345012, 0x12345016, 10, 0));
+    line(495, duplicates(0x12345012, 0x12345412, 10, 0));
+    line(496, duplicates(0x12345012, 0x12345212, 10, 0));
+    line(497, duplicates(0x12345012, 0x12345016, 10, 0));
 }
 
-// Calls on twins.
-pub fn twins_used() {
+// Calls on duplicate matches.
+pub fn duplicates_used() {
     let zero = [0u8; 65536];
     let equal = with_two(998, 2, 0x86380E03, 0x12345012, in_secondary(0x12345012));
     let loaded = with_two(998, 2, 0x86380E03, 0x12345112, in_secondary(0x12345012));
     let stored = with_two(998, 2, 0x86380E03, 0x12345192, in_secondary(0x12345012));
     let protected = with_two(998, 2, 0x86380E03, 0x12345010, in_secondary(0x12345010));
-    // Equal twins: a load and a store mark the first only; then they differ by R, and a load is refused 10 and marks nothing. Source: document 01, Entries and groups, "the first is then used and marked".
+    // Equal duplicates: a load and a store mark the first only; then they differ by R, and a load is refused 10 and marks nothing. Source: rules 4, "the first is then used and marked".
     line(498, access(1, 1, equal, [0, 0x1234501B, 2], loaded));
     line(499, access(1, 2, equal, [0, 0x1234501B, 2], stored));
     line(500, access(1, 1, loaded, [10, 0, 0], loaded));
     line(501, access(1, 2, loaded, [10, 0, 0], loaded));
-    // Protect changes every match, unmap zeroes every match, map says 7. Source: document 01, Page calls.
+    // Protect changes every match, unmap zeroes every match, map says 7. Source: rules 6.
     line(502, protect(0, equal, 0, protected));
     line(503, unmap(equal, 0, 0x12345012, zero));
     line(504, map(equal, 7, equal));
@@ -201,14 +201,14 @@ pub fn merged() {
     let later = with_two(998, 2, 0x86380E03, 0x12345012, in_secondary(0x12345192));
     let other = with_two(998, 2, 0x86380E03, 0x12345012, in_secondary(0x7777719B));
     let both = with_two(998, 2, 0x86380E03, 0x12345011, in_secondary(0x77777199));
-    // Unmap gives the first match's second word with R and C each set if any match had it: R and C in one each, both in the second, another frame in the second. Source: document 01, Page calls.
+    // Unmap gives the first match's second word with R and C each set if any match had it: R and C in one each, both in the second, another frame in the second. Source: rules 6.
     line(505, unmap(marks, 0, 0x12345192, zero));
     line(506, unmap(later, 0, 0x12345192, zero));
     line(507, unmap(other, 0, 0x12345192, zero));
-    // Contradicting matches: protect changes every match, map says 7. Source: document 01, Page calls and table of causes (10 is access and look).
+    // Contradicting matches: protect changes every match, map says 7. Source: rules 6 and 7 (10 is access and look).
     line(508, protect(1, other, 0, both));
     line(509, map(other, 7, other));
-    // Contradicting matches: nothing is searched in real mode (load in mode 2, fetch in mode 1), so 10 is not met. Source: document 01, One access, step 1.
+    // Contradicting matches: nothing is searched in real mode (load in mode 2, fetch in mode 1), so 10 is not met. Source: rules 5, step 1.
     line(510, access(2, 1, other, [0, 0x00FFA01B, 3], other));
     line(511, access(1, 0, other, [0, 0x00FFA01B, 3], other));
 }
@@ -234,15 +234,15 @@ pub fn ignored() {
     let protected = with_two(998, 0, 0x86380E03, 0x12345E15, NONE);
     let inhibited = with_two(998, 0, 0x86380E03, 0x12345062, NONE);
     let referenced = with_two(998, 0, 0x86380E03, 0x12345162, NONE);
-    // A fetch with N 1 faults before the search, so contradicting matches are not met. Source: document 01, One access, steps 3 and 4.
+    // A fetch with N 1 faults before the search, so contradicting matches are not met. Source: rules 5, steps 3 and 4.
     line(512, fetch_no_execute());
-    // Ignored bits are kept by the marks of a load and a store and by protect; look and unmap give the word as it is. Source: document 01, Entries and groups.
+    // Ignored bits are kept by the marks of a load and a store and by protect; look and unmap give the word as it is. Source: rules 4.
     line(513, access(1, 1, set, [0, 0x1234501B, 2], loaded));
     line(514, access(1, 2, set, [0, 0x1234501B, 2], stored));
     line(515, protect(1, set, 0, protected));
     line(516, look(VSID, set, 0, 0x12345E16));
     line(517, unmap(set, 0, 0x12345E16, zero));
-    // An entry in the table may have W and I both one. Source: document 01, Entries and groups.
+    // An entry in the table may have W and I both one. Source: rules 4.
     line(
         518,
         access(1, 1, inhibited, [0, 0x1234501B, 12], referenced),
@@ -268,12 +268,12 @@ pub fn map_places() {
         },
     );
     let behind = with_two(25, 7, 0x86380E43, 0x99999012, NONE);
-    // Map writes R, C and the ignored bits zero, into an empty entry and over a free one with every other bit set. Source: document 01, Page calls.
+    // Map writes R, C and the ignored bits zero, into an empty entry and over a free one with every other bit set. Source: rules 6.
     line(519, map(zero, 0, first));
     line(520, map(junk, 0, first));
-    // Map takes the first entry with V 0 in search order. Source: document 01, Page calls.
+    // Map takes the first entry with V 0 in search order. Source: rules 6.
     line(521, map(taken, 0, second));
-    // A match behind free entries is met: 7. Source: document 01, table of causes.
+    // A match behind free entries is met: 7. Source: rules 7.
     line(522, map(behind, 7, behind));
 }
 
@@ -297,7 +297,7 @@ fn in_mode(mode: u32, fetch: bool, data: bool) -> bool {
 
 // The eight modes.
 pub fn modes() {
-    // Modes 0 to 7: fetch, load and store are translated by IR (2) and DR (1), else physical equals effective with attributes 3. Source: document 01, One access, step 1.
+    // Modes 0 to 7: fetch, load and store are translated by IR (2) and DR (1), else physical equals effective with attributes 3. Source: rules 5, step 1.
     line(523, in_mode(0, false, false));
     line(524, in_mode(1, false, true));
     line(525, in_mode(2, true, false));

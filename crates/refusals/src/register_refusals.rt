@@ -1,4 +1,4 @@
-// Each refusal of check and set register, and each two that can hold together, in document 01's order; a refused set register leaves the page.
+// Each refusal of check and set register, and each two that can hold together, in the order of the rules (7); a refused set register leaves the page.
 use report::lent::BAD_BLOCK;
 use report::lent::BAD_SDR1;
 use report::lent::BAD_SEGMENT;
@@ -24,9 +24,9 @@ fn check(length: isize, sdr1: u32, instruction: u32, data: u32, segment: u32) ->
 
 // The check's refusals.
 pub fn checks_1() {
-    // Check: a good page is taken. Source: document 01, Register words.
+    // Check: a good page is taken. Source: rules 3.
     line(272, check(132, SDR1, OFF, OFF, SEGMENT) == 0);
-    // Check: each refusal alone (11 at four lengths, 2, 3, 4, 5). Source: document 01, table of causes.
+    // Check: each refusal alone (11 at four lengths, 2, 3, 4, 5). Source: rules 7.
     line(273, check(131, SDR1, OFF, OFF, SEGMENT) == 11);
     line(274, check(133, SDR1, OFF, OFF, SEGMENT) == 11);
     line(275, check(128, SDR1, OFF, OFF, SEGMENT) == 11);
@@ -39,7 +39,7 @@ pub fn checks_1() {
 // Continues `checks_1`.
 pub fn checks_2() {
     line(280, check(132, SDR1, OFF, OFF, BAD_SEGMENT) == 5);
-    // Check: each two refusals: 11 before 2, 3, 4, 5; 2 before 3, 4, 5; 3 before 4, 5; 4 before 5. Source: document 01, order of refusals.
+    // Check: each two refusals: 11 before 2, 3, 4, 5; 2 before 3, 4, 5; 3 before 4, 5; 4 before 5. Source: rules 7.
     line(281, check(131, BAD_SDR1, OFF, OFF, SEGMENT) == 11);
     line(282, check(131, SDR1, BAD_BLOCK, OFF, SEGMENT) == 11);
     line(283, check(131, SDR1, OFF, SHARED, SEGMENT) == 11);
@@ -84,7 +84,7 @@ fn set_done(page: [u8; 136], number: u32, word: u32) -> bool {
 // Words that are taken, and broken pages repaired.
 pub fn sets_done() {
     let page = page_of(SDR1, SEGMENT, OFF, OFF);
-    // Set register: SDR1, the first and last segment, the first and last word of the blocks of each side. Source: document 01, The product.
+    // Set register: SDR1, the first and last segment, the first and last word of the blocks of each side. Source: rules 2.
     line(291, set_done(page, 0, 0x0F980007));
     line(292, set_done(page, 1, 0x70FFFFFF));
     line(293, set_done(page, 16, 0x00000001));
@@ -92,7 +92,7 @@ pub fn sets_done() {
     line(295, set_done(page, 24, 0xFFFFFFFF));
     line(296, set_done(page, 25, 0x00000003));
     line(297, set_done(page, 32, 0x12345678));
-    // Set register: only the new set is judged, so the one broken word can be replaced by a good one (SDR1, block, shared block, segment). Source: document 01, "if the new set breaks a rule below".
+    // Set register: only the new set is judged, so the one broken word can be replaced by a good one (SDR1, block, shared block, segment). Source: rules 3, "judges the new set".
     line(298, set_done(page_of(BAD_SDR1, SEGMENT, OFF, OFF), 0, SDR1));
     line(
         299,
@@ -111,7 +111,7 @@ pub fn sets_done() {
 // The set register's refusals.
 pub fn sets_refused() {
     let page = page_of(SDR1, SEGMENT, OFF, OFF);
-    // Set register: each refusal alone (11, 6 twice, 2, 3, 4, 5); the page is left. Source: document 01, table of causes.
+    // Set register: each refusal alone (11, 6 twice, 2, 3, 4, 5); the page is left. Source: rules 7.
     line(302, set(page, 131, 0, SDR1) == 11);
     line(303, set(page, 132, 33, SDR1) == 6);
     line(304, set(page, 132, 0xFFFFFFFF, SDR1) == 6);
@@ -119,7 +119,7 @@ pub fn sets_refused() {
     line(306, set(page, 132, 17, BAD_BLOCK) == 3);
     line(307, set(page, 132, 27, SHARED) == 4);
     line(308, set(page, 132, 16, BAD_SEGMENT) == 5);
-    // Set register: 11 before 6, 2, 3, 4, 5; the page is left. Source: document 01, order of refusals.
+    // Set register: 11 before 6, 2, 3, 4, 5; the page is left. Source: rules 7.
     line(309, set(page, 131, 33, SDR1) == 11);
     line(310, set(page, 133, 0, BAD_SDR1) == 11);
     line(311, set(page, 131, 17, BAD_BLOCK) == 11);
@@ -133,12 +133,12 @@ pub fn sets_ordered() {
     let three = page_of(SDR1, SEGMENT, BAD_BLOCK, OFF);
     let four = page_of(SDR1, SEGMENT, OFF, SHARED);
     let five = page_of(SDR1, BAD_SEGMENT, OFF, OFF);
-    // Set register: 6 before 2, 3, 4, 5 of the page; the page is left. Source: document 01, order of refusals.
+    // Set register: 6 before 2, 3, 4, 5 of the page; the page is left. Source: rules 7.
     line(314, set(two, 132, 33, SDR1) == 6);
     line(315, set(three, 132, 33, SDR1) == 6);
     line(316, set(four, 132, 33, SDR1) == 6);
     line(317, set(five, 132, 33, SDR1) == 6);
-    // Set register: 2 before 3, 4, 5; 3 before 4, 5; 4 before 5, one broken in the page and one by the new word; the page is left. Source: document 01, order of refusals.
+    // Set register: 2 before 3, 4, 5; 3 before 4, 5; 4 before 5, one broken in the page and one by the new word; the page is left. Source: rules 7.
     line(318, set(three, 132, 0, BAD_SDR1) == 2);
     line(319, set(four, 132, 0, BAD_SDR1) == 2);
     line(320, set(five, 132, 0, BAD_SDR1) == 2);

@@ -1,4 +1,5 @@
 -- What callers' proofs cite of a register word.
 pub mod Sdr1
 pub mod Blocks
+pub mod Computes
 pub mod Tables

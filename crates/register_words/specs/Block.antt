@@ -1,10 +1,14 @@
--- A block pair, its upper and its lower word (document 01, "Register words"), over the width of BL: 11 bits in the base.
+-- A block pair, its upper and its lower word (rules 3), over the width of BL.
 use Prim.Native.Nat.{ℕ, _+_, _-_, _^_}
 use mathlib.Core.Bool.{Bool, cond, not, _&&_, _||_}
 use lib.Bits.{bitAnd, bitOr}
 use lib.Dec.{eqb}
 use Rattle.words.specs.Bits.{bits, placed}
 use Rattle.words.specs.Ones.{lowOnes}
+
+-- BL has 11 bits
+abbrev pub blWidth : ℕ
+blWidth = 11
 
 -- BEPI, the block's effective start, bits 0 to 14 of the upper word
 abbrev pub bepiOf : ℕ → ℕ

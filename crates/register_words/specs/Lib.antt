@@ -1,4 +1,4 @@
--- One register word of document 01: SDR1, a segment register, a block pair's upper and lower word.
+-- One register word (rules 3): SDR1, a segment register, a block pair's upper and lower word.
 pub mod Sdr1
 pub mod Segment
 pub mod Block

@@ -1,4 +1,4 @@
--- SDR1: where the page table lies and how long it is (document 01, "Register words").
+-- SDR1: where the page table lies and how long it is (rules 3).
 use Prim.Native.Nat.{ℕ, _+_, _*_}
 use mathlib.Core.Bool.{Bool, _&&_}
 use lib.Bits.{bitAnd}

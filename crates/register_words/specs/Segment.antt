@@ -1,4 +1,4 @@
--- A segment register (document 01, "Register words").
+-- A segment register (rules 3).
 use Prim.Native.Nat.{ℕ}
 use mathlib.Core.Bool.{Bool, cond, _&&_}
 use lib.Dec.{eqb}
@@ -8,7 +8,7 @@ use Rattle.words.specs.Bits.{bits}
 unfoldable pub segmentShape : ℕ → Bool
 segmentShape word = eqb (bits 0 0 word) 0 && eqb (bits 4 7 word) 0
 
--- "key" (step 6 of an access): Kp, bit 2, for the user, Ks, bit 1, for the supervisor
+-- the key (rules 5, step 6): Kp, bit 2, for the user, Ks, bit 1, for the supervisor
 unfoldable pub keyOf : Bool → ℕ → Bool
 keyOf user word = eqb (cond user (bits 2 2 word) (bits 1 1 word)) 1
 

@@ -1,14 +1,16 @@
--- Tables that pin the definitions of a register word: a good and a bad row for each reserved field and each shape rule, and the block edges of
--- document 01's cases 8 to 10. Each closes by computation.
+-- Tables that pin the definitions of a register word: a good and a bad row for each reserved field and each shape rule, each bit by itself, and
+-- the block edges of cases 8 to 10 (rules 9). Each closes by computation.
+use Prim.Native.Nat.{_+_}
 use mathlib.Core.Bool.{true, false}
-use mathlib.Core.List.{[], _∷_}
-use Rattle.words.specs.Rows.{Hold}
+use mathlib.Core.List.{[], _∷_, _++_, map}
+use lib.ListN.{replicate, take}
+use Rattle.words.specs.Rows.{Hold, eachBit, allButEach, onlyAt, notAt, fieldOfEach, fieldOfAllBut}
 use Rattle.register_words.specs.Sdr1.{sdr1Shape, tableLength, hashBits}
 use Rattle.register_words.specs.Segment.{segmentShape, keyOf, noExecute, segmentVsid}
-use Rattle.register_words.specs.Block.{validFor, commonV, blockShape, inBlock, blockPhysical, clash, covers, blockAttributes, blockPP}
+use Rattle.register_words.specs.Block.{blWidth, validFor, commonV, blockShape, inBlock, blockPhysical, clash, covers, blockAttributes, blockPP}
 
 pub record RegisterWordsTables : Type 0 where
-  -- SDR1: document 01's case 7, the largest mask, and each end of bits 16 to 22
+  -- SDR1: case 7, the largest mask, and each end of bits 16 to 22
   pub sdr1-rows : Hold (
       (sdr1Shape 0x0F980007, true)
       ∷ (sdr1Shape 0x0F980000, true)
@@ -23,6 +25,8 @@ pub record RegisterWordsTables : Type 0 where
       ∷ (sdr1Shape 0x0F980200, false)
       ∷ []
       )
+  -- SDR1 by one bit alone: an origin bit is free where the mask is 0; of the mask only its lowest bit stands alone
+  pub sdr1-bits : Hold ((map sdr1Shape eachBit, replicate 16 true ++ replicate 15 false ++ (true ∷ [])) ∷ [])
   -- table lengths and n = 10 + k
   pub length-rows : Hold (
       (tableLength 0x0F980000, 65536)
@@ -42,10 +46,20 @@ pub record RegisterWordsTables : Type 0 where
       ∷ (segmentShape 0x04000000, false)
       ∷ (segmentShape 0x02000000, false)
       ∷ (segmentShape 0x01000000, false)
-      ∷ (noExecute 0x10000000, true)
-      ∷ (noExecute 0x60FFFFFF, false)
       ∷ []
       )
+  -- every bit of a segment register by itself, and every bit alone missing: T and bits 4 to 7, Ks, Kp, N, VSID
+  pub segment-bits : Hold (
+      (map segmentShape eachBit, false ∷ true ∷ true ∷ true ∷ replicate 4 false ++ replicate 24 true)
+      ∷ (map (keyOf false) eachBit, onlyAt 1 1)
+      ∷ (map (keyOf false) allButEach, notAt 1 1)
+      ∷ (map (keyOf true) eachBit, onlyAt 2 2)
+      ∷ (map (keyOf true) allButEach, notAt 2 2)
+      ∷ (map noExecute eachBit, onlyAt 3 3)
+      ∷ (map noExecute allButEach, notAt 3 3)
+      ∷ []
+      )
+  pub vsid-bits : Hold ((map segmentVsid eachBit, fieldOfEach 8 31) ∷ (map segmentVsid allButEach, fieldOfAllBut 8 31) ∷ [])
   -- the key: Ks and Kp × PR, and beside every other bit
   pub key-rows : Hold (
       (keyOf false 0x00FFFFFF, false)
@@ -60,47 +74,61 @@ pub record RegisterWordsTables : Type 0 where
       ∷ (keyOf true 0x50FFFFFF, false)
       ∷ []
       )
-  pub vsid-rows : Hold ((segmentVsid 0x700C701C, 0x0C701C) ∷ (segmentVsid 0x00FFFFFF, 0xFFFFFF) ∷ [])
   -- upper words: bits 15 to 18, BL (case 10), BEPI under BL, pairs off
   pub upper-rows : Hold (
-      (blockShape 11 true 0x80001FFE 0x10000002, true)
-      ∷ (blockShape 11 true 0xFFFE0003 0, true)
-      ∷ (blockShape 11 true 0x00010002 0, false)
-      ∷ (blockShape 11 true 0x00008002 0, false)
-      ∷ (blockShape 11 true 0x00004002 0, false)
-      ∷ (blockShape 11 true 0x00002002 0, false)
-      ∷ (blockShape 11 true 0x00000006 0, true)
-      ∷ (blockShape 11 true 0x0000000A 0, false)
-      ∷ (blockShape 11 true 0x0000000E 0, true)
-      ∷ (blockShape 11 true 0x00000016 0, false)
-      ∷ (blockShape 11 true 0x00001002 0, false)
-      ∷ (blockShape 11 true 0x00020006 0, false)
-      ∷ (blockShape 11 true 0x00040006 0, true)
-      ∷ (blockShape 11 true 0x08001FFE 0, false)
-      ∷ (blockShape 11 true 0x10001FFE 0, true)
-      ∷ (blockShape 11 true 0x00000009 0, false)
-      ∷ (blockShape 11 true 0x00000008 0, true)
-      ∷ (blockShape 11 true 0xFFFFFFFC 0xFFFFFFFF, true)
-      ∷ (blockShape 11 false 0xFFFFFFFC 0xFFFFFFFF, true)
-      ∷ (blockShape 11 false 0x0000000A 0, false)
+      (blockShape blWidth true 0x80001FFE 0x10000002, true)
+      ∷ (blockShape blWidth true 0xFFFE0003 0, true)
+      ∷ (blockShape blWidth true 0x00010002 0, false)
+      ∷ (blockShape blWidth true 0x00008002 0, false)
+      ∷ (blockShape blWidth true 0x00004002 0, false)
+      ∷ (blockShape blWidth true 0x00002002 0, false)
+      ∷ (blockShape blWidth true 0x00000006 0, true)
+      ∷ (blockShape blWidth true 0x0000000A 0, false)
+      ∷ (blockShape blWidth true 0x0000000E 0, true)
+      ∷ (blockShape blWidth true 0x00000016 0, false)
+      ∷ (blockShape blWidth true 0x00001002 0, false)
+      ∷ (blockShape blWidth true 0x00020006 0, false)
+      ∷ (blockShape blWidth true 0x00040006 0, true)
+      ∷ (blockShape blWidth true 0x08001FFE 0, false)
+      ∷ (blockShape blWidth true 0x10001FFE 0, true)
+      ∷ (blockShape blWidth true 0x00000009 0, false)
+      ∷ (blockShape blWidth true 0x00000008 0, true)
+      ∷ (blockShape blWidth true 0xFFFFFFFC 0xFFFFFFFF, true)
+      ∷ (blockShape blWidth false 0xFFFFFFFC 0xFFFFFFFF, true)
+      ∷ (blockShape blWidth false 0x0000000A 0, false)
       ∷ []
       )
   -- lower words: BRPN under BL, bits 15 to 24, bit 29, W with I, and W and G of an instruction block
   pub lower-rows : Hold (
-      (blockShape 11 true 0x00000006 0x00020000, false)
-      ∷ (blockShape 11 true 0x00000006 0x00040000, true)
-      ∷ (blockShape 11 true 0x00000002 0x00010000, false)
-      ∷ (blockShape 11 true 0x00000002 0x00000080, false)
-      ∷ (blockShape 11 true 0x00000002 0x00000004, false)
-      ∷ (blockShape 11 true 0x00000002 0xFFFE0003, true)
-      ∷ (blockShape 11 true 0x00000002 0x00000060, false)
-      ∷ (blockShape 11 true 0x00000002 0x00000078, false)
-      ∷ (blockShape 11 true 0x00000002 0x00000058, true)
-      ∷ (blockShape 11 true 0x00000002 0x00000038, true)
-      ∷ (blockShape 11 false 0x00000002 0x00000040, false)
-      ∷ (blockShape 11 false 0x00000002 0x00000008, false)
-      ∷ (blockShape 11 false 0x00000002 0x00000060, false)
-      ∷ (blockShape 11 false 0x00000002 0x00000030, true)
+      (blockShape blWidth true 0x00000006 0x00020000, false)
+      ∷ (blockShape blWidth true 0x00000006 0x00040000, true)
+      ∷ (blockShape blWidth true 0x00000002 0x00010000, false)
+      ∷ (blockShape blWidth true 0x00000002 0x00000080, false)
+      ∷ (blockShape blWidth true 0x00000002 0x00000004, false)
+      ∷ (blockShape blWidth true 0x00000002 0xFFFE0003, true)
+      ∷ (blockShape blWidth true 0x00000002 0x00000060, false)
+      ∷ (blockShape blWidth true 0x00000002 0x00000078, false)
+      ∷ (blockShape blWidth true 0x00000002 0x00000058, true)
+      ∷ (blockShape blWidth true 0x00000002 0x00000038, true)
+      ∷ (blockShape blWidth false 0x00000002 0x00000040, false)
+      ∷ (blockShape blWidth false 0x00000002 0x00000008, false)
+      ∷ (blockShape blWidth false 0x00000002 0x00000060, false)
+      ∷ (blockShape blWidth false 0x00000002 0x00000030, true)
+      ∷ []
+      )
+  -- a pair that is on, with one bit more in its upper word: BEPI, bits 15 to 18, BL, of which only the lowest bit stands alone
+  pub upper-bits : Hold (
+      (map (λ bit. blockShape blWidth true (bit + 2) 0) (take 30 eachBit), replicate 15 true ++ replicate 14 false ++ (true ∷ []))
+      ∷ (map (λ bit. blockShape blWidth false (bit + 1) 0) (take 30 eachBit), replicate 15 true ++ replicate 14 false ++ (true ∷ []))
+      ∷ []
+      )
+  -- and one bit in its lower word: BRPN, bits 15 to 24, W, I, M, G, bit 29, PP
+  pub lower-bits : Hold (
+      (map (blockShape blWidth true 2) eachBit, replicate 15 true ++ replicate 10 false ++ replicate 4 true ++ (false ∷ true ∷ true ∷ []))
+      ∷ (
+        map (blockShape blWidth false 2) eachBit,
+        replicate 15 true ++ replicate 10 false ++ (false ∷ true ∷ true ∷ false ∷ []) ++ (false ∷ true ∷ true ∷ []),
+      )
       ∷ []
       )
   -- BL of 15 bits: bits 15 to 18 belong to it, and the largest block is 4 GB
@@ -111,12 +139,17 @@ pub record RegisterWordsTables : Type 0 where
       ∷ []
       )
   -- Vs for the supervisor, Vp for the user, and a V bit in common
+  pub valid-bits : Hold (
+      (map (validFor false) eachBit, onlyAt 30 30)
+      ∷ (map (validFor false) allButEach, notAt 30 30)
+      ∷ (map (validFor true) eachBit, onlyAt 31 31)
+      ∷ (map (validFor true) allButEach, notAt 31 31)
+      ∷ (map (commonV 0xFFFFFFFF) eachBit, onlyAt 30 31)
+      ∷ (map (commonV 2) eachBit, onlyAt 30 30)
+      ∷ []
+      )
   pub valid-rows : Hold (
-      (validFor false 2, true)
-      ∷ (validFor true 2, false)
-      ∷ (validFor true 1, true)
-      ∷ (validFor false 1, false)
-      ∷ (commonV 2 1, false)
+      (commonV 2 1, false)
       ∷ (commonV 0 3, false)
       ∷ (commonV 3 1, true)
       ∷ (commonV 3 2, true)
@@ -124,25 +157,31 @@ pub record RegisterWordsTables : Type 0 where
       )
   -- the edges of blocks: cases 8 and 9, and the privilege
   pub edge-rows : Hold (
-      (covers 11 false 0x80001FFE 0x8FFFFFFF, true)
-      ∷ (covers 11 false 0x80001FFE 0x80000000, true)
-      ∷ (covers 11 false 0x80001FFE 0x90000000, false)
-      ∷ (covers 11 false 0x80001FFE 0x7FFFFFFF, false)
-      ∷ (covers 11 true 0x80001FFE 0x8FFFFFFF, false)
-      ∷ (covers 11 false 0x00000002 0x0001FFFF, true)
-      ∷ (covers 11 false 0x00000002 0x00020000, false)
-      ∷ (clash 11 0x80001FFE 0x88000002, true)
-      ∷ (clash 11 0x80001FFE 0x90000002, false)
-      ∷ (clash 11 0x80001FFE 0x88000001, false)
+      (covers blWidth false 0x80001FFE 0x8FFFFFFF, true)
+      ∷ (covers blWidth false 0x80001FFE 0x80000000, true)
+      ∷ (covers blWidth false 0x80001FFE 0x90000000, false)
+      ∷ (covers blWidth false 0x80001FFE 0x7FFFFFFF, false)
+      ∷ (covers blWidth true 0x80001FFE 0x8FFFFFFF, false)
+      ∷ (covers blWidth false 0x00000002 0x0001FFFF, true)
+      ∷ (covers blWidth false 0x00000002 0x00020000, false)
+      ∷ (clash blWidth 0x80001FFE 0x88000002, true)
+      ∷ (clash blWidth 0x88000002 0x80001FFE, true)
+      ∷ (clash blWidth 0x90000002 0x80001FFE, false)
+      ∷ (clash blWidth 0x80001FFE 0x90000002, false)
+      ∷ (clash blWidth 0x80001FFE 0x88000001, false)
       ∷ []
       )
   pub physical-rows : Hold (
-      (blockPhysical 11 0x80001FFE 0x10000002 0x8FFFFFFF, 0x1FFFFFFF)
-      ∷ (blockPhysical 11 0x80001FFE 0x10000002 0x80000000, 0x10000000)
-      ∷ (blockPhysical 11 0x00000002 0x20000002 0x0001FFFF, 0x2001FFFF)
-      ∷ (blockAttributes 0x0000007B, 15)
-      ∷ (blockAttributes 0xFFFFFF87, 0)
-      ∷ (blockPP 0x00000002, 2)
-      ∷ (blockPP 0xFFFFFFFD, 1)
+      (blockPhysical blWidth 0x80001FFE 0x10000002 0x8FFFFFFF, 0x1FFFFFFF)
+      ∷ (blockPhysical blWidth 0x80001FFE 0x10000002 0x80000000, 0x10000000)
+      ∷ (blockPhysical blWidth 0x00000002 0x20000002 0x0001FFFF, 0x2001FFFF)
+      ∷ []
+      )
+  -- of the lower word WIMG is bits 25 to 28 and PP bits 30 and 31
+  pub attribute-bits : Hold (
+      (map blockAttributes eachBit, fieldOfEach 25 28)
+      ∷ (map blockAttributes allButEach, fieldOfAllBut 25 28)
+      ∷ (map blockPP eachBit, fieldOfEach 30 31)
+      ∷ (map blockPP allButEach, fieldOfAllBut 30 31)
       ∷ []
       )

@@ -4,7 +4,7 @@ ghost use mathlib.Core.Bool.{true};
 ghost use Prim.Native.Nat.{_-_, _^_};
 ghost use Rattle.register_words.specs.Sdr1.{sdr1Shape, tableLength, hashBits};
 ghost use Rattle.register_words.specs.Segment.{segmentShape};
-ghost use Rattle.register_words.specs.Block.{blockShape, clash, covers, inBlock, blockPhysical};
+ghost use Rattle.register_words.specs.Block.{blWidth, blockShape, clash, covers, inBlock, blockPhysical};
 
 // Whether SDR1 has its shape.
 pub fn sdr1_shape(sdr1: u32) -> bool
@@ -38,7 +38,7 @@ pub fn segment_shape(word: u32) -> bool
 
 // Whether a block pair has the shape of its side; a pair that is off may hold anything.
 pub fn block_shape(side: bool, upper: u32, lower: u32) -> bool
-    ensures { λ r. ⌜ r ≡ blockShape 11 side upper lower ⌝ }
+    ensures { λ r. ⌜ r ≡ blockShape blWidth side upper lower ⌝ }
 {
     if upper & 3 == 0 {
         return true;
@@ -60,7 +60,7 @@ pub fn block_shape(side: bool, upper: u32, lower: u32) -> bool
 
 // Whether two blocks have a V bit in common and share an effective address.
 pub fn blocks_clash(first: u32, second: u32) -> bool
-    ensures { λ r. ⌜ r ≡ clash 11 first second ⌝ }
+    ensures { λ r. ⌜ r ≡ clash blWidth first second ⌝ }
 {
     let either = ((first >> 2) & 0x7FF) | ((second >> 2) & 0x7FF);
     ((first & 3) & (second & 3) != 0) & (either | (first >> 17) == either | (second >> 17))
@@ -68,14 +68,14 @@ pub fn blocks_clash(first: u32, second: u32) -> bool
 
 // Whether the address with the block's BL bits and the low 17 removed is the block's start.
 pub fn in_block(upper: u32, address: u32) -> bool
-    ensures { λ r. ⌜ r ≡ inBlock 11 upper address ⌝ }
+    ensures { λ r. ⌜ r ≡ inBlock blWidth upper address ⌝ }
 {
     (address >> 17) & (0x7FFF - ((upper >> 2) & 0x7FF)) == upper >> 17
 }
 
 // Whether a block is valid for the user or the supervisor and holds the address.
 pub fn block_covers(user: bool, upper: u32, address: u32) -> bool
-    ensures { λ r. ⌜ r ≡ covers 11 user upper address ⌝ }
+    ensures { λ r. ⌜ r ≡ covers blWidth user upper address ⌝ }
 {
     let valid = if user { upper & 1 } else { (upper >> 1) & 1 };
     (valid == 1) & in_block(upper, address)
@@ -83,7 +83,7 @@ pub fn block_covers(user: bool, upper: u32, address: u32) -> bool
 
 // The physical address of an address in a block.
 pub fn block_physical(upper: u32, lower: u32, address: u32) -> u32
-    ensures { λ r. ⌜ r ≡ blockPhysical 11 upper lower address ⌝ }
+    ensures { λ r. ⌜ r ≡ blockPhysical blWidth upper lower address ⌝ }
 {
     let start = (lower >> 17) | ((address >> 17) & ((upper >> 2) & 0x7FF));
     (start << 17) | (address & 0x1FFFF)

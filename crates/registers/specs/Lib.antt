@@ -1,4 +1,4 @@
--- The register set of document 01: the check in its order, the set by value, and the block that covers an address.
+-- The register set (rules 3): the check in its order, the set by value, and the block that covers an address.
 pub mod Rules
 pub mod Set
 pub mod Blocks

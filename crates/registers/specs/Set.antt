@@ -1,18 +1,23 @@
 -- The register set as its words: SDR1, sixteen segment registers, the instruction pairs, the data pairs (upper word, then lower).
--- Over the number of pairs a side, 4 in the base, and the width of BL, 11 in the base.
+-- Over the number of pairs a side and the width of BL (rules 3).
 use Prim.Native.Nat.{ℕ, _+_, _*_}
 use mathlib.Core.Bool.{Bool, true, false, cond, not, _&&_}
 use mathlib.Core.List.{List, [], _∷_}
 use lib.Dec.{eqb, ltb}
 use lib.ListN.{getD, set}
+use Rattle.numbers.specs.Numbers.{refusedSdr1, refusedBlock, refusedBlocksShare, refusedSegment, refusedArgument, registerCount}
 use Rattle.words.specs.Below.{everyBelow, firstBelow}
 use Rattle.words.specs.Words.{wordsAt}
 use Rattle.registers.specs.Rules.{firstBroken}
 use Rattle.register_words.specs.Sdr1.{sdr1Shape}
 use Rattle.register_words.specs.Segment.{segmentShape}
-use Rattle.register_words.specs.Block.{blockShape, clash, covers}
+use Rattle.register_words.specs.Block.{blWidth, blockShape, clash, covers}
 use Rattle.registers.specs.declared.Registers.{Registers}
 use Rattle.registers.specs.declared.Replaced.{Replaced}
+
+-- four pairs a side
+abbrev pub blockPairs : ℕ
+blockPairs = 4
 
 abbrev pub sdr1Of : List ℕ → ℕ
 sdr1Of words = getD words 0 0
@@ -48,13 +53,13 @@ module _ (pairs : ℕ) where
     unfoldable pub sideApart : List ℕ → Bool → Bool
     sideApart words side = everyBelow pairs (pairApart words side)
 
-    -- the rules of a register set in their order, 2, 3, 4, 5
+    -- the rules of a register set in their order
     abbrev pub registerRules : List ℕ → List (Bool × ℕ)
     registerRules words =
-        (not (sdr1Shape (sdr1Of words)), 2)
-        ∷ (not (sideShape words false && sideShape words true), 3)
-        ∷ (not (sideApart words false && sideApart words true), 4)
-        ∷ (not (segmentsShape words), 5)
+        (not (sdr1Shape (sdr1Of words)), refusedSdr1)
+        ∷ (not (sideShape words false && sideShape words true), refusedBlock)
+        ∷ (not (sideApart words false && sideApart words true), refusedBlocksShare)
+        ∷ (not (segmentsShape words), refusedSegment)
         ∷ []
 
     -- 0, or the number of the first rule that the set breaks
@@ -69,9 +74,9 @@ module _ (pairs : ℕ) where
     unfoldable pub coveringPair : List ℕ → Bool → Bool → ℕ → ℕ
     coveringPair words side user address = firstBelow pairs (pairCovers words side user address)
 
--- replacing the word of a number: 0, or the refusal, 6 for the number, then 2, 3, 4, 5 of the new set
+-- replacing the word of a number: 0, or the refusal, of the number's range, then those of the new set
 unfoldable pub replacing : List ℕ → ℕ → ℕ → ℕ
-replacing words number word = cond (ltb number 33) (checkWords 4 11 (set words number word)) 6
+replacing words number word = cond (ltb number registerCount) (checkWords blockPairs blWidth (set words number word)) refusedArgument
 
 -- the set with the word replaced, or the refusal and the old set
 unfoldable pub replaced : Registers → ℕ → ℕ → Replaced
@@ -79,6 +84,6 @@ replaced registers number word =
     let result = replacing (registers .words) number word in
     record { result = result; set = cond (eqb result 0) (record { words = set (registers .words) number word }) registers }
 
--- the words of a register page of 132 bytes
+-- the words of a register page
 unfoldable pub registerWords : List ℕ → List ℕ
-registerWords page = wordsAt page 0 33
+registerWords registers = wordsAt registers 0 registerCount

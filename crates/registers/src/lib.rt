@@ -2,7 +2,13 @@
 ghost use mathlib.Core.Path.{_≡_};
 ghost use Prim.Native.Nat.{_<_};
 ghost use lib.ListN.{length};
-ghost use Rattle.registers.specs.Set.{segmentOf, segmentsShape, sideStart, upperOf, lowerOf, sideShape, pairApart, sideApart, checkWords, replaced, registerWords, coveringPair};
+ghost use Rattle.numbers.specs.Numbers.{registersSize, registerCount};
+ghost use Rattle.register_words.specs.Block.{blWidth};
+ghost use Rattle.registers.specs.Set.{blockPairs, segmentOf, segmentsShape, sideStart, upperOf, lowerOf, sideShape, pairApart, sideApart};
+ghost use Rattle.registers.specs.Set.{checkWords, replaced, registerWords, coveringPair};
+
+// How many block pairs a side has.
+pub const BLOCK_PAIRS: usize = 4;
 
 // The words of the register page in order: SDR1, segments 0 to 15, four instruction pairs, four data pairs.
 pub struct Registers {
@@ -17,18 +23,18 @@ pub struct Replaced {
 
 // The number of the first word of a side's pairs; the side is true for data and false for instructions.
 pub fn side_start(side: bool) -> usize
-    ensures { λ r. ⌜ r ≡ sideStart 4 side ⌝ }
+    ensures { λ r. ⌜ r ≡ sideStart blockPairs side ⌝ }
 {
     if side { 25 } else { 17 }
 }
 
 // Whether each pair of a side has the shape of that side's blocks.
 pub fn side_shape(words: &[u32; 33], side: bool) -> bool
-    ensures { λ r. ⌜ r ≡ sideShape 4 11 (now (words .entry)) side ⌝ }
+    ensures { λ r. ⌜ r ≡ sideShape blockPairs blWidth (now (words .entry)) side ⌝ }
 {
     let start = side_start(side);
     let mut i: usize = 0;
-    while i < 4 {
+    while i < BLOCK_PAIRS {
         let at = start + 2 * i;
         if !register_words::block_shape(side, words[at], words[at + 1]) {
             return false;
@@ -40,8 +46,8 @@ pub fn side_shape(words: &[u32; 33], side: bool) -> bool
 
 // Whether pair `j` of a side shares no address and V bit with a pair before it.
 pub fn pair_apart(words: &[u32; 33], side: bool, j: usize) -> bool
-    requires { ⌜ j < 4 ⌝ }
-    ensures { λ r. ⌜ r ≡ pairApart 4 11 (now (words .entry)) side j ⌝ }
+    requires { ⌜ j < blockPairs ⌝ }
+    ensures { λ r. ⌜ r ≡ pairApart blockPairs blWidth (now (words .entry)) side j ⌝ }
 {
     let start = side_start(side);
     let own = words[start + 2 * j];
@@ -61,10 +67,10 @@ pub fn pair_apart(words: &[u32; 33], side: bool, j: usize) -> bool
 
 // Whether no two pairs of a side share an address and a V bit.
 pub fn side_apart(words: &[u32; 33], side: bool) -> bool
-    ensures { λ r. ⌜ r ≡ sideApart 4 11 (now (words .entry)) side ⌝ }
+    ensures { λ r. ⌜ r ≡ sideApart blockPairs blWidth (now (words .entry)) side ⌝ }
 {
     let mut j: usize = 0;
-    while j < 4 {
+    while j < BLOCK_PAIRS {
         if !pair_apart(words, side, j) {
             return false;
         }
@@ -89,27 +95,27 @@ pub fn segments_shape(words: &[u32; 33]) -> bool
 
 // 0, or the number of the first rule that the words break.
 pub fn check_words(words: &[u32; 33]) -> u32
-    ensures { λ r. ⌜ r ≡ checkWords 4 11 (now (words .entry)) ⌝ }
+    ensures { λ r. ⌜ r ≡ checkWords blockPairs blWidth (now (words .entry)) ⌝ }
 {
     if !register_words::sdr1_shape(words[0]) {
-        return 2;
+        return numbers::REFUSED_SDR1;
     }
     if !(side_shape(words, false) & side_shape(words, true)) {
-        return 3;
+        return numbers::REFUSED_BLOCK;
     }
     if !(side_apart(words, false) & side_apart(words, true)) {
-        return 4;
+        return numbers::REFUSED_BLOCKS_SHARE;
     }
     if !segments_shape(words) {
-        return 5;
+        return numbers::REFUSED_SEGMENT;
     }
-    0
+    numbers::DONE
 }
 
 // The upper word of a pair.
 pub fn upper(words: &[u32; 33], side: bool, i: usize) -> u32
-    requires { ⌜ i < 4 ⌝ }
-    ensures { λ r. ⌜ r ≡ upperOf 4 (now (words .entry)) side i ⌝ }
+    requires { ⌜ i < blockPairs ⌝ }
+    ensures { λ r. ⌜ r ≡ upperOf blockPairs (now (words .entry)) side i ⌝ }
 {
     let start = side_start(side);
     words[start + 2 * i]
@@ -117,8 +123,8 @@ pub fn upper(words: &[u32; 33], side: bool, i: usize) -> u32
 
 // The lower word of a pair.
 pub fn lower(words: &[u32; 33], side: bool, i: usize) -> u32
-    requires { ⌜ i < 4 ⌝ }
-    ensures { λ r. ⌜ r ≡ lowerOf 4 (now (words .entry)) side i ⌝ }
+    requires { ⌜ i < blockPairs ⌝ }
+    ensures { λ r. ⌜ r ≡ lowerOf blockPairs (now (words .entry)) side i ⌝ }
 {
     let start = side_start(side);
     words[start + 2 * i + 1]
@@ -132,25 +138,25 @@ pub fn segment(words: &[u32; 33], i: usize) -> u32
     words[1 + i]
 }
 
-// The first pair of a side that covers the address for the user or the supervisor, or 4 where none does.
+// The first pair of a side that covers the address for the user or the supervisor, or their number where none does.
 pub fn covering_pair(words: &[u32; 33], side: bool, user: bool, address: u32) -> usize
-    ensures { λ r. ⌜ r ≡ coveringPair 4 11 (now (words .entry)) side user address ⌝ }
+    ensures { λ r. ⌜ r ≡ coveringPair blockPairs blWidth (now (words .entry)) side user address ⌝ }
 {
     let start = side_start(side);
     let mut i: usize = 0;
-    while i < 4 {
+    while i < BLOCK_PAIRS {
         if register_words::block_covers(user, words[start + 2 * i], address) {
             return i;
         }
         i += 1;
     }
-    4
+    BLOCK_PAIRS
 }
 
 impl Registers {
     // 0, or the number of the first rule that the set breaks.
     pub fn check(self) -> u32
-        ensures { λ r. ⌜ r ≡ checkWords 4 11 (self .words) ⌝ }
+        ensures { λ r. ⌜ r ≡ checkWords blockPairs blWidth (self .words) ⌝ }
     {
         check_words(&self.words)
     }
@@ -159,48 +165,48 @@ impl Registers {
     pub fn with_word(self, number: u32, word: u32) -> Replaced
         ensures { λ r. ⌜ r ≡ replaced self number word ⌝ }
     {
-        if number >= 33 {
+        if number >= numbers::REGISTER_COUNT {
             return Replaced {
-                result: 6,
+                result: numbers::REFUSED_ARGUMENT,
                 set: self,
             };
         }
         let mut next = self;
         next.words[number as usize] = word;
         let result = next.check();
-        if result != 0 {
+        if result != numbers::DONE {
             return Replaced { result, set: self };
         }
         Replaced {
-            result: 0,
+            result: numbers::DONE,
             set: next,
         }
     }
 }
 
 // Reads the words of a register page.
-pub fn read_words(page: &[u8], words: &mut [u32])
-    requires { ⌜ (length (now page) ≡ 132) × (length (now words) ≡ 33) ⌝ }
-    ensures { λ _. ⌜ now (words .exit) ≡ registerWords (now (page .entry)) ⌝ }
+pub fn read_words(registers: &[u8], words: &mut [u32])
+    requires { ⌜ (length (now registers) ≡ registersSize) × (length (now words) ≡ registerCount) ⌝ }
+    ensures { λ _. ⌜ now (words .exit) ≡ registerWords (now (registers .entry)) ⌝ }
 {
     let mut i: usize = 0;
     // Two short loops of known length, which the compiler unrolls.
     while i < 17 {
-        words[i] = words::read_word(page, 4 * i);
+        words[i] = words::read_word(registers, 4 * i);
         i += 1;
     }
     while i < 33 {
-        words[i] = words::read_word(page, 4 * i);
+        words[i] = words::read_word(registers, 4 * i);
         i += 1;
     }
 }
 
-// The register set of a page.
-pub fn read_set(page: &[u8]) -> Registers
-    requires { ⌜ length (now page) ≡ 132 ⌝ }
-    ensures { λ r. ⌜ r ≡ record { words = registerWords (now (page .entry)) } ⌝ }
+// The register set of a register page.
+pub fn read_set(registers: &[u8]) -> Registers
+    requires { ⌜ length (now registers) ≡ registersSize ⌝ }
+    ensures { λ r. ⌜ r ≡ record { words = registerWords (now (registers .entry)) } ⌝ }
 {
     let mut words = [0u32; 33];
-    read_words(page, &mut words);
+    read_words(registers, &mut words);
     Registers { words }
 }

@@ -6,9 +6,11 @@ ghost use mathlib.Core.List.{List, [], _∷_, _++_};
 ghost use Prim.Native.Nat.{ℕ, _<_, _^_};
 ghost use lib.Dec.{eqb, ltb};
 ghost use lib.ListN.{length};
+ghost use Rattle.numbers.specs.Numbers.{refusedTableLength, refusedArgument, registersSize, answerSize};
 ghost use Rattle.registers.specs.Rules.{firstBroken};
 ghost use Rattle.register_words.specs.Sdr1.{sdr1Shape, tableLength, maskOnes};
-ghost use Rattle.registers.specs.Set.{sdr1Of, registerRules};
+ghost use Rattle.register_words.specs.Block.{blWidth};
+ghost use Rattle.registers.specs.Set.{blockPairs, sdr1Of, registerRules};
 ghost use Rattle.matches.specs.Search.{summary};
 ghost use Rattle.tables.specs.Matches.{Match};
 ghost use Rattle.tables.specs.Layout.{matchesOf};
@@ -19,26 +21,27 @@ ghost use Rattle.calls.specs.Request.{access};
 ghost use Rattle.calls.specs.Answers.{accessAnswer};
 ghost use Rattle.calls.specs.OnBytes.{layout, ended, wantedPage, searched, markedBy, onBytes};
 
-// The first broken rule after 11, or 0: the arguments' ranges, then the register set, then the table's length.
+// The first broken rule after the lent lengths, or 0: the arguments' ranges, then the register set, then the table's length.
 fn refusal(words: &[u32; 33], mode: u32, kind: u32, lent: usize) -> u32
-    ensures { λ r. ⌜ r ≡ firstBroken ((not (ltb mode 8 && ltb kind 3), 6)
-        ∷ registerRules 4 11 (now (words .entry)) ++ ((not (eqb lent (tableLength (sdr1Of (now (words .entry))))), 1) ∷ [])) ⌝ }
+    ensures { λ r. ⌜ r ≡ firstBroken ((not (ltb mode 8 && ltb kind 3), refusedArgument)
+        ∷ registerRules blockPairs blWidth (now (words .entry))
+        ++ ((not (eqb lent (tableLength (sdr1Of (now (words .entry))))), refusedTableLength) ∷ [])) ⌝ }
 {
     if !((mode < 8) & (kind < 3)) {
-        return 6;
+        return numbers::REFUSED_ARGUMENT;
     }
     let broken = registers::check_words(words);
-    if broken != 0 {
+    if broken != numbers::DONE {
         return broken;
     }
     if lent != register_words::table_length(words[0]) {
-        return 1;
+        return numbers::REFUSED_TABLE_LENGTH;
     }
-    0
+    numbers::DONE
 }
 
 // What the matches that a search noted come to.
-fn searched_of(search: matches::Search) -> translation::Searched
+fn searched_of(search: matches::Summary) -> translation::Searched
     ensures { λ r. ⌜ ((ms : List Match) → search ≡ summary ms → r ≡ searched ms) ⌝ }
 {
     if !search.found() {
@@ -66,7 +69,7 @@ fn by_page(
     let outcome = translation::after_search(kind, wanted.key, searched_of(search));
     if let translation::Outcome::Done(second) = outcome {
         let group = at.group(search.in_secondary());
-        let marked = entry::with_marks(second, true, kind == protection::STORE);
+        let marked = entry::with_marks(second, true, kind == numbers::STORE);
         groups::put_second(table, group, search.entry(), marked);
     }
     outcome
@@ -92,20 +95,21 @@ fn decided(
 
 // One access whose lent lengths are right: what it answers, with the mark made. The register page is read once.
 pub fn translate(
-    page: &[u8],
+    registers: &[u8],
     mode: u32,
     kind: u32,
     address: u32,
     table: &mut [u8],
 ) -> translation::Answer
-    requires { ⌜ length (now page) ≡ 132 ⌝ }
-    ensures { λ r. ⌜ ((answer : List ℕ) → length answer ≡ 16
-        → ended (r .result) (now (table .exit)) (accessAnswer r) ≡ onBytes (access (now (page .entry)) mode kind address answer) (now (table .entry))) ⌝ }
+    requires { ⌜ length (now registers) ≡ registersSize ⌝ }
+    ensures { λ r. ⌜ ((answer : List ℕ) → length answer ≡ answerSize
+        → ended (r .result) (now (table .exit)) (accessAnswer r)
+        ≡ onBytes (access (record { registers = now (registers .entry); mode = mode; kind = kind; address = address; answer = answer })) (now (table .entry))) ⌝ }
 {
     let mut words = [0u32; 33];
-    registers::read_words(page, &mut words);
+    registers::read_words(registers, &mut words);
     let number = refusal(&words, mode, kind, table.len());
-    if number != 0 {
+    if number != numbers::DONE {
         return translation::answer_of(kind, address, translation::Outcome::Refused(number));
     }
     let early = translation::before_search(&words, mode, kind, address);

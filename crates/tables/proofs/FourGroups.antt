@@ -1,4 +1,4 @@
--- The small kind of table has the laws of a layout, so these can be had together, and its empty table represents the empty map.
+-- The small kind of table has the laws of a layout, so these can be had together, its empty table represents the empty map, and its rows compute.
 use mathlib.Core.Path.{_≡_, refl, ap}
 use mathlib.Core.Bool.{Bool, true, false, cond, _&&_}
 use mathlib.Core.List.{[]}
@@ -8,8 +8,9 @@ use lib.Dec.{eqb}
 use borrow.Author.Tests.{eqb-true, eq-eqb, ne-eqb}
 use Rattle.tables.specs.Layout.{Reads, LayoutLaws}
 use Rattle.tables.specs.Represents.{Represents}
-use Rattle.tables.specs.FourGroups.{pageWord, pageGroup, four}
+use Rattle.tables.specs.FourGroups.{pageWord, pageGroup, four, FourGroupsTables}
 use Rattle.tables.proofs.Steps.{represents-empty}
+use Rattle.tables.proofs.Computes.{tables-compute}
 
 mirrored : (p : ℕ) → pageGroup true p + suc (pageGroup false p) ≡ 2 + 2
 mirrored p = omega arith
@@ -43,3 +44,12 @@ four-laws = record {
 
 pub four-empty : Represents four eqb (λ p. Unit {0}) (λ t. Unit {0}) (λ (w : ℕ). w) (λ w. Unit {0}) (λ g i. (0, 0)) []
 four-empty = represents-empty four-laws (λ g i. (0, 0)) tt (λ g i x y. refl)
+
+pub four-groups-tables : FourGroupsTables
+unfolding tables-compute
+four-groups-tables = record {
+  matches = record { equal = refl };
+  uses = record { equal = refl };
+  free-places = record { equal = refl };
+  overwritten = record { equal = refl };
+}

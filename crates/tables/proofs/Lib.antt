@@ -12,3 +12,4 @@ pub mod Represented
 pub mod Steps
 pub mod FourGroups
 pub mod Runs
+pub mod Computes

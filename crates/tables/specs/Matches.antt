@@ -4,7 +4,7 @@ use mathlib.Core.List.{List, [], _∷_, _++_}
 use Prim.Native.Nat.{ℕ, zero, suc, _+_}
 use Rattle.placement.specs.Lists.{oneIf}
 
--- one match of a page (document 01): which of the page's two groups holds it, the entry's number there, and the entry's two words
+-- one match of a page (rules 4): which of the page's two groups holds it, the entry's number there, and the entry's two words
 pub record Match : Type 0 where
   -- false: the primary group; true: the secondary group
   pub secondary : Bool

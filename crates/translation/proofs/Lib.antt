@@ -3,5 +3,6 @@ pub mod Fields
 pub mod Steps
 pub mod Answers
 pub mod Covering
+pub mod Computes
 pub mod Tables
 pub mod Stated

@@ -8,6 +8,8 @@ use native.Mathlib.Omega.{arith}
 use lib.Dec.{eqb, ltb, lit≤}
 use borrow.Author.Tests.{eqb-true, eqb-false, eq-eqb, ne-eqb, lt-ltb, le-ltb, not-true}
 use Rattle.entry.specs.Entry.{rpnOf, ppOf, physicalAddress}
+use Rattle.numbers.proofs.Tables.{numbers-tables}
+use Rattle.words.proofs.Tables.{words-tables}
 use Rattle.entry.proofs.RoundTrip.{packing-agrees}
 use Rattle.entry.proofs.Tables.{entry-tables}
 use Rattle.register_words.proofs.Tables.{register-words-tables}
@@ -114,6 +116,8 @@ module _ (kind address : ℕ) where
 
 pub access-as-stated : AccessAsStated
 access-as-stated = record {
+  numbers = numbers-tables;
+  words = words-tables;
   packing = packing-agrees;
   entries = entry-tables;
   register-words = register-words-tables;

@@ -1,19 +1,10 @@
 -- Every row of the tables of an access holds: both sides compute to the same.
 use mathlib.Core.Path.{refl}
-use Rattle.words.specs.Below.{firstBelow}
-use Rattle.entry.specs.Entry.{pageIndex, physicalAddress}
-use Rattle.register_words.specs.Segment.{keyOf, noExecute, segmentVsid}
-use Rattle.register_words.specs.Block.{blockAttributes, blockPP, blockPhysical, validFor, inBlock, covers}
-use Rattle.registers.specs.Set.{pairCovers, coveringPair}
-use Rattle.registers.specs.Tables.{blank, one, two, three}
-use Rattle.protection.specs.Access.{userMode, fetching, storing, relocated, sideOf}
-use Rattle.protection.specs.Protection.{pageReadable, pageWritable, pageAllows, blockAllows, guarded}
-use Rattle.protection.specs.Fault.{causeWord, faultOf}
-use Rattle.translation.specs.Steps.{blockOutcome, beforeSearch, pageOutcome, afterSearch, outcomeOf, answerOf}
 use Rattle.translation.specs.Tables.{AccessTables}
+use Rattle.translation.proofs.Computes.{translation-computes}
 
 pub access-tables : AccessTables
-unfolding firstBelow pageIndex physicalAddress noExecute segmentVsid blockAttributes blockPP blockPhysical validFor inBlock covers pairCovers coveringPair blank one two three userMode fetching storing relocated sideOf keyOf pageReadable pageWritable pageAllows blockAllows guarded causeWord faultOf blockOutcome beforeSearch pageOutcome afterSearch outcomeOf answerOf
+unfolding translation-computes
 access-tables = record {
   real-mode = record { equal = refl };
   blocks = record { equal = refl };
@@ -21,6 +12,9 @@ access-tables = record {
   block-privilege = record { equal = refl };
   block-before-segment = record { equal = refl };
   segments = record { equal = refl };
+  sixteen-segments = record { equal = refl };
+  segment-bits = record { equal = refl };
+  keys = record { equal = refl };
   searched = record { equal = refl };
   pages = record { equal = refl };
   answers = record { equal = refl };

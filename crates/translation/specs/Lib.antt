@@ -1,4 +1,4 @@
--- One access without a table's bytes, by document 01's steps: the outcome and its answer; worked tables, and what is stated of an access.
+-- One access without a table's bytes, by its steps (rules 5): the outcome and its answer; worked tables, and what is stated of an access.
 pub mod Steps
 pub mod Tables
 pub mod Stated

@@ -1,20 +1,23 @@
--- What is stated of one access for all arguments, beside the rows of the tables: each step of document 01 with its conditions, and what an outcome answers.
+-- What is stated of one access for all arguments, beside the rows of the tables: each step with its conditions (rules 5), and what an outcome answers.
 use Prim.Native.Nat.{ℕ, _+_, _/_, _%_, _^_, _<_}
 use mathlib.Core.Bool.{Bool, true, false, _&&_}
 use mathlib.Core.List.{List}
 use mathlib.Core.Logic.{_↔_}
 use mathlib.Core.Path.{_≡_}
 use lib.Ieee.{size}
+use Rattle.numbers.specs.Numbers.{done, dataStorageFault, instructionStorageFault, refusedContradiction, fetch, store, attributesReal}
+use Rattle.numbers.specs.Tables.{NumbersTables}
 use Rattle.words.specs.Bits.{placed}
+use Rattle.words.specs.Tables.{WordsTables}
 use Rattle.entry.specs.Entry.{rpnOf, wimgOf, ppOf}
 use Rattle.entry.specs.RoundTrip.{PackingAgrees}
 use Rattle.entry.specs.Tables.{EntryTables}
 use Rattle.register_words.specs.Tables.{RegisterWordsTables}
 use Rattle.registers.specs.Tables.{RegistersTables}
 use Rattle.register_words.specs.Segment.{noExecute}
-use Rattle.register_words.specs.Block.{brpnOf, blOf, upperShape, lowerShape, blockAttributes, blockPP, blockPhysical}
+use Rattle.register_words.specs.Block.{blWidth, brpnOf, blOf, upperShape, lowerShape, blockAttributes, blockPP, blockPhysical}
 use Rattle.registers.specs.Blocks.{BlocksDecide}
-use Rattle.registers.specs.Set.{upperOf, lowerOf, checkWords, pairCovers}
+use Rattle.registers.specs.Set.{blockPairs, upperOf, lowerOf, checkWords, pairCovers}
 use Rattle.protection.specs.Access.{userMode, fetching, relocated, sideOf}
 use Rattle.protection.specs.Protection.{pageAllows, blockAllows, guarded}
 use Rattle.protection.specs.Fault.{faultOf}
@@ -45,13 +48,13 @@ pub record StepsBefore (pairs width : ℕ) (words : List ℕ) (mode kind address
   -- step 1: IR off for a fetch, DR off for data
   pub real-mode : relocated mode kind ≡ false → beforeSearch pairs width words mode kind address ≡ Decided Real
   -- step 2: the block of the side that covers the address decides, by its PP
-  pub block-done : relocated mode kind ≡ true → checkWords pairs width words ≡ 0
+  pub block-done : relocated mode kind ≡ true → checkWords pairs width words ≡ done
       → (i : ℕ) → i < pairs → pairCovers pairs width words (sideOf kind) (userMode mode) address i ≡ true
       → blockAllows (blockPP (lowerOf pairs words (sideOf kind) i)) kind ≡ true
       → let upper = upperOf pairs words (sideOf kind) i in
       let lower = lowerOf pairs words (sideOf kind) i in
       beforeSearch pairs width words mode kind address ≡ Decided (Block i (blockPhysical width upper lower address) (blockAttributes lower))
-  pub block-fault : relocated mode kind ≡ true → checkWords pairs width words ≡ 0
+  pub block-fault : relocated mode kind ≡ true → checkWords pairs width words ≡ done
       → (i : ℕ) → i < pairs → pairCovers pairs width words (sideOf kind) (userMode mode) address i ≡ true
       → blockAllows (blockPP (lowerOf pairs words (sideOf kind) i)) kind ≡ false
       → beforeSearch pairs width words mode kind address ≡ Decided (BlockProtection i)
@@ -69,12 +72,12 @@ pub record StepsBefore (pairs width : ℕ) (words : List ℕ) (mode kind address
   -- no other outcome is decided before the search
   pub only-early : (outcome : Outcome) → beforeSearch pairs width words mode kind address ≡ Decided outcome → earlyOutcome outcome ≡ true
   -- N is met by a fetch alone
-  pub only-fetches : beforeSearch pairs width words mode kind address ≡ Decided NoExecute → kind ≡ 0
+  pub only-fetches : beforeSearch pairs width words mode kind address ≡ Decided NoExecute → kind ≡ fetch
 
 -- steps 4 to 7: what the search found, and the entry's G and PP
 pub record StepsAfter (kind : ℕ) (key : Bool) : Type 0 where
   -- step 4
-  pub contradiction : afterSearch kind key Contradicting ≡ Refused 10
+  pub contradiction : afterSearch kind key Contradicting ≡ Refused refusedContradiction
   pub no-match : afterSearch kind key Nothing ≡ NoMatch
   -- step 5: a fetch with G = 1
   pub guarded-fetch : (second : ℕ) → fetching kind && guarded (wimgOf second) ≡ true → afterSearch kind key (At second) ≡ Guarded
@@ -86,12 +89,12 @@ pub record StepsAfter (kind : ℕ) (key : Bool) : Type 0 where
       → (afterSearch kind key searched ≡ Done second)
       ↔ ((searched ≡ At second) × ((fetching kind && guarded (wimgOf second) ≡ false) × (pageAllows key (ppOf second) kind ≡ true)))
   -- a store is done only by a page that its key may write
-  pub store-done : (searched : Searched) (second : ℕ) → kind ≡ 2 → afterSearch kind key searched ≡ Done second
+  pub store-done : (searched : Searched) (second : ℕ) → kind ≡ store → afterSearch kind key searched ≡ Done second
       → (key ≡ false → ppOf second ≡ 3 → ⊥) × (key ≡ true → ppOf second ≡ 2)
   -- no outcome of an earlier step comes of the search
   pub only-late : (searched : Searched) → earlyOutcome (afterSearch kind key searched) ≡ false
   -- G is met by a fetch alone
-  pub only-fetches : (searched : Searched) → afterSearch kind key searched ≡ Guarded → kind ≡ 0
+  pub only-fetches : (searched : Searched) → afterSearch kind key searched ≡ Guarded → kind ≡ fetch
   -- of the entry only RPN, WIMG and PP play a part in the answer
   pub by-fields : (address u w : ℕ) → rpnOf u ≡ rpnOf w → wimgOf u ≡ wimgOf w → ppOf u ≡ ppOf w
       → answerOf kind address (afterSearch kind key (At u)) ≡ answerOf kind address (afterSearch kind key (At w))
@@ -100,30 +103,32 @@ pub record StepsAfter (kind : ℕ) (key : Bool) : Type 0 where
 pub record AnswersStated (kind address : ℕ) : Type 0 where
   -- in real mode the address itself, whatever the registers hold and whatever a search would find
   pub real-mode : (pairs width : ℕ) (words : List ℕ) (mode : ℕ) (search : Wanted → Searched) → relocated mode kind ≡ false
-      → answerOf kind address (outcomeOf kind search (beforeSearch pairs width words mode kind address)) ≡ doneAnswer address 3 address
-  -- done by a page: 0, the entry's frame with the byte in the page, the entry's attributes
-  pub done : (second : ℕ) → answerOf kind address (Done second) .result ≡ 0
+      → answerOf kind address (outcomeOf kind search (beforeSearch pairs width words mode kind address)) ≡ doneAnswer address attributesReal address
+  -- done by a page: the entry's frame with the byte in the page, the entry's attributes
+  pub done : (second : ℕ) → answerOf kind address (Done second) .result ≡ done
   pub frame : (second : ℕ) → answerOf kind address (Done second) .address / 2 ^ 12 ≡ rpnOf second
   pub byte : (second : ℕ) → answerOf kind address (Done second) .address % 2 ^ 12 ≡ address % 2 ^ 12
   pub attributes : (second : ℕ) → answerOf kind address (Done second) .attributes ≡ wimgOf second
-  -- a fetch's fault is 65 at 0x400, any other's 64 at 0x300, whatever the cause
-  pub fetch-fault : (cause : ℕ) → kind ≡ 0 → (faultOf cause kind .result ≡ 65) × (faultOf cause kind .offset ≡ 0x400)
-  pub data-fault : (cause : ℕ) → (kind ≡ 0 → ⊥) → (faultOf cause kind .result ≡ 64) × (faultOf cause kind .offset ≡ 0x300)
+  -- a fetch's fault is an instruction storage fault at 0x400, any other's a data storage fault at 0x300, whatever the cause
+  pub fetch-fault : (cause : ℕ) → kind ≡ fetch → (faultOf cause kind .result ≡ instructionStorageFault) × (faultOf cause kind .offset ≡ 0x400)
+  pub data-fault : (cause : ℕ) → (kind ≡ fetch → ⊥) → (faultOf cause kind .result ≡ dataStorageFault) × (faultOf cause kind .offset ≡ 0x300)
   -- the effective address is answered unless the access is refused; then the last three words are zero
   pub effective : (outcome : Outcome) → ((number : ℕ) → outcome ≡ Refused number → ⊥) → answerOf kind address outcome .effective ≡ address
   pub refused : (number : ℕ) → answerOf kind address (Refused number) ≡ refusedAnswer number
 
--- demand 2: packing, entries, registers, blocks and the steps of an access are as document 01 states them
+-- packing, entries, registers, blocks and the steps of an access are as the rules state them
 pub record AccessAsStated : Type 0 where
+  pub numbers : NumbersTables
+  pub words : WordsTables
   pub packing : PackingAgrees
   pub entries : EntryTables
   pub register-words : RegisterWordsTables
   pub registers : RegistersTables
-  pub blocks : BlocksDecide 4 11
+  pub blocks : BlocksDecide blockPairs blWidth
   -- in a block of right shape the physical address is its physical start and the address's 17 + k low bits, where BL has k ones
-  pub block-physical : (side : Bool) (upper lower address : ℕ) → upperShape 11 upper ≡ true → lowerShape 11 side upper lower ≡ true
-      → blockPhysical 11 upper lower address ≡ placed 14 (brpnOf lower) + address % 2 ^ (17 + size (blOf 11 upper))
-  pub before : (words : List ℕ) (mode kind address : ℕ) → StepsBefore 4 11 words mode kind address
+  pub block-physical : (side : Bool) (upper lower address : ℕ) → upperShape blWidth upper ≡ true → lowerShape blWidth side upper lower ≡ true
+      → blockPhysical blWidth upper lower address ≡ placed 14 (brpnOf lower) + address % 2 ^ (17 + size (blOf blWidth upper))
+  pub before : (words : List ℕ) (mode kind address : ℕ) → StepsBefore blockPairs blWidth words mode kind address
   pub after : (kind : ℕ) (key : Bool) → StepsAfter kind key
   pub answers : (kind address : ℕ) → AnswersStated kind address
   pub protection : ProtectionTables

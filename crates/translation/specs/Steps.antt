@@ -1,9 +1,10 @@
--- One access by document 01's steps: what is decided before the search, what after it, and what an outcome answers.
--- The register set is given by its words; `pairs` is the number of block pairs a side, 4 in the base, and `width` the width of BL, 11 in the base.
+-- One access by its steps (rules 5): what is decided before the search, what after it, and what an outcome answers.
+-- The register set is given by its words; `pairs` is the number of block pairs a side, and `width` the width of BL.
 use Prim.Native.Nat.{ℕ}
 use mathlib.Core.Bool.{Bool, cond, not, _&&_}
 use mathlib.Core.List.{List}
 use lib.Dec.{ltb}
+use Rattle.numbers.specs.Numbers.{done, refusedContradiction, attributesReal}
 use Rattle.words.specs.Bits.{bits}
 use Rattle.entry.specs.Entry.{wimgOf, ppOf, pageIndex, physicalAddress}
 use Rattle.register_words.specs.Segment.{keyOf, noExecute, segmentVsid}
@@ -54,7 +55,7 @@ pageOutcome kind key second =
 
 -- steps 4 to 7, by what the search found
 unfoldable pub afterSearch : ℕ → Bool → Searched → Outcome
-afterSearch kind key Contradicting = Refused 10
+afterSearch kind key Contradicting = Refused refusedContradiction
 afterSearch kind key Nothing = NoMatch
 afterSearch kind key (At second) = pageOutcome kind key second
 
@@ -63,9 +64,9 @@ unfoldable pub outcomeOf : ℕ → (Wanted → Searched) → Early → Outcome
 outcomeOf kind search (Decided outcome) = outcome
 outcomeOf kind search (Search wanted) = afterSearch kind (wanted .key) (search wanted)
 
--- a done access answers 0, the physical address, the attributes and the effective address
+-- a done access answers its number, the physical address, the attributes and the effective address
 abbrev pub doneAnswer : ℕ → ℕ → ℕ → Answer
-doneAnswer physical attributes address = record { result = 0; address = physical; attributes = attributes; effective = address }
+doneAnswer physical attributes address = record { result = done; address = physical; attributes = attributes; effective = address }
 
 -- a fault answers its number, the fault word, the interrupt offset and the effective address
 abbrev pub faultAnswer : Fault → ℕ → Answer
@@ -75,9 +76,9 @@ faultAnswer fault address = record { result = fault .result; address = fault .wo
 abbrev pub refusedAnswer : ℕ → Answer
 refusedAnswer number = record { result = number; address = 0; attributes = 0; effective = 0 }
 
--- document 01's number and values for each outcome
+-- the number and the values that each outcome answers (rules 2 and 5)
 unfoldable pub answerOf : ℕ → ℕ → Outcome → Answer
-answerOf kind address Real = doneAnswer address 3 address
+answerOf kind address Real = doneAnswer address attributesReal address
 answerOf kind address (Block i physical attributes) = doneAnswer physical attributes address
 answerOf kind address (BlockProtection i) = faultAnswer (faultOf protection kind) address
 answerOf kind address NoExecute = faultAnswer (faultOf noFetch kind) address

@@ -1,12 +1,16 @@
 -- Tables that pin the steps of an access and what an outcome answers, each closed by computation: a good and a bad row for each step and its order.
-use Prim.Native.Nat.{ℕ}
+use Prim.Native.Nat.{ℕ, _+_, _*_}
 use mathlib.Core.Bool.{Bool, true, false, cond, _&&_}
-use mathlib.Core.List.{List, [], _∷_}
+use mathlib.Core.List.{List, [], _∷_, _++_, map}
 use lib.Dec.{eqb}
-use Rattle.words.specs.Rows.{Hold}
+use lib.ListN.{replicate}
+use Rattle.numbers.specs.Numbers.{done, dataStorageFault, instructionStorageFault, refusedContradiction}
+use Rattle.words.specs.Rows.{Hold, eachBit}
+use Rattle.register_words.specs.Block.{blWidth}
+use Rattle.registers.specs.Set.{blockPairs}
 use Rattle.protection.specs.Tables.{byKind}
 use Rattle.registers.specs.Tables.{one, two, three}
-use Rattle.translation.specs.Steps.{beforeSearch, afterSearch, outcomeOf, answerOf}
+use Rattle.translation.specs.Steps.{segmentAt, beforeSearch, afterSearch, outcomeOf, answerOf}
 use Rattle.translation.specs.declared.Outcome.{Outcome}
 use Rattle.translation.specs.declared.Outcome.the-variants.{Real, Block, BlockProtection, NoExecute, NoMatch, Guarded, Protection, Done, Refused}
 use Rattle.translation.specs.declared.Wanted.{Wanted}
@@ -36,80 +40,130 @@ holding second wanted = cond (eqb (wanted .vsid) 0x0C701C && eqb (wanted .index)
 
 -- a whole access to that table
 abbrev pub accessed : ℕ → List ℕ → ℕ → ℕ → ℕ → Answer
-accessed second words mode kind address = answerOf kind address (outcomeOf kind (holding second) (beforeSearch 4 11 words mode kind address))
+accessed second words mode kind address = answerOf kind address (outcomeOf kind (holding second) (beforeSearch blockPairs blWidth words mode kind address))
 
 -- segment 0 no-execute, and blocks that allow nothing over its first 128 KB on both sides
 abbrev pub forbidding : List ℕ
 forbidding = three 1 0x10000000 17 0x00000003 25 0x00000003
 
+-- SDR1 0, sixteen segment registers with sixteen VSIDs, all blocks off
+abbrev pub below16 : List ℕ
+below16 = 0 ∷ 1 ∷ 2 ∷ 3 ∷ 4 ∷ 5 ∷ 6 ∷ 7 ∷ 8 ∷ 9 ∷ 10 ∷ 11 ∷ 12 ∷ 13 ∷ 14 ∷ 15 ∷ []
+
+abbrev pub sixteenSegments : List ℕ
+sixteenSegments = 0 ∷ map (λ i. 0x00A5A500 + i) below16 ++ replicate 16 0
+
+-- fetch, load and store by segment register 0, in a mode with IR and DR on
+abbrev pub through : ℕ → ℕ → List Early
+through segment mode = byKind (λ (kind : ℕ). beforeSearch blockPairs blWidth (one 1 segment) mode kind 0x00FFA01B)
+
+-- each of the three goes to the search with this key; the fetch faults, and the others do
+abbrev pub keyed : Bool → List Early
+keyed key = search 0x0C701C 0x0FFA key ∷ search 0x0C701C 0x0FFA key ∷ search 0x0C701C 0x0FFA key ∷ []
+
+abbrev pub fetchFaults : Bool → List Early
+fetchFaults key = Decided NoExecute ∷ search 0x0C701C 0x0FFA key ∷ search 0x0C701C 0x0FFA key ∷ []
+
 pub record AccessTables : Type 0 where
   -- step 1 comes before all others
   pub real-mode : Hold (
-      (beforeSearch 4 11 forbidding 0 0 0x00001234, Decided Real)
-      ∷ (beforeSearch 4 11 forbidding 5 0 0x00001234, Decided Real)
-      ∷ (beforeSearch 4 11 forbidding 2 1 0x00001234, Decided Real)
-      ∷ (beforeSearch 4 11 forbidding 6 2 0x00001234, Decided Real)
-      ∷ (beforeSearch 4 11 forbidding 2 0 0x00001234, Decided (BlockProtection 0))
-      ∷ (beforeSearch 4 11 forbidding 1 1 0x00001234, Decided (BlockProtection 0))
+      (beforeSearch blockPairs blWidth forbidding 0 0 0x00001234, Decided Real)
+      ∷ (beforeSearch blockPairs blWidth forbidding 5 0 0x00001234, Decided Real)
+      ∷ (beforeSearch blockPairs blWidth forbidding 2 1 0x00001234, Decided Real)
+      ∷ (beforeSearch blockPairs blWidth forbidding 6 2 0x00001234, Decided Real)
+      ∷ (beforeSearch blockPairs blWidth forbidding 2 0 0x00001234, Decided (BlockProtection 0))
+      ∷ (beforeSearch blockPairs blWidth forbidding 1 1 0x00001234, Decided (BlockProtection 0))
       ∷ []
       )
   -- step 2: cases 8 and 9, the edges, the attributes, the first and the last pair of each side
   pub blocks : Hold (
-      (beforeSearch 4 11 (two 25 0x80001FFE 26 0x10000002) 1 1 0x8FFFFFFF, Decided (Block 0 0x1FFFFFFF 0))
-      ∷ (beforeSearch 4 11 (two 25 0x80001FFE 26 0x10000002) 1 1 0x80000000, Decided (Block 0 0x10000000 0))
-      ∷ (beforeSearch 4 11 (two 25 0x80001FFE 26 0x10000002) 1 1 0x90000000, search 0 0 false)
-      ∷ (beforeSearch 4 11 (two 25 0x00000002 26 0x20000002) 1 1 0x0001FFFF, Decided (Block 0 0x2001FFFF 0))
-      ∷ (beforeSearch 4 11 (two 25 0x00000002 26 0x20000002) 1 1 0x00020000, search 0 0x20 false)
-      ∷ (beforeSearch 4 11 (two 31 0x00000002 32 0x2000005A) 1 2 0x00001234, Decided (Block 3 0x20001234 11))
-      ∷ (beforeSearch 4 11 (two 17 0x00000002 18 0x20000033) 2 0 0x00001234, Decided (Block 0 0x20001234 6))
-      ∷ (beforeSearch 4 11 (two 23 0x00000002 24 0x20000001) 2 0 0x00001234, Decided (Block 3 0x20001234 0))
+      (beforeSearch blockPairs blWidth (two 25 0x80001FFE 26 0x10000002) 1 1 0x8FFFFFFF, Decided (Block 0 0x1FFFFFFF 0))
+      ∷ (beforeSearch blockPairs blWidth (two 25 0x80001FFE 26 0x10000002) 1 1 0x80000000, Decided (Block 0 0x10000000 0))
+      ∷ (beforeSearch blockPairs blWidth (two 25 0x80001FFE 26 0x10000002) 1 1 0x90000000, search 0 0 false)
+      ∷ (beforeSearch blockPairs blWidth (two 25 0x00000002 26 0x20000002) 1 1 0x0001FFFF, Decided (Block 0 0x2001FFFF 0))
+      ∷ (beforeSearch blockPairs blWidth (two 25 0x00000002 26 0x20000002) 1 1 0x00020000, search 0 0x20 false)
+      ∷ (beforeSearch blockPairs blWidth (two 31 0x00000002 32 0x2000005A) 1 2 0x00001234, Decided (Block 3 0x20001234 11))
+      ∷ (beforeSearch blockPairs blWidth (two 17 0x00000002 18 0x20000033) 2 0 0x00001234, Decided (Block 0 0x20001234 6))
+      ∷ (beforeSearch blockPairs blWidth (two 23 0x00000002 24 0x20000001) 2 0 0x00001234, Decided (Block 3 0x20001234 0))
       ∷ []
       )
   -- the other side's block does not count
   pub block-sides : Hold (
-      (beforeSearch 4 11 (two 17 0x00000003 18 0x20000002) 3 0 0x00001234, Decided (Block 0 0x20001234 0))
-      ∷ (beforeSearch 4 11 (two 17 0x00000003 18 0x20000002) 3 1 0x00001234, search 0 1 false)
-      ∷ (beforeSearch 4 11 (two 17 0x00000003 18 0x20000002) 3 2 0x00001234, search 0 1 false)
-      ∷ (beforeSearch 4 11 (two 25 0x00000003 26 0x20000002) 3 0 0x00001234, search 0 1 false)
-      ∷ (beforeSearch 4 11 (two 25 0x00000003 26 0x20000002) 3 1 0x00001234, Decided (Block 0 0x20001234 0))
-      ∷ (beforeSearch 4 11 (two 25 0x00000003 26 0x20000002) 3 2 0x00001234, Decided (Block 0 0x20001234 0))
+      (beforeSearch blockPairs blWidth (two 17 0x00000003 18 0x20000002) 3 0 0x00001234, Decided (Block 0 0x20001234 0))
+      ∷ (beforeSearch blockPairs blWidth (two 17 0x00000003 18 0x20000002) 3 1 0x00001234, search 0 1 false)
+      ∷ (beforeSearch blockPairs blWidth (two 17 0x00000003 18 0x20000002) 3 2 0x00001234, search 0 1 false)
+      ∷ (beforeSearch blockPairs blWidth (two 25 0x00000003 26 0x20000002) 3 0 0x00001234, search 0 1 false)
+      ∷ (beforeSearch blockPairs blWidth (two 25 0x00000003 26 0x20000002) 3 1 0x00001234, Decided (Block 0 0x20001234 0))
+      ∷ (beforeSearch blockPairs blWidth (two 25 0x00000003 26 0x20000002) 3 2 0x00001234, Decided (Block 0 0x20001234 0))
       ∷ []
       )
   -- Vs for the supervisor, Vp for the user
   pub block-privilege : Hold (
-      (beforeSearch 4 11 (two 25 0x00000002 26 0x20000002) 3 1 0x00001234, Decided (Block 0 0x20001234 0))
-      ∷ (beforeSearch 4 11 (two 25 0x00000002 26 0x20000002) 7 1 0x00001234, search 0 1 false)
-      ∷ (beforeSearch 4 11 (two 25 0x00000001 26 0x20000002) 3 1 0x00001234, search 0 1 false)
-      ∷ (beforeSearch 4 11 (two 25 0x00000001 26 0x20000002) 7 1 0x00001234, Decided (Block 0 0x20001234 0))
-      ∷ (beforeSearch 4 11 (three 25 0x00000002 27 0x00000001 28 0x30000002) 7 1 0x00001234, Decided (Block 1 0x30001234 0))
+      (beforeSearch blockPairs blWidth (two 25 0x00000002 26 0x20000002) 3 1 0x00001234, Decided (Block 0 0x20001234 0))
+      ∷ (beforeSearch blockPairs blWidth (two 25 0x00000002 26 0x20000002) 7 1 0x00001234, search 0 1 false)
+      ∷ (beforeSearch blockPairs blWidth (two 25 0x00000001 26 0x20000002) 3 1 0x00001234, search 0 1 false)
+      ∷ (beforeSearch blockPairs blWidth (two 25 0x00000001 26 0x20000002) 7 1 0x00001234, Decided (Block 0 0x20001234 0))
+      ∷ (beforeSearch blockPairs blWidth (three 25 0x00000002 27 0x00000001 28 0x30000002) 7 1 0x00001234, Decided (Block 1 0x30001234 0))
       ∷ []
       )
   -- a block decides before the segment, also by its protection
   pub block-before-segment : Hold (
-      (beforeSearch 4 11 (three 1 0x700C701C 17 0x00000003 18 0x20000001) 2 0 0x00001234, Decided (Block 0 0x20001234 0))
-      ∷ (beforeSearch 4 11 (three 1 0x700C701C 17 0x00000003 18 0x20000000) 2 0 0x00001234, Decided (BlockProtection 0))
-      ∷ (beforeSearch 4 11 (three 1 0x000C701C 25 0x00000003 26 0x20000001) 1 1 0x00001234, Decided (Block 0 0x20001234 0))
-      ∷ (beforeSearch 4 11 (three 1 0x000C701C 25 0x00000003 26 0x20000001) 1 2 0x00001234, Decided (BlockProtection 0))
-      ∷ (beforeSearch 4 11 (three 1 0x000C701C 31 0x00000003 32 0x20000003) 5 2 0x00001234, Decided (BlockProtection 3))
+      (beforeSearch blockPairs blWidth (three 1 0x700C701C 17 0x00000003 18 0x20000001) 2 0 0x00001234, Decided (Block 0 0x20001234 0))
+      ∷ (beforeSearch blockPairs blWidth (three 1 0x700C701C 17 0x00000003 18 0x20000000) 2 0 0x00001234, Decided (BlockProtection 0))
+      ∷ (beforeSearch blockPairs blWidth (three 1 0x000C701C 25 0x00000003 26 0x20000001) 1 1 0x00001234, Decided (Block 0 0x20001234 0))
+      ∷ (beforeSearch blockPairs blWidth (three 1 0x000C701C 25 0x00000003 26 0x20000001) 1 2 0x00001234, Decided (BlockProtection 0))
+      ∷ (beforeSearch blockPairs blWidth (three 1 0x000C701C 31 0x00000003 32 0x20000003) 5 2 0x00001234, Decided (BlockProtection 3))
       ∷ []
       )
   -- step 3: the segment by address bits 0 to 3; N stops a fetch and no other access; the key goes with the page
   pub segments : Hold (
-      (beforeSearch 4 11 (one 16 0x100C701C) 3 0 0xF0FFA01B, Decided NoExecute)
-      ∷ (beforeSearch 4 11 (one 16 0x100C701C) 3 1 0xF0FFA01B, search 0x0C701C 0x0FFA false)
-      ∷ (beforeSearch 4 11 (one 16 0x100C701C) 3 2 0xF0FFA01B, search 0x0C701C 0x0FFA false)
-      ∷ (beforeSearch 4 11 (one 16 0x100C701C) 3 0 0x00FFA01B, search 0 0x0FFA false)
-      ∷ (beforeSearch 4 11 (one 1 0x100C701C) 3 0 0x00FFA01B, Decided NoExecute)
-      ∷ (beforeSearch 4 11 (one 1 0x60FFFFFF) 3 0 0x0FFFFFFF, search 0xFFFFFF 0xFFFF true)
-      ∷ (beforeSearch 4 11 (one 1 0x400C701C) 3 1 0x00FFA01B, search 0x0C701C 0x0FFA true)
-      ∷ (beforeSearch 4 11 (one 1 0x400C701C) 7 1 0x00FFA01B, search 0x0C701C 0x0FFA false)
-      ∷ (beforeSearch 4 11 (one 1 0x200C701C) 3 1 0x00FFA01B, search 0x0C701C 0x0FFA false)
-      ∷ (beforeSearch 4 11 (one 1 0x200C701C) 7 1 0x00FFA01B, search 0x0C701C 0x0FFA true)
+      (beforeSearch blockPairs blWidth (one 16 0x100C701C) 3 0 0xF0FFA01B, Decided NoExecute)
+      ∷ (beforeSearch blockPairs blWidth (one 16 0x100C701C) 3 1 0xF0FFA01B, search 0x0C701C 0x0FFA false)
+      ∷ (beforeSearch blockPairs blWidth (one 16 0x100C701C) 3 2 0xF0FFA01B, search 0x0C701C 0x0FFA false)
+      ∷ (beforeSearch blockPairs blWidth (one 16 0x100C701C) 3 0 0x00FFA01B, search 0 0x0FFA false)
+      ∷ (beforeSearch blockPairs blWidth (one 1 0x100C701C) 3 0 0x00FFA01B, Decided NoExecute)
+      ∷ (beforeSearch blockPairs blWidth (one 1 0x60FFFFFF) 3 0 0x0FFFFFFF, search 0xFFFFFF 0xFFFF true)
+      ∷ (beforeSearch blockPairs blWidth (one 1 0x400C701C) 3 1 0x00FFA01B, search 0x0C701C 0x0FFA true)
+      ∷ (beforeSearch blockPairs blWidth (one 1 0x400C701C) 7 1 0x00FFA01B, search 0x0C701C 0x0FFA false)
+      ∷ (beforeSearch blockPairs blWidth (one 1 0x200C701C) 3 1 0x00FFA01B, search 0x0C701C 0x0FFA false)
+      ∷ (beforeSearch blockPairs blWidth (one 1 0x200C701C) 7 1 0x00FFA01B, search 0x0C701C 0x0FFA true)
+      ∷ []
+      )
+  -- each of the sixteen segments, at its first and its last address; and by each address bit alone
+  pub sixteen-segments : Hold ((
+    map (λ i. beforeSearch blockPairs blWidth sixteenSegments 3 1 (i * 0x10000000)) below16,
+    map (λ i. search (0x00A5A500 + i) 0 false) below16,
+  )
+      ∷ (
+        map (λ i. beforeSearch blockPairs blWidth sixteenSegments 3 1 (i * 0x10000000 + 0x0FFFFFFF)) below16,
+        map (λ i. search (0x00A5A500 + i) 0xFFFF false) below16,
+      )
+      ∷ []
+      )
+  pub segment-bits : Hold ((map (segmentAt sixteenSegments) eachBit, 0x00A5A508 ∷ 0x00A5A504 ∷ 0x00A5A502 ∷ 0x00A5A501 ∷ replicate 28 0x00A5A500) ∷ [])
+  -- Ks × Kp × N × PR × kind: the supervisor (mode 3) goes by Ks, the user (mode 7) by Kp; N stops a fetch, whatever the keys
+  pub keys : Hold (
+      (through 0x000C701C 3, keyed false)
+      ∷ (through 0x000C701C 7, keyed false)
+      ∷ (through 0x200C701C 3, keyed false)
+      ∷ (through 0x200C701C 7, keyed true)
+      ∷ (through 0x400C701C 3, keyed true)
+      ∷ (through 0x400C701C 7, keyed false)
+      ∷ (through 0x600C701C 3, keyed true)
+      ∷ (through 0x600C701C 7, keyed true)
+      ∷ (through 0x100C701C 3, fetchFaults false)
+      ∷ (through 0x100C701C 7, fetchFaults false)
+      ∷ (through 0x300C701C 3, fetchFaults false)
+      ∷ (through 0x300C701C 7, fetchFaults true)
+      ∷ (through 0x500C701C 3, fetchFaults true)
+      ∷ (through 0x500C701C 7, fetchFaults false)
+      ∷ (through 0x700C701C 3, fetchFaults true)
+      ∷ (through 0x700C701C 7, fetchFaults true)
       ∷ []
       )
   -- step 4
   pub searched : Hold (
-      (byKind (λ (kind : ℕ). afterSearch kind false Contradicting), outcomes (Refused 10) (Refused 10) (Refused 10))
+      (byKind (λ (kind : ℕ). afterSearch kind false Contradicting), outcomes (Refused refusedContradiction) (Refused refusedContradiction) (Refused refusedContradiction))
       ∷ (byKind (λ (kind : ℕ). afterSearch kind true Nothing), outcomes NoMatch NoMatch NoMatch)
       ∷ []
       )
@@ -135,33 +189,33 @@ pub record AccessTables : Type 0 where
       )
   -- what each outcome answers
   pub answers : Hold (
-      (answerOf 0 0x00FFA01B Real, answer 0 0x00FFA01B 3 0x00FFA01B)
-      ∷ (answerOf 2 0x8FFFFFFF (Block 3 0x1FFFFFFF 11), answer 0 0x1FFFFFFF 11 0x8FFFFFFF)
-      ∷ (answerOf 0 0x00FFA01B (BlockProtection 3), answer 65 0x08000000 0x400 0x00FFA01B)
-      ∷ (answerOf 1 0x00FFA01B (BlockProtection 3), answer 64 0x08000000 0x300 0x00FFA01B)
-      ∷ (answerOf 2 0x00FFA01B (BlockProtection 3), answer 64 0x0A000000 0x300 0x00FFA01B)
-      ∷ (answerOf 0 0x00FFA01B NoExecute, answer 65 0x10000000 0x400 0x00FFA01B)
-      ∷ (answerOf 0 0x00FFA01B NoMatch, answer 65 0x40000000 0x400 0x00FFA01B)
-      ∷ (answerOf 1 0x00FFA01B NoMatch, answer 64 0x40000000 0x300 0x00FFA01B)
-      ∷ (answerOf 2 0x00FFA01B NoMatch, answer 64 0x42000000 0x300 0x00FFA01B)
-      ∷ (answerOf 0 0x00FFA01B Guarded, answer 65 0x10000000 0x400 0x00FFA01B)
-      ∷ (answerOf 0 0x00FFA01B Protection, answer 65 0x08000000 0x400 0x00FFA01B)
-      ∷ (answerOf 1 0x00FFA01B Protection, answer 64 0x08000000 0x300 0x00FFA01B)
-      ∷ (answerOf 2 0x00FFA01B Protection, answer 64 0x0A000000 0x300 0x00FFA01B)
-      ∷ (answerOf 2 0x00FFA01B (Done 0x12345012), answer 0 0x1234501B 2 0x00FFA01B)
-      ∷ (answerOf 1 0xFFFFFFFF (Done 0xABCDE07B), answer 0 0xABCDEFFF 15 0xFFFFFFFF)
-      ∷ (answerOf 1 0x00FFA01B (Refused 10), answer 10 0 0 0)
+      (answerOf 0 0x00FFA01B Real, answer done 0x00FFA01B 3 0x00FFA01B)
+      ∷ (answerOf 2 0x8FFFFFFF (Block 3 0x1FFFFFFF 11), answer done 0x1FFFFFFF 11 0x8FFFFFFF)
+      ∷ (answerOf 0 0x00FFA01B (BlockProtection 3), answer instructionStorageFault 0x08000000 0x400 0x00FFA01B)
+      ∷ (answerOf 1 0x00FFA01B (BlockProtection 3), answer dataStorageFault 0x08000000 0x300 0x00FFA01B)
+      ∷ (answerOf 2 0x00FFA01B (BlockProtection 3), answer dataStorageFault 0x0A000000 0x300 0x00FFA01B)
+      ∷ (answerOf 0 0x00FFA01B NoExecute, answer instructionStorageFault 0x10000000 0x400 0x00FFA01B)
+      ∷ (answerOf 0 0x00FFA01B NoMatch, answer instructionStorageFault 0x40000000 0x400 0x00FFA01B)
+      ∷ (answerOf 1 0x00FFA01B NoMatch, answer dataStorageFault 0x40000000 0x300 0x00FFA01B)
+      ∷ (answerOf 2 0x00FFA01B NoMatch, answer dataStorageFault 0x42000000 0x300 0x00FFA01B)
+      ∷ (answerOf 0 0x00FFA01B Guarded, answer instructionStorageFault 0x10000000 0x400 0x00FFA01B)
+      ∷ (answerOf 0 0x00FFA01B Protection, answer instructionStorageFault 0x08000000 0x400 0x00FFA01B)
+      ∷ (answerOf 1 0x00FFA01B Protection, answer dataStorageFault 0x08000000 0x300 0x00FFA01B)
+      ∷ (answerOf 2 0x00FFA01B Protection, answer dataStorageFault 0x0A000000 0x300 0x00FFA01B)
+      ∷ (answerOf 2 0x00FFA01B (Done 0x12345012), answer done 0x1234501B 2 0x00FFA01B)
+      ∷ (answerOf 1 0xFFFFFFFF (Done 0xABCDE07B), answer done 0xABCDEFFF 15 0xFFFFFFFF)
+      ∷ (answerOf 1 0x00FFA01B (Refused refusedContradiction), answer refusedContradiction 0 0 0)
       ∷ []
       )
   -- whole accesses: cases 3, 4, 5 and 8, then the same page fetched, and its fetch forbidden by G, by N and by N before any search
   pub accesses : Hold (
-      (accessed 0x12345012 (one 1 0x000C701C) 1 2 0x00FFA01B, answer 0 0x1234501B 2 0x00FFA01B)
-      ∷ (accessed 0x12345013 (one 1 0x000C701C) 1 2 0x00FFA01B, answer 64 0x0A000000 0x300 0x00FFA01B)
-      ∷ (accessed 0x12345012 (one 1 0x000C701C) 1 2 0x00FFB01B, answer 64 0x42000000 0x300 0x00FFB01B)
-      ∷ (accessed 0x12345012 (two 25 0x80001FFE 26 0x10000002) 1 1 0x8FFFFFFF, answer 0 0x1FFFFFFF 0 0x8FFFFFFF)
-      ∷ (accessed 0x12345012 (one 1 0x000C701C) 2 0 0x00FFA01B, answer 0 0x1234501B 2 0x00FFA01B)
-      ∷ (accessed 0x1234501A (one 1 0x000C701C) 2 0 0x00FFA01B, answer 65 0x10000000 0x400 0x00FFA01B)
-      ∷ (accessed 0x12345012 (one 1 0x100C701C) 2 0 0x00FFA01B, answer 65 0x10000000 0x400 0x00FFA01B)
-      ∷ (accessed 0x12345012 (one 1 0x100C701C) 2 0 0x00FFB01B, answer 65 0x10000000 0x400 0x00FFB01B)
+      (accessed 0x12345012 (one 1 0x000C701C) 1 2 0x00FFA01B, answer done 0x1234501B 2 0x00FFA01B)
+      ∷ (accessed 0x12345013 (one 1 0x000C701C) 1 2 0x00FFA01B, answer dataStorageFault 0x0A000000 0x300 0x00FFA01B)
+      ∷ (accessed 0x12345012 (one 1 0x000C701C) 1 2 0x00FFB01B, answer dataStorageFault 0x42000000 0x300 0x00FFB01B)
+      ∷ (accessed 0x12345012 (two 25 0x80001FFE 26 0x10000002) 1 1 0x8FFFFFFF, answer done 0x1FFFFFFF 0 0x8FFFFFFF)
+      ∷ (accessed 0x12345012 (one 1 0x000C701C) 2 0 0x00FFA01B, answer done 0x1234501B 2 0x00FFA01B)
+      ∷ (accessed 0x1234501A (one 1 0x000C701C) 2 0 0x00FFA01B, answer instructionStorageFault 0x10000000 0x400 0x00FFA01B)
+      ∷ (accessed 0x12345012 (one 1 0x100C701C) 2 0 0x00FFA01B, answer instructionStorageFault 0x10000000 0x400 0x00FFA01B)
+      ∷ (accessed 0x12345012 (one 1 0x100C701C) 2 0 0x00FFB01B, answer instructionStorageFault 0x10000000 0x400 0x00FFB01B)
       ∷ []
       )

@@ -1,6 +1,8 @@
 // One access without a table's bytes: the steps before the search, those after it, and what an outcome answers.
 ghost use mathlib.Core.Path.{_≡_};
 ghost use Prim.Native.Nat.{_<_};
+ghost use Rattle.register_words.specs.Block.{blWidth};
+ghost use Rattle.registers.specs.Set.{blockPairs};
 ghost use Rattle.protection.specs.Fault.{faultOf};
 ghost use Rattle.translation.specs.Steps.{wantedOf, blockOutcome, beforeSearch, pageOutcome, afterSearch, doneAnswer, faultAnswer, refusedAnswer, answerOf};
 
@@ -51,11 +53,11 @@ pub struct Answer {
 
 // Step 2 by the block of a pair that covers the address.
 fn block_outcome(words: &[u32; 33], kind: u32, address: u32, pair: usize) -> Outcome
-    requires { ⌜ pair < 4 ⌝ }
-    ensures { λ r. ⌜ r ≡ blockOutcome 4 11 (now (words .entry)) kind address pair ⌝ }
+    requires { ⌜ pair < blockPairs ⌝ }
+    ensures { λ r. ⌜ r ≡ blockOutcome blockPairs blWidth (now (words .entry)) kind address pair ⌝ }
 {
-    let upper = registers::upper(words, kind != protection::FETCH, pair);
-    let lower = registers::lower(words, kind != protection::FETCH, pair);
+    let upper = registers::upper(words, kind != numbers::FETCH, pair);
+    let lower = registers::lower(words, kind != numbers::FETCH, pair);
     if protection::block_allows(lower & 3, kind) {
         Outcome::Block(
             pair as u32,
@@ -80,18 +82,18 @@ fn wanted_of(user: bool, segment: u32, address: u32) -> Wanted
 
 // Steps 1 to 3, by the words of the register set: real mode, a block, a fetch with N = 1, or else the page to search for.
 pub fn before_search(words: &[u32; 33], mode: u32, kind: u32, address: u32) -> Early
-    ensures { λ r. ⌜ r ≡ beforeSearch 4 11 (now (words .entry)) mode kind address ⌝ }
+    ensures { λ r. ⌜ r ≡ beforeSearch blockPairs blWidth (now (words .entry)) mode kind address ⌝ }
 {
     if !protection::is_relocated(mode, kind) {
         return Early::Decided(Outcome::Real);
     }
     let user = (mode >> 2) & 1 == 1;
-    let pair = registers::covering_pair(words, kind != protection::FETCH, user, address);
-    if pair < 4 {
+    let pair = registers::covering_pair(words, kind != numbers::FETCH, user, address);
+    if pair < registers::BLOCK_PAIRS {
         return Early::Decided(block_outcome(words, kind, address, pair));
     }
     let segment = registers::segment(words, (address >> 28) as usize);
-    if (kind == protection::FETCH) & ((segment >> 28) & 1 == 1) {
+    if (kind == numbers::FETCH) & ((segment >> 28) & 1 == 1) {
         return Early::Decided(Outcome::NoExecute);
     }
     Early::Search(wanted_of(user, segment, address))
@@ -101,7 +103,7 @@ pub fn before_search(words: &[u32; 33], mode: u32, kind: u32, address: u32) -> E
 fn page_outcome(kind: u32, key: bool, second: u32) -> Outcome
     ensures { λ r. ⌜ r ≡ pageOutcome kind key second ⌝ }
 {
-    if (kind == protection::FETCH) & ((second >> 3) & 1 == 1) {
+    if (kind == numbers::FETCH) & ((second >> 3) & 1 == 1) {
         return Outcome::Guarded;
     }
     if protection::page_allows(key, second & 3, kind) {
@@ -118,7 +120,7 @@ pub fn after_search(kind: u32, key: bool, searched: Searched) -> Outcome
     match searched {
         Searched::Nothing => Outcome::NoMatch,
         Searched::At(second) => page_outcome(kind, key, second),
-        Searched::Contradicting => Outcome::Refused(10),
+        Searched::Contradicting => Outcome::Refused(numbers::REFUSED_CONTRADICTION),
     }
 }
 
@@ -127,7 +129,7 @@ fn done_answer(physical: u32, attributes: u32, effective: u32) -> Answer
     ensures { λ r. ⌜ r ≡ doneAnswer physical attributes effective ⌝ }
 {
     Answer {
-        result: 0,
+        result: numbers::DONE,
         address: physical,
         attributes,
         effective,
@@ -164,7 +166,7 @@ pub fn answer_of(kind: u32, address: u32, outcome: Outcome) -> Answer
     ensures { λ r. ⌜ r ≡ answerOf kind address outcome ⌝ }
 {
     match outcome {
-        Outcome::Real => done_answer(address, 3, address),
+        Outcome::Real => done_answer(address, numbers::ATTRIBUTES_REAL, address),
         Outcome::Block(_, physical, attributes) => done_answer(physical, attributes, address),
         Outcome::BlockProtection(_) => fault_answer(protection::PROTECTION, kind, address),
         Outcome::NoExecute => fault_answer(protection::NO_FETCH, kind, address),

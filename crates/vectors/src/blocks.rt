@@ -26,7 +26,7 @@ fn ends(bl: u32, last: u32, physical: u32, next: u32) -> bool {
 
 // The twelve lengths.
 pub fn lengths_1() {
-    // Block lengths of 128 Kbytes to 256 Mbytes: the first and last address are in, the next and the one before are not. Source: document 004, Table 7-7, BL.
+    // Block lengths of 128 Kbytes to 256 Mbytes: the first and last address are in, the next and the one before are not. Source: the manual, Table 7-7, BL.
     line(67, ends(0x000, 0x8001FFFF, 0x1001FFFF, 0x80020000));
     line(68, ends(0x001, 0x8003FFFF, 0x1003FFFF, 0x80040000));
     line(69, ends(0x003, 0x8007FFFF, 0x1007FFFF, 0x80080000));
@@ -66,7 +66,7 @@ fn fetch_has(lower: u32, attributes: u32) -> bool {
 
 // The attributes of a block's WIMG; W and I are not both one.
 pub fn attributes() {
-    // Block attributes: WIMG 0 to 11 of a data block, 0, 2, 4 and 6 of an instruction block. Source: document 01, One access, step 2.
+    // Block attributes: WIMG 0 to 11 of a data block, 0, 2, 4 and 6 of an instruction block. Source: rules 5, step 2.
     line(79, load_has(0x00, 0));
     line(80, load_has(0x08, 1));
     line(81, load_has(0x10, 2));
@@ -108,7 +108,7 @@ fn protected(pp: u32, kind: u32, result: u32, word: u32, third: u32) -> bool {
 
 // Table 7-8.
 pub fn protection_1() {
-    // Block protection, PP 00, 01, 10, 11, each by fetch, load and store. Source: document 004, Table 7-8.
+    // Block protection, PP 00, 01, 10, 11, each by fetch, load and store. Source: the manual, Table 7-8.
     line(95, protected(0, 0, 65, 0x08000000, 0x400));
     line(96, protected(0, 1, 64, 0x08000000, 0x300));
     line(97, protected(0, 2, 64, 0x0A000000, 0x300));
@@ -146,7 +146,7 @@ fn row(vs_vp: u32, pp: u32, user_read: u32, user_write: u32, read: u32, write: u
 
 // Table 7-9; where the block is not used, the empty table has no match.
 pub fn summary_1() {
-    // Block protection by Vs, Vp and PP for user and supervisor, read and write; "not used" goes to the page table. Source: document 004, Table 7-9.
+    // Block protection by Vs, Vp and PP for user and supervisor, read and write; "not used" goes to the page table. Source: the manual, Table 7-9.
     line(
         107,
         row(0, 0, 0x40000000, 0x42000000, 0x40000000, 0x42000000),
@@ -236,7 +236,7 @@ fn shape(side: bool, upper: u32, lower: u32) -> u32 {
 
 // Reserved bits.
 pub fn reserved_1() {
-    // Block shape: each reserved bit of the upper word (15 to 18) and of the lower word (15 to 24, 29) is refused 3. Source: document 01, Register words.
+    // Block shape: each reserved bit of the upper word (15 to 18) and of the lower word (15 to 24, 29) is refused 3. Source: rules 3.
     line(123, shape(true, 0x80010002, 0x10000002) == 3);
     line(124, shape(true, 0x80008002, 0x10000002) == 3);
     line(125, shape(true, 0x80004002, 0x10000002) == 3);
@@ -260,7 +260,7 @@ pub fn reserved_2() {
 
 // The other rules of a block's shape.
 pub fn shapes_1() {
-    // Block shape: BL with a zero below a one (4, 5, 0x400, 0x7FE); a BEPI bit and a BRPN bit under BL. Source: document 01, Register words.
+    // Block shape: BL with a zero below a one (4, 5, 0x400, 0x7FE); a BEPI bit and a BRPN bit under BL. Source: rules 3.
     line(138, shape(true, 0x80000012, 0x10000002) == 3);
     line(139, shape(true, 0x80000016, 0x10000002) == 3);
     line(140, shape(false, 0x80001002, 0x10000002) == 3);
@@ -271,7 +271,7 @@ pub fn shapes_1() {
 
 // Continues `shapes_1`.
 pub fn shapes_2() {
-    // Block shape: W and I; W or G of an instruction block; W or G of a data block is taken. Source: document 01, Register words.
+    // Block shape: W and I; W or G of an instruction block; W or G of a data block is taken. Source: rules 3.
     line(144, shape(true, 0x80000002, 0x10000062) == 3);
     line(145, shape(false, 0x80000002, 0x10000062) == 3);
     line(146, shape(false, 0x80000002, 0x10000042) == 3);
@@ -282,7 +282,7 @@ pub fn shapes_2() {
 
 // Continues `shapes_2`.
 pub fn shapes_3() {
-    // A pair with Vs and Vp 0 is off and may hold anything else, on both sides. Source: document 01, Register words.
+    // A pair with Vs and Vp 0 is off and may hold anything else, on both sides. Source: rules 3.
     line(150, shape(true, 0xFFFFFFFC, 0xFFFFFFFF) == 0);
     line(151, shape(false, 0xFFFFFFFC, 0xFFFFFFFF) == 0);
 }
@@ -298,7 +298,7 @@ fn two(number: u32, upper: u32, other_at: usize, other: u32) -> u32 {
 
 // Two blocks.
 pub fn shared_1() {
-    // Two blocks of a side with an address and a V bit in common are refused 4: equal, within, with Vp only, in the last pairs, of instructions. Source: document 01, table of causes.
+    // Two blocks of a side with an address and a V bit in common are refused 4: equal, within, with Vp only, in the last pairs, of instructions. Source: rules 7.
     line(152, two(25, 0x80000002, 108, 0x80000002) == 4);
     line(153, two(25, 0x80001FFE, 108, 0x8FFE0002) == 4);
     line(154, two(25, 0x8FFE0002, 108, 0x80001FFE) == 4);
@@ -310,7 +310,7 @@ pub fn shared_1() {
 
 // Continues `shared_1`.
 pub fn shared_2() {
-    // Not refused: neighbours, no V bit in common, one of them off, one of each side. Source: document 01, table of causes.
+    // Not refused: neighbours, no V bit in common, one of them off, one of each side. Source: rules 7.
     line(159, two(25, 0x80001FFE, 108, 0x90000002) == 0);
     line(160, two(25, 0x80000002, 108, 0x80020002) == 0);
     line(161, two(25, 0x80000002, 108, 0x80000001) == 0);

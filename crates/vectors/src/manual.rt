@@ -12,7 +12,7 @@ fn groups_are(ones: u32, vsid: u32, index: u32, primary: u32, secondary: u32) ->
 
 // Section 7.7.1.7: 0F9FF980 is group 0x1FE6 and 0F980640 is group 0x0019 of the table at 0F980000.
 pub fn group_addresses_1() {
-    // The groups at 0F9FF980 and 0F980640, for the eight page indices that differ in bits 24-26 of the virtual address only. Source: document 004, section 7.7.1.7; VSID and address of document 01, case 1.
+    // The groups at 0F9FF980 and 0F980640, for the eight page indices that differ in bits 24-26 of the virtual address only. Source: the manual, section 7.7.1.7; VSID and address of rules 9, case 1.
     line(13, groups_are(0x1FFF, 0x0C701C, 0x0FFA, 0x1FE6, 0x0019));
     line(14, groups_are(0x1FFF, 0x0C701C, 0x2FFA, 0x1FE6, 0x0019));
     line(15, groups_are(0x1FFF, 0x0C701C, 0x4FFA, 0x1FE6, 0x0019));
@@ -25,10 +25,10 @@ pub fn group_addresses_1() {
 
 // Continues `group_addresses_1`.
 pub fn group_addresses_2() {
-    // A table of 4096 groups: the two groups of a page are complements in bits 14-25, and each is the primary of one page and the secondary of another. Source: document 004, section 7.7.1.6; inputs ours.
+    // A table of 4096 groups: the two groups of a page are complements in bits 14-25, and each is the primary of one page and the secondary of another. Source: the manual, section 7.7.1.6; inputs ours.
     line(21, groups_are(0xFFF, 0, 0x0123, 0x123, 0xEDC));
     line(22, groups_are(0xFFF, 0, 0x0EDC, 0xEDC, 0x123));
-    // A table of 16,384 groups: 14 bits of the hash. Source: document 004, section 7.7.1.1; inputs ours.
+    // A table of 16,384 groups: 14 bits of the hash. Source: the manual, section 7.7.1.1; inputs ours.
     line(23, groups_are(0x3FFF, 0, 0xFFFF, 0x3FFF, 0));
     line(24, groups_are(0x3FFF, 0, 0x4001, 1, 0x3FFE));
 }
@@ -60,7 +60,7 @@ fn sized(word: u32, length: usize, first: u32, second: u32) -> bool {
 
 // Table 7-19.
 pub fn sizes_1() {
-    // Table sizes: 64 Kbytes to 32 Mbytes, every maskable origin bit one: the SDR1 is good, its table has that length, and clear takes 65,536 and 131,072 bytes in their rows only. Source: document 004, Table 7-19.
+    // Table sizes: 64 Kbytes to 32 Mbytes, every maskable origin bit one: the SDR1 is good, its table has that length, and clear takes 65,536 and 131,072 bytes in their rows only. Source: the manual, Table 7-19.
     line(25, sized(0xFFFF0000, 65536, 0, 1));
     line(26, sized(0xFFFE0001, 131072, 1, 0));
     line(27, sized(0xFFFC0003, 262144, 1, 1));
@@ -75,7 +75,7 @@ pub fn sizes_1() {
 pub fn sizes_2() {
     line(33, sized(0xFF0000FF, 16777216, 1, 1));
     line(34, sized(0xFE0001FF, 33554432, 1, 1));
-    // Each row's lowest origin bit that must be zero, set: refused 2. Source: document 004, Table 7-19 and section 7.7.1.1.
+    // Each row's lowest origin bit that must be zero, set: refused 2. Source: the manual, Table 7-19 and section 7.7.1.1.
     line(35, sdr1(0xFFFF0001) == 2);
     line(36, sdr1(0xFFFE0003) == 2);
     line(37, sdr1(0xFFFC0007) == 2);
@@ -93,12 +93,12 @@ pub fn sizes_3() {
 
 // Shapes of SDR1 and of a segment.
 pub fn shapes_1() {
-    // The mask 15 asks four origin bits zero: each of them set is refused 2. Source: document 004, section 7.7.1.1.
+    // The mask 15 asks four origin bits zero: each of them set is refused 2. Source: the manual, section 7.7.1.1.
     line(44, sdr1(0x1231000F) == 2);
     line(45, sdr1(0x1232000F) == 2);
     line(46, sdr1(0x1234000F) == 2);
     line(47, sdr1(0x1238000F) == 2);
-    // Masks with a zero below a one (2, 4, 6, 8, 0x100, 0x1FE) are refused 2. Source: document 004, section 7.7.1.1.
+    // Masks with a zero below a one (2, 4, 6, 8, 0x100, 0x1FE) are refused 2. Source: the manual, section 7.7.1.1.
     line(48, sdr1(0x00000002) == 2);
     line(49, sdr1(0x00000004) == 2);
     line(50, sdr1(0x00000006) == 2);
@@ -109,7 +109,7 @@ pub fn shapes_1() {
 pub fn shapes_2() {
     line(52, sdr1(0x00000100) == 2);
     line(53, sdr1(0x000001FE) == 2);
-    // Each reserved bit of SDR1, 16 to 22, is refused 2. Source: document 01, Register words.
+    // Each reserved bit of SDR1, 16 to 22, is refused 2. Source: rules 3.
     line(54, sdr1(0x00008000) == 2);
     line(55, sdr1(0x00004000) == 2);
     line(56, sdr1(0x00002000) == 2);
@@ -130,7 +130,7 @@ fn segment(number: u32, word: u32) -> u32 {
 
 // Segments.
 pub fn segments() {
-    // A segment register with T, or with one of bits 4 to 7, is refused 5; Ks, Kp, N and every VSID bit are taken. Source: document 01, Register words.
+    // A segment register with T, or with one of bits 4 to 7, is refused 5; Ks, Kp, N and every VSID bit are taken. Source: rules 3.
     line(61, segment(0, 0x80000000) == 5);
     line(62, segment(7, 0x08000000) == 5);
     line(63, segment(8, 0x04000000) == 5);

@@ -28,7 +28,7 @@ fn unpacks(first: u32, second: u32, fields: [u32; 9]) -> bool {
 
 // One field at a time, and all.
 pub fn packed_1() {
-    // Pack: each field alone, 1 (V, VSID, H, API, RPN, R, C, WIMG, PP), and all at their largest. Source: document 01, Entries and groups.
+    // Pack: each field alone, 1 (V, VSID, H, API, RPN, R, C, WIMG, PP), and all at their largest. Source: rules 4.
     line(242, packs([1, 0, 0, 0, 0, 0, 0, 0, 0], 0, 0x80000000, 0));
     line(243, packs([0, 1, 0, 0, 0, 0, 0, 0, 0], 0, 0x00000080, 0));
     line(244, packs([0, 0, 1, 0, 0, 0, 0, 0, 0], 0, 0x00000040, 0));
@@ -51,7 +51,7 @@ pub fn packed_2() {
             0xFFFFF1FB,
         ),
     );
-    // Pack: W and I may both be one. Source: document 01, Entries and groups.
+    // Pack: W and I may both be one. Source: rules 4.
     line(
         252,
         packs(
@@ -65,7 +65,7 @@ pub fn packed_2() {
 
 // Fields past their widths.
 pub fn refused_1() {
-    // Pack: 6 and zero words by each field one past its width (V, VSID, H, API, RPN, R, C, WIMG, PP). Source: document 01, Entries and groups.
+    // Pack: 6 and zero words by each field one past its width (V, VSID, H, API, RPN, R, C, WIMG, PP). Source: rules 4.
     line(253, packs([2, 0, 0, 0, 0, 0, 0, 0, 0], 6, 0, 0));
     line(254, packs([1, 0x1000000, 0, 0, 0, 0, 0, 0, 0], 6, 0, 0));
     line(255, packs([1, 0, 2, 0, 0, 0, 0, 0, 0], 6, 0, 0));
@@ -109,7 +109,7 @@ fn unpack_some(fields: &mut [u8], length: isize) -> u32 {
 
 // Unpacking, and wrong lengths.
 pub fn unpacked_1() {
-    // Unpack: words of ones; an entry's words with every ignored bit set; zero words. Source: document 01, Entries and groups.
+    // Unpack: words of ones; an entry's words with every ignored bit set; zero words. Source: rules 4.
     line(
         262,
         unpacks(
@@ -127,7 +127,7 @@ pub fn unpacked_1() {
         ),
     );
     line(264, unpacks(0, 0, [0, 0, 0, 0, 0, 0, 0, 0, 0]));
-    // Pack and unpack: 11 at another length (pack 7, 9, 0; unpack 35, 37, 0), and pack's 11 before 6; the bytes are left. Source: document 01, order of refusals.
+    // Pack and unpack: 11 at another length (pack 7, 9, 0; unpack 35, 37, 0), and pack's 11 before 6; the bytes are left. Source: rules 7.
     line(265, pack_part(1, 7) == 11);
     line(266, pack_part(1, 9) == 11);
     line(267, pack_part(1, 0) == 11);

@@ -42,7 +42,7 @@ fn with_entry(second: u32) -> [u8; 65536] {
 
 // Key 0.
 pub fn key_0_1() {
-    // Page protection, key 0, PP 00, 01, 10, 11, each by fetch, load and store, with the marks that are left. Source: document 004, Tables 7-15 and 7-16.
+    // Page protection, key 0, PP 00, 01, 10, 11, each by fetch, load and store, with the marks that are left. Source: the manual, Tables 7-15 and 7-16.
     line(
         164,
         access(0x000C701C, 2, 0, 0x12345010, 0, 0x1234501B, 0x12345110),
@@ -99,7 +99,7 @@ pub fn key_0_2() {
 
 // Key 1.
 pub fn key_1_1() {
-    // Page protection, key 1, PP 00, 01, 10, 11, each by fetch, load and store, with the marks that are left. Source: document 004, Tables 7-15 and 7-16.
+    // Page protection, key 1, PP 00, 01, 10, 11, each by fetch, load and store, with the marks that are left. Source: the manual, Tables 7-15 and 7-16.
     line(
         176,
         access(0x600C701C, 2, 0, 0x12345010, 65, 0x08000000, 0x12345010),
@@ -156,7 +156,7 @@ pub fn key_1_2() {
 
 // Table 7-17.
 pub fn user_and_supervisor_1() {
-    // Ks 0, Kp 1: user read, user write, supervisor read, supervisor write of PP 00, 01, 10, 11. Source: document 004, Table 7-17.
+    // Ks 0, Kp 1: user read, user write, supervisor read, supervisor write of PP 00, 01, 10, 11. Source: the manual, Table 7-17.
     line(
         188,
         access(0x200C701C, 5, 1, 0x12345010, 64, 0x08000000, 0x12345010),
@@ -229,7 +229,7 @@ pub fn user_and_supervisor_2() {
 
 // Ks 1, Kp 0.
 pub fn keys_exchanged_1() {
-    // Ks 1, Kp 0: the same with user and supervisor exchanged, so that Kp for a supervisor access would answer otherwise. Source: document 004, Table 7-17 and the text below it; document 01, Readings that tempt.
+    // Ks 1, Kp 0: the same with user and supervisor exchanged, so that Kp for a supervisor access would answer otherwise. Source: the manual, Table 7-17 and the text below it; rules 10.
     line(
         204,
         access(0x400C701C, 5, 1, 0x12345010, 0, 0x1234501B, 0x12345110),
@@ -300,9 +300,9 @@ pub fn keys_exchanged_2() {
     );
 }
 
-// Table 7-14, by the rows that document 01 fixes.
+// Table 7-14, by the rows that the rules fix.
 pub fn marks_1() {
-    // Marks: a no-execute violation sets neither (marks clear, marks set). Source: document 004, Table 7-14, row 1.
+    // Marks: a no-execute violation sets neither (marks clear, marks set). Source: the manual, Table 7-14, row 1.
     line(
         220,
         access(0x100C701C, 2, 0, 0x12345012, 65, 0x10000000, 0x12345012),
@@ -311,7 +311,7 @@ pub fn marks_1() {
         221,
         access(0x100C701C, 2, 0, 0x12345192, 65, 0x10000000, 0x12345192),
     );
-    // Marks: a protection violation sets neither, by fetch, load and store (document 01 fixes "maybe" as no). Source: document 004, Table 7-14, row 2; document 01, step 7.
+    // Marks: a protection violation sets neither, by fetch, load and store (the rules fix "maybe" as no). Source: the manual, Table 7-14, row 2; rules 5, step 7.
     line(
         222,
         access(0x600C701C, 2, 0, 0x12345010, 65, 0x08000000, 0x12345010),
@@ -332,7 +332,7 @@ pub fn marks_1() {
 
 // Continues `marks_1`.
 pub fn marks_2() {
-    // Marks: a fetch sets R and no C; C that was set stays. Source: document 004, Table 7-14, row 9.
+    // Marks: a fetch sets R and no C; C that was set stays. Source: the manual, Table 7-14, row 9.
     line(
         226,
         access(0x000C701C, 2, 0, 0x12345012, 0, 0x1234501B, 0x12345112),
@@ -341,7 +341,7 @@ pub fn marks_2() {
         227,
         access(0x000C701C, 2, 0, 0x12345092, 0, 0x1234501B, 0x12345192),
     );
-    // Marks: a load sets R and no C; C that was set stays. Source: document 004, Table 7-14, row 10.
+    // Marks: a load sets R and no C; C that was set stays. Source: the manual, Table 7-14, row 10.
     line(
         228,
         access(0x000C701C, 1, 1, 0x12345012, 0, 0x1234501B, 0x12345112),
@@ -350,7 +350,7 @@ pub fn marks_2() {
         229,
         access(0x000C701C, 1, 1, 0x12345192, 0, 0x1234501B, 0x12345192),
     );
-    // Marks: a store sets R and C. Source: document 004, Table 7-14, row 11.
+    // Marks: a store sets R and C. Source: the manual, Table 7-14, row 11.
     line(
         230,
         access(0x000C701C, 1, 2, 0x12345012, 0, 0x1234501B, 0x12345192),
@@ -363,7 +363,7 @@ pub fn marks_2() {
 
 // Table 7-3 and the order of the steps.
 pub fn exceptions_1() {
-    // A fetch from guarded memory faults with 10000000; a load and a store of it are done. Source: document 004, Table 7-3.
+    // A fetch from guarded memory faults with 10000000; a load and a store of it are done. Source: the manual, Table 7-3.
     line(
         232,
         access(0x000C701C, 2, 0, 0x1234501A, 65, 0x10000000, 0x1234501A),
@@ -376,7 +376,7 @@ pub fn exceptions_1() {
         234,
         access(0x000C701C, 1, 2, 0x1234501A, 0, 0x1234501B, 0x1234519A),
     );
-    // N in a segment does not stop a load or a store. Source: document 004, Table 7-3.
+    // N in a segment does not stop a load or a store. Source: the manual, Table 7-3.
     line(
         235,
         access(0x100C701C, 1, 1, 0x12345012, 0, 0x1234501B, 0x12345112),
@@ -385,7 +385,7 @@ pub fn exceptions_1() {
         236,
         access(0x100C701C, 1, 2, 0x12345012, 0, 0x1234501B, 0x12345192),
     );
-    // Only the first cause counts: N before protection, G before protection, N and G. Source: document 01, One access, steps 3, 5, 6.
+    // Only the first cause counts: N before protection, G before protection, N and G. Source: rules 5, steps 3, 5, 6.
     line(
         237,
         access(0x700C701C, 2, 0, 0x12345010, 65, 0x10000000, 0x12345010),
@@ -402,7 +402,7 @@ pub fn exceptions_1() {
 
 // Continues `exceptions_1`.
 pub fn exceptions_2() {
-    // N before no match: VSID 1 is not in the table. Source: document 01, One access, steps 3 and 4.
+    // N before no match: VSID 1 is not in the table. Source: rules 5, steps 3 and 4.
     line(
         240,
         access(0x10000001, 2, 0, 0x12345012, 65, 0x10000000, 0x12345012),

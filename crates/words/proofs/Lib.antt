@@ -6,3 +6,5 @@ pub mod Without
 pub mod Ones
 pub mod Words
 pub mod Below
+pub mod Computes
+pub mod Tables

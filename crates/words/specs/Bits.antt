@@ -1,4 +1,4 @@
--- Fields of a 32-bit word in document 01's numbering, in which bit 0 is the most significant.
+-- Fields of a 32-bit word (rules 1): bit 0 is the most significant.
 use Prim.Native.Nat.{ℕ, _+_, _-_, _*_, _/_, _%_, _^_}
 
 -- bits a to b of a word, as a number

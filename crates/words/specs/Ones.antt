@@ -4,6 +4,6 @@ use mathlib.Core.Bool.{Bool}
 use lib.Dec.{eqb}
 use lib.Ieee.{size}
 
--- document 01's "ones only at its low end" (0 included): f is 2 ^ k - 1, where k is `size f`, how many binary digits f has
+-- "ones only at its low end" (rules 1; 0 included): f is 2 ^ k - 1, where k is `size f`, how many binary digits f has
 unfoldable pub lowOnes : ℕ → Bool
 lowOnes f = eqb f (2 ^ size f - 1)

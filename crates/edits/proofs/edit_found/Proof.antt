@@ -9,7 +9,7 @@ use Rattle.groups.specs.Group.{firstOf, putAt}
 use Rattle.edits.specs.Edit.{edited}
 use Rattle.edits.specs.declared.Edit.{Edit}
 use Rattle.edits.proofs.Alone.{Alone, edit-alone}
-use Rattle.matches.proofs.Summary.{place-secondary, place-entry}
+use Rattle.matches.proofs.Summaries.{place-secondary, place-entry}
 use borrow.Author.Needs.{needs}
 use Rattle.edits.proofs.edit_found.Statement.{statement}
 use Rattle.edits.proofs.edit_found.Tie as tie

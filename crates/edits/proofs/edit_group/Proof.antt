@@ -9,7 +9,7 @@ use lib.ListN.{length}
 use Rattle.entry.specs.Entry.{matches}
 use Rattle.tables.specs.Matches.{matchesBelow}
 use Rattle.groups.specs.Group.{firstAt, secondAt, putEntry}
-use Rattle.matches.specs.Search.{hOf, matchesIn}
+use Rattle.matches.specs.Search.{hOf, groupMatches}
 use Rattle.edits.specs.Edit.{editedWords, edited, editEach, editMatches}
 use Rattle.matches.proofs.Matches.{h-lt, word-matches, entryAt, matchesTo, matches-more, matches-same}
 use Rattle.edits.proofs.Edits.{edit-more, edit-later, length-edit}
@@ -119,7 +119,7 @@ same-length : tie.Need-same-length Inv-loop μ-loop
 same-length c = omega (arith, len (c .before))
 
 returns : tie.Need-returns Inv-loop μ-loop
-unfolding editMatches matchesIn
+unfolding editMatches groupMatches
 returns c = let e : c .before .loop .i ≡ 8 = omega arith in rw e at (c .before .loop .inv .1)
 
 pub edit-group-spec : {M : Type 1} → statement M

@@ -10,7 +10,7 @@ use borrow.Author.Count.{below-more, below-none}
 use borrow.Author.Tests.{eq-eqb, ne-eqb}
 use Rattle.words.proofs.Below.{first-none, first-found}
 use Rattle.entry.specs.Entry.{free}
-use Rattle.groups.specs.Group.{groupOf, freeAt, freeEntry}
+use Rattle.groups.specs.Group.{groupOf, entryFree, firstFree}
 use Rattle.groups.specs.declared.Place.the-variants.{Full}
 use Rattle.groups.proofs.Lent.{first-in-table}
 use Rattle.groups.proofs.Free.{free-primary, free-secondary, free-nowhere}
@@ -19,14 +19,14 @@ use Rattle.groups.proofs.find_free.Tie as tie
 
 abbrev Inv-loop : tie.InvT-loop
 Inv-loop table primary secondary found₀ h group from entry₀ found entry =
-    (entry ≤ 8) × (found ≡ Full) × ((k : ℕ) → k < entry → freeAt (groupOf table group) k ≡ false)
+    (entry ≤ 8) × (found ≡ Full) × ((k : ℕ) → k < entry → entryFree (groupOf table group) k ≡ false)
 
 abbrev μ-loop : tie.MeasureT-loop
 μ-loop table primary secondary found₀ h group from entry₀ found entry = 8 - entry
 
 abbrev Inv-search : tie.InvT-search
 Inv-search table primary secondary found₀ h₀ found h =
-    (h ≤ 2) × (found ≡ Full) × ((k : ℕ) → k < h → freeEntry (groupOf table (cond (eqb k 0) primary secondary)) ≡ 8)
+    (h ≤ 2) × (found ≡ Full) × ((k : ℕ) → k < h → firstFree (groupOf table (cond (eqb k 0) primary secondary)) ≡ 8)
 
 abbrev μ-search : tie.MeasureT-search
 μ-search table primary secondary found₀ h₀ found h = 2 - h
@@ -41,8 +41,8 @@ within c = ⊎-elim (λ w. omega (arith, w .1)) (λ w. omega (arith, w .1)) (c .
 
 -- the test is whether this entry of that group is free
 tested : (c : tie.After-is-free Inv-loop μ-loop Inv-search μ-search) → c .is-free .result
-    ≡ freeAt (groupOf (c .before .before .before .before .before .before .before .before .before .args .table .now) (c .before .before .before .before .before .if1 .group)) (c .before .before .before .loop .entry)
-unfolding freeAt
+    ≡ entryFree (groupOf (c .before .before .before .before .before .before .before .before .before .args .table .now) (c .before .before .before .before .before .if1 .group)) (c .before .before .before .loop .entry)
+unfolding entryFree
 tested c = c .is-free .ensures ∙ ap free (c .before .read-word .ensures ∙ first-in-table _ _ _ (omega arith))
 
 search-holds : tie.Need-search-holds Inv-loop μ-loop Inv-search μ-search
@@ -84,7 +84,7 @@ search-less : tie.Need-search-less Inv-loop μ-loop Inv-search μ-search
 search-less c = omega arith
 
 search-again : tie.Need-search-again Inv-loop μ-loop Inv-search μ-search
-unfolding freeEntry
+unfolding firstFree
 search-again c =
     let o = c .before .before .before .before .before in
     let none = first-none _ 8 (λ k l. c .before .loop .inv .2 k (omega arith)) in
@@ -96,13 +96,13 @@ returns c =
     i .1 ∙ sym (free-nowhere _ _ (omega (arith, i .2 0 (omega arith))) (omega (arith, i .2 1 (omega arith))))
 
 returns-2 : tie.Need-returns-2 Inv-loop μ-loop Inv-search μ-search
-unfolding freeEntry
+unfolding firstFree
 returns-2 c =
     let l = c .before .before .before .before in
     let j = l .before .before in
     let o = j .before .before in
     let t = o .before .before .args .table .now in
-    let here : freeEntry (groupOf t (j .if1 .group)) ≡ l .loop .entry =
+    let here : firstFree (groupOf t (j .if1 .group)) ≡ l .loop .entry =
     first-found _ 8 _ (omega arith) (sym (tested (c .before)) ∙ c .if2 .taken) (l .loop .inv .2) in
     ⊎-elim
     (λ w. rw (w .0 .taken) (sym (free-primary _ _ _ (rw (w .1) at here) (omega arith))))

@@ -4,7 +4,7 @@ use mathlib.Core.Path.{ap, _∙_}
 use mathlib.Core.Bool.{true, false}
 use mathlib.Core.List.{List}
 use Rattle.groups.specs.Group.{groupOf}
-use Rattle.matches.specs.Search.{matchesIn, matchesOf, summary}
+use Rattle.matches.specs.Search.{groupMatches, pairMatches, summary}
 use Rattle.groups.proofs.Lent.{lent-group}
 use borrow.Author.Needs.{needs}
 use Rattle.matches.proofs.search_both.Statement.{statement}
@@ -50,15 +50,15 @@ then-requires : tie.Need-then-requires
 then-requires c κs = search needs
 
 returns : tie.Need-returns
-unfolding matchesOf
+unfolding pairMatches
 returns c =
     let second = c .before in
     let first = second .before .before in
     let a = first .before .before .before .args in
     let t = a .table .now in
-    c .then .ensures (matchesIn false (a .vsid) (a .api) (groupOf t (a .primary))) (matchesIn true (a .vsid) (a .api) (groupOf t (a .secondary)))
-    (first .search-group .ensures ∙ ap (λ (group : List ℕ). summary (matchesIn false (a .vsid) (a .api) group)) (lent-group t (a .primary)))
-    (second .search-group2 .ensures ∙ ap (λ (group : List ℕ). summary (matchesIn true (a .vsid) (a .api) group)) (lent-group t (a .secondary)))
+    c .then .ensures (groupMatches false (a .vsid) (a .api) (groupOf t (a .primary))) (groupMatches true (a .vsid) (a .api) (groupOf t (a .secondary)))
+    (first .search-group .ensures ∙ ap (λ (group : List ℕ). summary (groupMatches false (a .vsid) (a .api) group)) (lent-group t (a .primary)))
+    (second .search-group2 .ensures ∙ ap (λ (group : List ℕ). summary (groupMatches true (a .vsid) (a .api) group)) (lent-group t (a .secondary)))
 
 pub search-both-spec : {M : Type 1} → statement M
 search-both-spec =

@@ -9,7 +9,7 @@ use borrow.Author.Needs.{needs}
 use Rattle.entry.specs.Entry.{matches}
 use Rattle.tables.specs.Matches.{matchesBelow}
 use Rattle.groups.specs.Group.{firstAt, secondAt}
-use Rattle.matches.specs.Search.{hOf, matchesIn, summary}
+use Rattle.matches.specs.Search.{hOf, groupMatches, summary}
 use Rattle.matches.proofs.Matches.{h-lt, word-matches, entryAt, matchesTo, matches-more, matches-same}
 use Rattle.matches.proofs.search_group.Statement.{statement}
 use Rattle.matches.proofs.search_group.Tie as tie
@@ -114,7 +114,7 @@ loop-again c =
     (c .if2 .came)
 
 returns : tie.Need-returns Inv-loop μ-loop
-unfolding matchesIn
+unfolding groupMatches
 returns c = let e : c .before .loop .i ≡ 8 = omega arith in rw e at (c .before .loop .inv .1)
 
 pub search-group-spec : {M : Type 1} → statement M

@@ -16,7 +16,7 @@ use Rattle.mmu.proofs.mmu_set_register.Tie as tie
 -- what the method answered is the definition's number for the page's set
 result-is : (c : tie.After-with-word) →
     let start = c .before .before .before .before .before in
-    c .with-word .result .result ≡ replacing (registerWords (start .args .page .now)) (start .args .number) (start .args .word)
+    c .with-word .result .result ≡ replacing (registerWords (start .args .registers .now)) (start .args .number) (start .args .word)
 unfolding replaced
 result-is c =
     let start = c .before .before .before .before .before in
@@ -40,7 +40,7 @@ write-word-requires : tie.Need-write-word-requires
 write-word-requires c κs =
     let at-with = c .before .before in
     let start = at-with .before .before .before .before .before in
-    let below = replaced-number (registerWords (start .args .page .now)) (start .args .number) (start .args .word) (sym (result-is at-with) ∙ c .before .if2 .taken) in
+    let below = replaced-number (registerWords (start .args .registers .now)) (start .args .number) (start .args .word) (sym (result-is at-with) ∙ c .before .if2 .taken) in
     omega (arith, at-with .before .before .before .if1 .left)
 
 same-length : tie.Need-same-length
@@ -52,7 +52,7 @@ returns-2 c =
     let at-if = c .before .before .before .before in
     let at-with = at-if .before in
     let start = at-with .before .before .before .before .before in
-    let len : length (start .args .page .now) ≡ 132 = at-with .before .before .before .if1 .left in
+    let len : length (start .args .registers .now) ≡ 132 = at-with .before .before .before .if1 .left in
     rw (right-length, ← result-is at-with, eq-eqb _ _ (at-if .if2 .taken)) (beside _ (c .before .before .write-word .ensures))
 
 same-length-2 : tie.Need-same-length-2
@@ -62,7 +62,7 @@ returns-3 : tie.Need-returns-3
 unfolding setRegisterCall
 returns-3 c =
     let start = c .before .before .before .before .before .before in
-    let len : length (start .args .page .now) ≡ 132 = c .before .before .before .before .if1 .left in
+    let len : length (start .args .registers .now) ≡ 132 = c .before .before .before .before .if1 .left in
     rw (right-length, ← result-is (c .before), ne-eqb _ _ (c .if2 .left))
 
 pub mmu-set-register-spec : {M : Type 1} → statement M

@@ -9,13 +9,13 @@ use Rattle.entry.specs.Entry.{firstWord, apiOf}
 use Rattle.register_words.specs.Sdr1.{sdr1Shape, tableLength, maskOnes, hashBits}
 use Rattle.groups.specs.Page.{Page}
 use Rattle.groups.specs.Hash.{groupNumber}
-use Rattle.groups.specs.Group.{groupOf, onGroup, putAt, freePlace}
-use Rattle.matches.specs.Search.{matchesOf, summary}
+use Rattle.groups.specs.Group.{groupOf, onGroup, putAt, firstFreePlace}
+use Rattle.matches.specs.Search.{pairMatches, summary}
 use Rattle.edits.specs.Edit.{editMatches}
 use Rattle.edits.specs.declared.Edit.{Edit}
 use Rattle.groups.specs.declared.Place.{Place}
 use Rattle.groups.specs.declared.Place.the-variants.{Entry}
-use Rattle.matches.specs.declared.Search.{Search}
+use Rattle.matches.specs.declared.Summary.{Summary}
 use Rattle.groups.proofs.Hash.{group-lt, own-groups-differ, within-table}
 use Rattle.groups.proofs.Free.{PlaceCase, in-primary, in-secondary, nowhere, place-case}
 use Rattle.matches.proofs.Matches.{h-is}
@@ -62,13 +62,13 @@ module _ (sdr1 : ℕ) (page : Page) where
     group-inside lent shape right b g q = rw (group-is b g q) (inside lent shape right b)
 
     module _ (t : List ℕ) where
-      pub search-is : (s : Search) → s ≡ summary (matchesOf (page .vsid) (at .api) (groupOf t (at .primary)) (groupOf t (at .secondary)))
+      pub search-is : (s : Summary) → s ≡ summary (pairMatches (page .vsid) (at .api) (groupOf t (at .primary)) (groupOf t (at .secondary)))
           → s ≡ pageSearch (maskOnes sdr1) t page
-      search-is s q = q ∙ ap (λ (l : Located). summary (matchesOf (page .vsid) (l .api) (groupOf t (l .primary)) (groupOf t (l .secondary)))) e
+      search-is s q = q ∙ ap (λ (l : Located). summary (pairMatches (page .vsid) (l .api) (groupOf t (l .primary)) (groupOf t (l .secondary)))) e
 
-      pub free-is : (place found : Place) → place ≡ freePlace (groupOf t (at .primary)) (groupOf t (at .secondary)) → place ≡ found
-          → freePlace (ownGroup (maskOnes sdr1) t page false) (ownGroup (maskOnes sdr1) t page true) ≡ found
-      free-is place found q f = sym (q ∙ ap (λ (l : Located). freePlace (groupOf t (l .primary)) (groupOf t (l .secondary))) e) ∙ f
+      pub free-is : (place found : Place) → place ≡ firstFreePlace (groupOf t (at .primary)) (groupOf t (at .secondary)) → place ≡ found
+          → firstFreePlace (ownGroup (maskOnes sdr1) t page false) (ownGroup (maskOnes sdr1) t page true) ≡ found
+      free-is place found q f = sym (q ∙ ap (λ (l : Located). firstFreePlace (groupOf t (l .primary)) (groupOf t (l .secondary))) e) ∙ f
 
       pub edited-is : (edit : Edit) (u : List ℕ)
           → u ≡ onGroup (onGroup t (at .primary) (editMatches edit false (page .vsid) (at .api))) (at .secondary) (editMatches edit true (page .vsid) (at .api))
@@ -86,8 +86,8 @@ module _ (sdr1 : ℕ) (page : Page) where
           q ∙ rw (group-is b g qg, qf, qs, h, api)
 
 -- a free place is one of a group's eight entries
-pub place-lt : (p s : List ℕ) (place : Place) (b : Bool) (i : ℕ) → place ≡ freePlace p s → place ≡ Entry b i → i < 8
-place-lt p s place b i q f = go (freePlace p s) (place-case p s) (sym q ∙ f)
+pub place-lt : (p s : List ℕ) (place : Place) (b : Bool) (i : ℕ) → place ≡ firstFreePlace p s → place ≡ Entry b i → i < 8
+place-lt p s place b i q f = go (firstFreePlace p s) (place-case p s) (sym q ∙ f)
   where
     go : (found : Place) → PlaceCase p s found → found ≡ Entry b i → i < 8
     go found (in-primary j n l) e = let z : i ≡ j = cc in omega arith

@@ -9,7 +9,7 @@ page-in-range-requires c κs = search needs
 
 returns : tie.Need-returns
 unfolding writeThroughInhibited
-returns c = rw (c .page-in-range .ensures)
+returns c sdr1 = rw (c .page-in-range .ensures)
 
 pub map-in-range-spec : {M : Type 1} → statement M
 map-in-range-spec = tie.close (tie.spec page-in-range-requires returns)

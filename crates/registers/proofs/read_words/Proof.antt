@@ -1,4 +1,4 @@
--- `registers::read_words` meets its contract. The invariant of both loops: each word below `i` is the page's.
+-- `registers::read_words` meets its contract. The invariant of both loops: each word below `i` is the register page's.
 use borrow.Author.Needs.{needs}
 use borrow.Author.Count.{below-none, below-more}
 use mathlib.Core.Path.{_≡_, sym, ap, _∙_}
@@ -13,18 +13,18 @@ use Rattle.registers.proofs.read_words.Statement.{statement}
 use Rattle.registers.proofs.read_words.Tie as tie
 
 abbrev Inv-loop : tie.InvT-loop
-Inv-loop page words₀ i₀ words i =
-    (i ≤ 17) × (length words ≡ 33) × ((k : ℕ) → k < i → getD words k 0 ≡ wordAt page (4 * k))
+Inv-loop registers words₀ i₀ words i =
+    (i ≤ 17) × (length words ≡ 33) × ((k : ℕ) → k < i → getD words k 0 ≡ wordAt registers (4 * k))
 
 abbrev μ-loop : tie.MeasureT-loop
-μ-loop page words₀ i₀ words i = 17 - i
+μ-loop registers words₀ i₀ words i = 17 - i
 
 abbrev Inv-loop2 : tie.InvT-loop2
-Inv-loop2 page words₀ i₀ words i =
-    (i ≤ 33) × (length words ≡ 33) × ((k : ℕ) → k < i → getD words k 0 ≡ wordAt page (4 * k))
+Inv-loop2 registers words₀ i₀ words i =
+    (i ≤ 33) × (length words ≡ 33) × ((k : ℕ) → k < i → getD words k 0 ≡ wordAt registers (4 * k))
 
 abbrev μ-loop2 : tie.MeasureT-loop2
-μ-loop2 page words₀ i₀ words i = 33 - i
+μ-loop2 registers words₀ i₀ words i = 33 - i
 
 loop-holds : tie.Need-loop-holds Inv-loop μ-loop Inv-loop2 μ-loop2
 loop-holds c = (search needs, search needs, below-none _)
@@ -49,7 +49,7 @@ loop-less c = search needs
 
 loop-again : tie.Need-loop-again Inv-loop μ-loop Inv-loop2 μ-loop2
 loop-again c =
-    let page = c .before .before .before .before .before .args .page .now in
+    let registers = c .before .before .before .before .before .args .registers .now in
     let l = c .before .before .loop .words in
     let i = c .before .before .loop .i in
     let r = c .read-word .result in
@@ -57,7 +57,7 @@ loop-again c =
     let below : i < length l = omega arith in (
       search needs,
       length-set l i r ∙ inv .1,
-      below-more (λ (k : ℕ). getD (set l i r) k 0 ≡ wordAt page (4 * k)) i
+      below-more (λ (k : ℕ). getD (set l i r) k 0 ≡ wordAt registers (4 * k)) i
           (λ k h. getD-set-other l i k r 0 (omega arith) ∙ inv .2 k h)
           (getD-set-same l i r 0 below ∙ c .read-word .ensures),
     )
@@ -85,7 +85,7 @@ loop2-less c = search needs
 
 loop2-again : tie.Need-loop2-again Inv-loop μ-loop Inv-loop2 μ-loop2
 loop2-again c =
-    let page = c .before .before .before .before .before .before .before .args .page .now in
+    let registers = c .before .before .before .before .before .before .before .args .registers .now in
     let l = c .before .before .loop2 .words in
     let i = c .before .before .loop2 .i in
     let r = c .read-word2 .result in
@@ -93,7 +93,7 @@ loop2-again c =
     let below : i < length l = omega arith in (
       search needs,
       length-set l i r ∙ inv .1,
-      below-more (λ (k : ℕ). getD (set l i r) k 0 ≡ wordAt page (4 * k)) i
+      below-more (λ (k : ℕ). getD (set l i r) k 0 ≡ wordAt registers (4 * k)) i
           (λ k h. getD-set-other l i k r 0 (omega arith) ∙ inv .2 k h)
           (getD-set-same l i r 0 below ∙ c .read-word2 .ensures),
     )
@@ -106,10 +106,10 @@ unfolding registerWords
 returns c =
     let inv = c .before .loop2 .inv in
     let i-is : c .before .loop2 .i ≡ 33 = omega arith in
-    let page = c .before .before .before .before .before .before .args .page .now in
+    let registers = c .before .before .before .before .before .before .args .registers .now in
     let words = c .before .loop2 .words in
-    ext-getD 0 words (wordsAt page 0 33) (inv .1 ∙ sym (length-wordsAt page 0 33))
-    (λ k h. inv .2 k (omega arith) ∙ ap (wordAt page) (omega arith) ∙ sym (getD-wordsAt page 0 33 k (omega arith)))
+    ext-getD 0 words (wordsAt registers 0 33) (inv .1 ∙ sym (length-wordsAt registers 0 33))
+    (λ k h. inv .2 k (omega arith) ∙ ap (wordAt registers) (omega arith) ∙ sym (getD-wordsAt registers 0 33 k (omega arith)))
 
 pub read-words-spec : {M : Type 1} → statement M
 read-words-spec =

@@ -12,7 +12,7 @@ use Rattle.register_words.specs.Sdr1.{maskOnes}
 use Rattle.groups.specs.Group.{firstOf, putAt}
 use Rattle.groups.specs.Hash.{groupNumber}
 use Rattle.matches.specs.Search.{summary, inSecondary, entryOf}
-use Rattle.matches.proofs.Summary.{summary-entry-lt}
+use Rattle.matches.proofs.Summaries.{summary-entry-lt}
 use Rattle.tables.specs.Layout.{matchesOf}
 use Rattle.protection.specs.Access.{storing}
 use Rattle.translation.specs.Steps.{afterSearch, answerOf}

@@ -1,4 +1,4 @@
--- `table_access::translate` meets its contract: a refusal after 11 and an outcome answer as the definition does, on the words that were read.
+-- `table_access::translate` meets its contract: a refusal and an outcome answer as the definition does, on the words that were read.
 use borrow.Author.Needs.{needs}
 use mathlib.Core.Path.{_≡_, sym, ap, _∙_}
 use mathlib.Core.List.{List}
@@ -16,10 +16,10 @@ use Rattle.calls.proofs.Access.{rulesThen, then-kept, access-refused, access-ta
 use Rattle.table_access.proofs.translate.Statement.{statement}
 use Rattle.table_access.proofs.translate.Tie as tie
 
--- the words that were read are the page's
+-- the words that were read are the register page's
 number-is : (c : tie.After-refusal) →
     let start = c .before .before .before .before .before .before .before in
-    c .refusal .result ≡ firstBroken (rulesThen (registerWords (start .args .page .now)) (start .args .mode) (start .args .kind) (length (start .args .table .now)))
+    c .refusal .result ≡ firstBroken (rulesThen (registerWords (start .args .registers .now)) (start .args .mode) (start .args .kind) (length (start .args .table .now)))
 number-is c =
     let read = c .before .before .before in
     let a = read .before .before .before .before .args in
@@ -44,7 +44,7 @@ returns c answer right =
     let a = start .args in
     let number = at-refusal .refusal .result in
     ap (λ (r : Answer). ended (r .result) (a .table .now) (accessAnswer r)) (c .answer-of .ensures ∙ answer-refused (a .kind) (a .address) number)
-    ∙ sym (access-refused (a .page .now) (a .mode) (a .kind) (a .address) answer (a .table .now) (start .pre) right number (number-is at-refusal) (c .before .if1 .taken))
+    ∙ sym (access-refused (record { registers = a .registers .now; mode = a .mode; kind = a .kind; address = a .address; answer = answer }) (a .table .now) (start .pre) right number (number-is at-refusal) (c .before .if1 .taken))
 
 before-search-requires : tie.Need-before-search-requires
 before-search-requires c κs = search needs
@@ -59,7 +59,7 @@ decided-requires c κs =
     let at-refusal = at-else .before in
     let read = at-refusal .before .before .before in
     let a = read .before .before .before .before .args in
-    let words = registerWords (a .page .now) in
+    let words = registerWords (a .registers .now) in
     let (shape, right) = then-kept words (a .mode) (a .kind) (length (a .table .now)) (sym (number-is at-refusal) ∙ at-else .if1 .left) in
     rw (read .read-words .ensures)
     (shape, right, λ wanted e. wanted-in-range 4 11 words (a .mode) (a .kind) (a .address) wanted (sym (at-before .before-search .ensures ∙ ap (λ (l : List ℕ). beforeSearch 4 11 l (a .mode) (a .kind) (a .address)) (read .read-words .ensures)) ∙ e))
@@ -80,7 +80,7 @@ returns-2 c answer right =
     let a = start .args in
     let told = rw (at-before .before-search .ensures, read .read-words .ensures) at (at-decided .decided .ensures) in
     rw (c .answer-of2 .ensures, told .1 (a .address))
-    (sym (access-taken (a .page .now) (a .mode) (a .kind) (a .address) answer (a .table .now) (start .pre) right
+    (sym (access-taken (record { registers = a .registers .now; mode = a .mode; kind = a .kind; address = a .address; answer = answer }) (a .table .now) (start .pre) right
     (sym (number-is at-refusal) ∙ at-before .before .before .if1 .left) (at-decided .decided .result) (told .0)))
 
 pub translate-spec : {M : Type 1} → statement M

@@ -1,4 +1,4 @@
--- `mmu::access::mmu_access` meets its contract: 11 at a wrong length, else the four words of what the access answers.
+-- `mmu::access::mmu_access` meets its contract: a wrong length is refused, and else it writes the four words of what the access answers.
 use borrow.Author.Needs.{needs}
 use borrow.Author.Tests.{eqb-true, not-true, not-false}
 use mathlib.Core.Path.{_≡_, sym}
@@ -9,10 +9,10 @@ use Rattle.calls.proofs.Access.{access-wrong-length}
 use Rattle.mmu.proofs.access.mmu_access.Statement.{statement}
 use Rattle.mmu.proofs.access.mmu_access.Tie as tie
 
--- past 11 both lengths are right
+-- past the refusal of a length both lengths are right
 lengths : (c : tie.Else1) →
     let start = c .before .before .before .before in
-    (length (start .args .page .now) ≡ 132) × (length (start .args .answer .now) ≡ 16)
+    (length (start .args .registers .now) ≡ 132) × (length (start .args .answer .now) ≡ 16)
 lengths c =
     let right = both _ _ (not-false _ (c .if1 .left)) in
     (eqb-true _ 132 (right .0), eqb-true _ 16 (right .1))
@@ -20,7 +20,9 @@ lengths c =
 returns : tie.Need-returns
 returns c =
     let a = c .before .before .before .before .args in
-    sym (access-wrong-length (a .page .now) (a .mode) (a .kind) (a .address) (a .answer .now) (a .table .now) (not-true _ (c .if1 .taken)))
+    sym
+    (access-wrong-length (record { registers = a .registers .now; mode = a .mode; kind = a .kind; address = a .address; answer = a .answer .now }) (a .table .now)
+    (not-true _ (c .if1 .taken)))
 
 translate-requires : tie.Need-translate-requires
 translate-requires c κs = lengths (c .before) .0

@@ -1,16 +1,34 @@
--- `mmu::pages::mmu_look` meets its contract: only an answer of 16 bytes is written.
-use mathlib.Core.Path.{sym, ap, _∙_}
+-- `mmu::pages::mmu_look` meets its contract: only an answer of 16 bytes is written, and the work is done on a table of right length.
+use mathlib.Core.Path.{_≡_, refl, sym, ap, _∙_}
+use mathlib.Core.List.{List}
+use Prim.Native.Nat.{ℕ}
+use lib.ListN.{length}
+use Rattle.registers.specs.Rules.{firstBroken}
+use Rattle.page_calls.specs.declared.WordAnswer.{WordAnswer}
+use Rattle.calls.specs.Request.{AnsweredCall}
+use Rattle.calls.specs.Rules.{pageInRange}
+use Rattle.calls.specs.Answers.{wordAnswer}
 use Rattle.calls.specs.OnBytes.{ended}
-use Rattle.calls.proofs.PageCalls.{look-11}
+use Rattle.calls.proofs.PageCalls.{pageRules, kept, page-ranges, look-11, look-refused, look-taken}
 use borrow.Author.Needs.{needs}
 use Rattle.mmu.proofs.pages.mmu_look.Statement.{statement}
 use Rattle.mmu.proofs.pages.mmu_look.Tie as tie
 
-returns : tie.Need-returns
-returns c = sym (look-11 _ _ _ _ (c .if1 .taken))
+-- what the call brings
+abbrev called : (c : tie.Start) → AnsweredCall (List ℕ)
+called c = let a = c .args in record { sdr1 = a .sdr1; page = record { vsid = a .vsid; index = a .index }; answer = a .answer .now }
 
-look-or-refuse-requires : tie.Need-look-or-refuse-requires
-look-or-refuse-requires c κs = search needs
+-- the number that the rules give
+number-is : (c : tie.After-word-refusal) →
+    let start = c .before .before .before .before in
+    c .word-refusal .result .result ≡ firstBroken (pageRules (pageInRange (called start .page)) (start .args .sdr1) (length (start .args .table .now)))
+number-is c = ap (λ (r : WordAnswer). r .result) (c .word-refusal .ensures)
+
+returns : tie.Need-returns
+returns c = sym (look-11 (called (c .before .before .before)) _ (c .if1 .taken))
+
+word-refusal-requires : tie.Need-word-refusal-requires
+word-refusal-requires c κs = search needs
 
 write-answer-requires : tie.Need-write-answer-requires
 write-answer-requires c κs = search needs
@@ -21,10 +39,45 @@ same-length c = search needs
 returns-2 : tie.Need-returns-2
 returns-2 c =
     let w = c .before .before in
-    let l = w .before .before in
-    ap (ended _ _) (w .write-answer .ensures) ∙ l .look-or-refuse .ensures _ (l .before .if1 .left)
+    let t = w .before .before in
+    let r = t .before .before in
+    ap (ended _ _) (w .write-answer .ensures ∙ ap (wordAnswer _) (ap (λ (x : WordAnswer). x .word) (r .word-refusal .ensures)))
+    ∙ sym (look-refused (called (r .before .before .before .before)) _ _ (number-is r) (r .before .if1 .left) (t .if2 .taken))
+
+look-page-requires : tie.Need-look-page-requires
+look-page-requires c κs =
+    let e = c in
+    let r = e .before .before in
+    let page = called (r .before .before .before .before) .page in
+    let k = kept (pageInRange page) _ _ (sym (number-is r) ∙ e .if2 .left) in
+    let (vsid, index) = page-ranges page (pageInRange page) refl (k .in-range) in
+    (k .shape, k .right-length, vsid, index)
+
+write-answer-requires-2 : tie.Need-write-answer-requires-2
+write-answer-requires-2 c κs = search needs
+
+same-length-2 : tie.Need-same-length-2
+same-length-2 c = search needs
+
+returns-3 : tie.Need-returns-3
+returns-3 c =
+    let w = c .before .before in
+    let u = w .before .before in
+    let e = u .before in
+    let r = e .before .before in
+    ap (ended _ _) (w .write-answer2 .ensures)
+    ∙ look-taken (called (r .before .before .before .before)) _ _ (number-is r) (r .before .if1 .left) (e .if2 .left) _ (u .look-page .ensures)
 
 pub mmu-look-spec : {M : Type 1} → statement M
 mmu-look-spec =
     tie.close
-    (tie.spec returns look-or-refuse-requires write-answer-requires same-length returns-2)
+    (tie.spec
+    returns
+    word-refusal-requires
+    write-answer-requires
+    same-length
+    returns-2
+    look-page-requires
+    write-answer-requires-2
+    same-length-2
+    returns-3)

@@ -3,12 +3,17 @@ use mathlib.Core.Path.{sym, _∙_}
 use mathlib.Core.Bool.{_&&_}
 use Prim.Native.Nat.{_^_}
 use lib.Dec.{ltb}
+use Rattle.calls.specs.Request.{ProtectCall}
 use Rattle.calls.proofs.PageCalls.{kept, page-ranges, protect-refused, protect-taken}
 use borrow.Author.Tests.{ltb-true}
 use Rattle.words.proofs.Tests.{both}
 use borrow.Author.Needs.{needs}
 use Rattle.mmu.proofs.pages.mmu_protect.Statement.{statement}
 use Rattle.mmu.proofs.pages.mmu_protect.Tie as tie
+
+-- what the call brings
+abbrev called : (c : tie.Start) → ProtectCall
+called c = let a = c .args in record { sdr1 = a .sdr1; page = record { vsid = a .vsid; index = a .index }; pp = a .pp }
 
 page-in-range-requires : tie.Need-page-in-range-requires
 page-in-range-requires c κs = search needs
@@ -17,7 +22,9 @@ page-refusal-requires : tie.Need-page-refusal-requires
 page-refusal-requires c κs = search needs
 
 returns : tie.Need-returns
-returns c = sym (protect-refused _ _ _ _ _ (c .before .before .page-in-range .ensures) _ (c .before .page-refusal .ensures) (c .if1 .taken))
+returns c =
+    let start = c .before .before .before .before in
+    sym (protect-refused (called start) _ _ (c .before .before .page-in-range .ensures) _ (c .before .page-refusal .ensures) (c .if1 .taken))
 
 protect-page-requires : tie.Need-protect-page-requires
 protect-page-requires c κs =
@@ -36,7 +43,7 @@ returns-2 : tie.Need-returns-2
 returns-2 c =
     let w = c .before .before in
     let i = w .before .before in
-    protect-taken _ _ _ _ _ (i .before .before .page-in-range .ensures) _ (i .before .page-refusal .ensures) (i .if1 .left) _ (w .protect-page .ensures)
+    protect-taken (called (i .before .before .before .before)) _ _ (i .before .before .page-in-range .ensures) _ (i .before .page-refusal .ensures) (i .if1 .left) _ (w .protect-page .ensures)
 
 pub mmu-protect-spec : {M : Type 1} → statement M
 mmu-protect-spec =

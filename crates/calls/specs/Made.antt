@@ -1,0 +1,23 @@
+-- Requests made of their values in order, for rows and proofs.
+use Prim.Native.Nat.{ℕ}
+use mathlib.Core.List.{List}
+use Rattle.groups.specs.Page.{Page}
+use Rattle.calls.specs.Request.{Request, clear, mapPage, unmap, protect, look, access}
+
+abbrev pub toClear : {A : Type 0} → ℕ → Request A
+toClear sdr1 = clear (record { sdr1 = sdr1 })
+
+abbrev pub toMap : {A : Type 0} → ℕ → Page → ℕ → ℕ → ℕ → Request A
+toMap sdr1 page rpn wimg pp = mapPage (record { sdr1 = sdr1; page = page; rpn = rpn; wimg = wimg; pp = pp })
+
+abbrev pub toUnmap : {A : Type 0} → ℕ → Page → A → Request A
+toUnmap sdr1 page answer = unmap (record { sdr1 = sdr1; page = page; answer = answer })
+
+abbrev pub toProtect : {A : Type 0} → ℕ → Page → ℕ → Request A
+toProtect sdr1 page pp = protect (record { sdr1 = sdr1; page = page; pp = pp })
+
+abbrev pub toLook : {A : Type 0} → ℕ → Page → A → Request A
+toLook sdr1 page answer = look (record { sdr1 = sdr1; page = page; answer = answer })
+
+abbrev pub toAccess : {A : Type 0} → List ℕ → ℕ → ℕ → ℕ → A → Request A
+toAccess registers mode kind address answer = access (record { registers = registers; mode = mode; kind = kind; address = address; answer = answer })

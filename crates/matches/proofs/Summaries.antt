@@ -1,0 +1,220 @@
+-- What the search tells of a list of matches, in plain words, and of two lists one after the other.
+use mathlib.Core.Path.{_≡_, refl, sym, ap, ap₂, _∙_}
+use mathlib.Core.Bool.{Bool, true, false, cond, not, _||_, true≢false}
+use mathlib.Core.List.{List, [], _∷_, _++_, append-nil}
+use Prim.Native.Nat.{ℕ, _+_, _%_, _<_}
+use native.Mathlib.Omega.{arith}
+use lib.Dec.{eqb, leb}
+use borrow.Author.Tests.{eqb-true, ne-eqb, le-leb, lt-leb}
+use Rattle.entry.specs.Entry.{referenced, changed, withMarks}
+use Rattle.entry.proofs.Marks.{marks-referenced, marks-changed, marks-own, marks-again}
+use Rattle.tables.specs.Matches.{Match}
+use Rattle.matches.specs.Search.{agree, anyMatch, contradict, merged, each, placeOf, summary, found, inSecondary, entryOf}
+use Rattle.matches.specs.declared.Summary.{Summary}
+
+or-true : (b : Bool) → b || true ≡ true
+or-true true = refl
+or-true false = refl
+
+or-false : (b : Bool) → b || false ≡ b
+or-false true = refl
+or-false false = refl
+
+or-assoc : (a b c : Bool) → (a || b) || c ≡ a || (b || c)
+or-assoc true b c = refl
+or-assoc false b c = refl
+
+or-swap : (a b : Bool) → a || b ≡ b || a
+or-swap true b = sym (or-true b)
+or-swap false b = sym (or-false b)
+
+-- the tests that `contradict` and `merged` make
+abbrev disagrees : ℕ → Match → Bool
+disagrees second m = not (agree second (m .second))
+
+abbrev isReferenced : Match → Bool
+isReferenced m = referenced (m .second)
+
+abbrev isChanged : Match → Bool
+isChanged m = changed (m .second)
+
+-- a test of two lists, one after the other
+any-append : (test : Match → Bool) (ms ns : List Match) → anyMatch test (ms ++ ns) ≡ (anyMatch test ms || anyMatch test ns)
+any-append test [] ns = refl
+any-append test (m ∷ ms) ns = ap (λ (b : Bool). test m || b) (any-append test ms ns) ∙ sym (or-assoc (test m) (anyMatch test ms) (anyMatch test ns))
+
+-- a match that is in the list already tells a test nothing new
+any-own : (test : Match → Bool) (m : Match) (ms : List Match) → anyMatch test (m ∷ ms) || test m ≡ anyMatch test (m ∷ ms)
+any-own test m ms = go (test m) (anyMatch test ms)
+  where
+    go : (a b : Bool) → (a || b) || a ≡ a || b
+    go true b = refl
+    go false b = or-false b
+
+-- the marks of a merged word are those of all matches
+merged-referenced : (m : Match) (ms : List Match) → referenced (merged m ms) ≡ anyMatch isReferenced (m ∷ ms)
+unfolding merged
+merged-referenced m ms = marks-referenced _ _ (m .second) ∙ any-own isReferenced m ms
+
+merged-changed : (m : Match) (ms : List Match) → changed (merged m ms) ≡ anyMatch isChanged (m ∷ ms)
+unfolding merged
+merged-changed m ms = marks-changed _ _ (m .second) ∙ any-own isChanged m ms
+
+-- ---- one list after the other: the first keeps its place and second word, and the others' marks are merged in
+
+module _ (m : Match) (ms : List Match) (n : Match) (ns : List Match) where
+  merged-both : merged m (ms ++ n ∷ ns) ≡ withMarks (anyMatch isReferenced (n ∷ ns)) (anyMatch isChanged (n ∷ ns)) (merged m ms)
+  unfolding merged
+  merged-both =
+      ap₂ (λ (a b : Bool). withMarks a b (m .second)) (either isReferenced) (either isChanged)
+      ∙ sym (marks-again (anyMatch isReferenced (n ∷ ns)) (anyMatch isChanged (n ∷ ns)) (anyMatch isReferenced (m ∷ ms)) (anyMatch isChanged (m ∷ ms)) (m .second))
+    where
+      either : (test : Match → Bool) → anyMatch test (m ∷ ms ++ n ∷ ns) ≡ (anyMatch test (n ∷ ns) || anyMatch test (m ∷ ms))
+      either test = any-append test (m ∷ ms) (n ∷ ns) ∙ or-swap (anyMatch test (m ∷ ms)) (anyMatch test (n ∷ ns))
+
+  pub merged-append : merged m (ms ++ n ∷ ns) ≡ withMarks (referenced (merged n ns)) (changed (merged n ns)) (merged m ms)
+  merged-append = rw (merged-referenced n ns, merged-changed n ns) merged-both
+
+  -- the others agree with the second list's first as they do with the first list's, where these two agree
+  pub contradict-append : contradict m (ms ++ n ∷ ns) ≡ ((contradict m ms || contradict n ns) || disagrees (m .second) n)
+  unfolding contradict agree
+  contradict-append = any-append (disagrees (m .second)) ms (n ∷ ns) ∙ by-test (eqb (m .second) (n .second)) refl
+    where
+      by-test : (t : Bool) → eqb (m .second) (n .second) ≡ t
+          → (anyMatch (disagrees (m .second)) ms || (disagrees (m .second) n || anyMatch (disagrees (m .second)) ns))
+          ≡ ((anyMatch (disagrees (m .second)) ms || anyMatch (disagrees (n .second)) ns) || disagrees (m .second) n)
+      by-test true e =
+          let same : m .second ≡ n .second = eqb-true (m .second) (n .second) e in
+          rw (e, ← same) (sym (or-false (anyMatch (disagrees (m .second)) ms || anyMatch (disagrees (m .second)) ns)))
+      by-test false e =
+          rw e (or-true (anyMatch (disagrees (m .second)) ms)
+          ∙ sym (or-true (anyMatch (disagrees (m .second)) ms || anyMatch (disagrees (n .second)) ns)))
+
+pub several-append : (ms : List Match) (n : Match) (ns : List Match) → anyMatch each (ms ++ n ∷ ns) ≡ true
+several-append ms n ns = any-append each ms (n ∷ ns) ∙ or-true (anyMatch each ms)
+
+-- ---- what the search tells
+
+pub summary-none : found (summary []) ≡ false
+unfolding summary found
+summary-none = refl
+
+-- of a list that begins with the match m
+pub record Summarised (m : Match) (ms : List Match) (r : Summary) : Type 0 where
+  pub place : r .place ≡ placeOf m
+  pub second : r .second ≡ m .second
+  pub merged : r .merged ≡ merged m ms
+  pub several : r .several ≡ anyMatch each ms
+  pub differs : r .differs ≡ contradict m ms
+
+pub summarised : (m : Match) (ms : List Match) → Summarised m ms (summary (m ∷ ms))
+unfolding summary
+summarised m ms = record { place = refl; second = refl; merged = refl; several = refl; differs = refl }
+
+-- of two lists that both have a match
+summary-append : (m : Match) (ms : List Match) (n : Match) (ns : List Match) → summary (m ∷ ms ++ n ∷ ns) ≡ record {
+  place = summary (m ∷ ms) .place;
+  second = summary (m ∷ ms) .second;
+  merged = withMarks (referenced (summary (n ∷ ns) .merged)) (changed (summary (n ∷ ns) .merged)) (summary (m ∷ ms) .merged);
+  several = true;
+  differs = (summary (m ∷ ms) .differs || summary (n ∷ ns) .differs) || not (agree (summary (m ∷ ms) .second) (summary (n ∷ ns) .second));
+}
+unfolding summary
+summary-append m ms n ns = rw (merged-append m ms n ns, several-append ms n ns, contradict-append m ms n ns)
+
+-- the place of a match is not 0, and 0 is that of none
+no-place : (m : Match) → placeOf m ≡ 0 → ⊥
+no-place m z = go (m .secondary) z
+  where
+    go : (b : Bool) → cond b 24 16 + m .entry ≡ 0 → ⊥
+    go true z = omega arith
+    go false z = omega arith
+
+nowhere : summary [] .place ≡ 0
+unfolding summary
+nowhere = refl
+
+pub place-found : (s : Summary) (m : Match) → s .place ≡ placeOf m → found s ≡ true
+unfolding found
+place-found s m e = rw (e, ne-eqb (placeOf m) 0 (no-place m))
+
+-- the place tells the group and the entry's number
+module _ (s : Summary) (m : Match) (e : s .place ≡ placeOf m) (l : m .entry < 8) where
+  pub place-secondary : inSecondary s ≡ m .secondary
+  unfolding inSecondary
+  place-secondary = rw e (go (m .secondary))
+    where
+      go : (b : Bool) → leb 24 (cond b 24 16 + m .entry) ≡ b
+      go true = le-leb 24 (24 + m .entry) (omega arith)
+      go false = lt-leb 24 (16 + m .entry) (omega arith)
+
+  pub place-entry : entryOf s ≡ m .entry
+  unfolding entryOf
+  place-entry = rw e (go (m .secondary))
+    where
+      go : (b : Bool) → (cond b 24 16 + m .entry) % 8 ≡ m .entry
+      go true = omega arith
+      go false = omega arith
+
+-- one match alone: its marks merged are its own
+pub merged-one : (m : Match) → merged m [] ≡ m .second
+unfolding merged
+merged-one m = ap₂ (λ (r c : Bool). withMarks r c (m .second)) (or-false (isReferenced m)) (or-false (isChanged m)) ∙ marks-own (m .second)
+
+pub summary-one : (m : Match) → summary (m ∷ []) ≡ record { place = placeOf m; second = m .second; merged = m .second; several = false; differs = false }
+unfolding summary contradict
+summary-one m = rw (merged-one m)
+
+-- ---- two searches, one after the other
+
+module _ (s r : Summary) (ms ns : List Match) (e : s ≡ summary ms) (f : r ≡ summary ns) where
+  pub first-empty : s .place ≡ 0 → r ≡ summary (ms ++ ns)
+  first-empty z = go ms e
+    where
+      go : (l : List Match) → s ≡ summary l → r ≡ summary (l ++ ns)
+      go [] q = f
+      go (m ∷ l) q = absurd (no-place m (sym (ap (λ (x : Summary). x .place) q ∙ summarised m l .place) ∙ z))
+
+  pub second-empty : r .place ≡ 0 → s ≡ summary (ms ++ ns)
+  second-empty z = go ns f
+    where
+      go : (l : List Match) → r ≡ summary l → s ≡ summary (ms ++ l)
+      go [] q = e ∙ ap summary (sym (append-nil ms))
+      go (m ∷ l) q = absurd (no-place m (sym (ap (λ (x : Summary). x .place) q ∙ summarised m l .place) ∙ z))
+
+  -- both found a match
+  abbrev pub joined : Summary
+  joined = record {
+    place = s .place;
+    second = s .second;
+    merged = withMarks (referenced (r .merged)) (changed (r .merged)) (s .merged);
+    several = true;
+    differs = (s .differs || r .differs) || not (agree (s .second) (r .second));
+  }
+
+  pub both-found : (s .place ≡ 0 → ⊥) → (r .place ≡ 0 → ⊥) → joined ≡ summary (ms ++ ns)
+  both-found p q = go ms ns e f
+    where
+      go : (l k : List Match) → s ≡ summary l → r ≡ summary k → joined ≡ summary (l ++ k)
+      go [] k u v = absurd (p (ap (λ (x : Summary). x .place) u ∙ nowhere))
+      go (m ∷ l) [] u v = absurd (q (ap (λ (x : Summary). x .place) v ∙ nowhere))
+      go (m ∷ l) (n ∷ k) u v = rw (u, v) (sym (summary-append m l n k))
+
+-- a match without a further one is alone
+pub alone : (ms : List Match) → anyMatch each ms ≡ false → ms ≡ []
+alone [] e = refl
+alone (m ∷ ms) e = absurd (true≢false e)
+
+-- the search finds a match exactly where there is one
+pub found-none : (ms : List Match) → found (summary ms) ≡ false → ms ≡ []
+found-none [] e = refl
+found-none (m ∷ ms) e = absurd (true≢false (sym (place-found (summary (m ∷ ms)) m (summarised m ms .place)) ∙ e))
+
+pub found-some : (ms : List Match) → found (summary ms) ≡ true → (m : Match) × ((rest : List Match) × (ms ≡ m ∷ rest))
+found-some [] e = absurd (true≢false (sym e ∙ summary-none))
+found-some (m ∷ ms) e = (m, (ms, refl))
+
+-- the entry that the search tells is one of a group's eight
+pub summary-entry-lt : (s : Summary) → entryOf s < 8
+unfolding entryOf
+summary-entry-lt s = omega arith

@@ -1,0 +1,2 @@
+-- The rows of the numbers.
+pub mod Tables

@@ -1,0 +1,28 @@
+-- Each name beside the number that the rules state (rules 2, 5 and 7).
+use mathlib.Core.List.{[], _∷_}
+use Rattle.words.specs.Rows.{Hold}
+use Rattle.numbers.specs.Numbers.{done, dataStorageFault, instructionStorageFault}
+use Rattle.numbers.specs.Numbers.{refusedTableLength, refusedSdr1, refusedBlock, refusedBlocksShare, refusedSegment, refusedArgument}
+use Rattle.numbers.specs.Numbers.{refusedMapped, refusedNoMatch, refusedFull, refusedContradiction, refusedLentLength}
+use Rattle.numbers.specs.Numbers.{fetch, load, store, attributesReal}
+use Rattle.numbers.specs.Numbers.{registersSize, answerSize, fieldsSize, groupSize, entrySize, registerCount, groupEntries}
+
+pub record NumbersTables : Type 0 where
+  pub results : Hold ((done, 0) ∷ (dataStorageFault, 64) ∷ (instructionStorageFault, 65) ∷ [])
+  pub refusals : Hold (
+      (refusedTableLength, 1)
+      ∷ (refusedSdr1, 2)
+      ∷ (refusedBlock, 3)
+      ∷ (refusedBlocksShare, 4)
+      ∷ (refusedSegment, 5)
+      ∷ (refusedArgument, 6)
+      ∷ (refusedMapped, 7)
+      ∷ (refusedNoMatch, 8)
+      ∷ (refusedFull, 9)
+      ∷ (refusedContradiction, 10)
+      ∷ (refusedLentLength, 11)
+      ∷ []
+      )
+  pub accesses : Hold ((fetch, 0) ∷ (load, 1) ∷ (store, 2) ∷ (attributesReal, 3) ∷ [])
+  pub lengths : Hold ((registersSize, 132) ∷ (answerSize, 16) ∷ (fieldsSize, 36) ∷ (groupSize, 64) ∷ (entrySize, 8) ∷ [])
+  pub counts : Hold ((registerCount, 33) ∷ (groupEntries, 8) ∷ [])

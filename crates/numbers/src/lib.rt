@@ -1,0 +1,58 @@
+// The numbers that calls hand back and the lengths of what they are lent, under the names that include/mmu.h has for them.
+
+// The call did what it was asked.
+pub const DONE: u32 = 0;
+
+// A load or a store, and a fetch, that is not allowed or not mapped.
+pub const DATA_STORAGE_FAULT: u32 = 64;
+
+pub const INSTRUCTION_STORAGE_FAULT: u32 = 65;
+
+// Refusals (rules 7).
+pub const REFUSED_TABLE_LENGTH: u32 = 1;
+
+pub const REFUSED_SDR1: u32 = 2;
+
+pub const REFUSED_BLOCK: u32 = 3;
+
+pub const REFUSED_BLOCKS_SHARE: u32 = 4;
+
+pub const REFUSED_SEGMENT: u32 = 5;
+
+pub const REFUSED_ARGUMENT: u32 = 6;
+
+pub const REFUSED_MAPPED: u32 = 7;
+
+pub const REFUSED_NO_MATCH: u32 = 8;
+
+pub const REFUSED_FULL: u32 = 9;
+
+pub const REFUSED_CONTRADICTION: u32 = 10;
+
+pub const REFUSED_LENT_LENGTH: u32 = 11;
+
+// The kinds of access (rules 5).
+pub const FETCH: u32 = 0;
+
+pub const LOAD: u32 = 1;
+
+pub const STORE: u32 = 2;
+
+// The attributes of an access in real mode: M and G.
+pub const ATTRIBUTES_REAL: u32 = 3;
+
+// Lengths in bytes: the register page, an answer, an entry's fields, a group and an entry.
+pub const REGISTERS_SIZE: usize = 132;
+
+pub const ANSWER_SIZE: usize = 16;
+
+pub const FIELDS_SIZE: usize = 36;
+
+pub const GROUP_SIZE: usize = 64;
+
+pub const ENTRY_SIZE: usize = 8;
+
+// How many register words there are, and how many entries a group has.
+pub const REGISTER_COUNT: u32 = 33;
+
+pub const GROUP_ENTRIES: usize = 8;

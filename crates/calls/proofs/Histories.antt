@@ -43,7 +43,7 @@ same-refusal (protect c) number = refl
 same-refusal (look c) number = lent-answer number (c .answer)
 same-refusal (access c) number = lent-answer number (c .answer)
 
-sdr1-fed : (request : Request (List ℕ)) → sdr1In (fed request) ≡ sdr1In request
+pub sdr1-fed : (request : Request (List ℕ)) → sdr1In (fed request) ≡ sdr1In request
 unfolding fed sdr1In
 sdr1-fed (clear c) = refl
 sdr1-fed (mapPage c) = refl

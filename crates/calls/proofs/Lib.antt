@@ -8,6 +8,8 @@ pub mod Step
 pub mod FirstClear
 pub mod Histories
 pub mod Theorem
+pub mod AnyEntries
+pub mod AnyTable
 pub mod Changes
 pub mod Corollaries
 pub mod PageCalls

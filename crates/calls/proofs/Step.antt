@@ -63,7 +63,7 @@ module _ (b : Bool) (page : Page) (valid : InRange page) where
   unfolding entryWord
   own-matches k = match-own (page .vsid) (hOf b) (apiOf (page .index)) (valid .vsid-lt) (oneIf-lt b) (api-lt (page .index) (valid .index-lt))
 
-  own-fits : Word (entryWord b page)
+  pub own-fits : Word (entryWord b page)
   unfolding entryWord
   own-fits = first-lt 1 (page .vsid) (hOf b) (apiOf (page .index)) (lit< tt) (valid .vsid-lt) (oneIf-lt b) (api-lt (page .index) (valid .index-lt))
 

@@ -10,3 +10,4 @@ pub mod OnMap
 pub mod Represents
 pub mod Histories
 pub mod Theorem
+pub mod AnyTable

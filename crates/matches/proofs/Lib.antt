@@ -1,5 +1,6 @@
 -- Laws of a page's matches, for the crates above.
 pub mod Matches
 pub mod Summaries
+pub mod Agreement
 pub mod Computes
 pub mod Tables

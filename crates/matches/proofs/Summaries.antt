@@ -52,11 +52,11 @@ any-own test m ms = go (test m) (anyMatch test ms)
     go false b = or-false b
 
 -- the marks of a merged word are those of all matches
-merged-referenced : (m : Match) (ms : List Match) → referenced (merged m ms) ≡ anyMatch isReferenced (m ∷ ms)
+pub merged-referenced : (m : Match) (ms : List Match) → referenced (merged m ms) ≡ anyMatch isReferenced (m ∷ ms)
 unfolding merged
 merged-referenced m ms = marks-referenced _ _ (m .second) ∙ any-own isReferenced m ms
 
-merged-changed : (m : Match) (ms : List Match) → changed (merged m ms) ≡ anyMatch isChanged (m ∷ ms)
+pub merged-changed : (m : Match) (ms : List Match) → changed (merged m ms) ≡ anyMatch isChanged (m ∷ ms)
 unfolding merged
 merged-changed m ms = marks-changed _ _ (m .second) ∙ any-own isChanged m ms
 

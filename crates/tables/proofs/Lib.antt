@@ -4,6 +4,7 @@ pub mod Counts
 pub mod Matches
 pub mod Groups
 pub mod Places
+pub mod First
 pub mod Puts
 pub mod Overwrites
 pub mod Edits

@@ -1,0 +1,521 @@
+-- What each call does to any table of bytes: by the list of the page's matches, whose members are the entries that match and whose head is the first.
+use Prim.Native.Nat.{ℕ, _+_, _*_, _/_, _^_, _<_}
+use mathlib.Core.Path.{_≡_, refl, sym, ap, ap₂, _∙_, subst}
+use mathlib.Core.Bool.{Bool, true, false, cond, true≢false, _||_}
+use mathlib.Core.Logic.{_↔_}
+use mathlib.Core.List.{List, [], _∷_, List·Memᴰ, List·Memᴰ·head}
+use mathlib.Core.Option.{Option, none, some}
+use native.Mathlib.Omega.{arith}
+use lib.Dec.{eqb, lit<, lit≤}
+use lib.ListN.{length}
+use borrow.Author.Tests.{eqb-true, eqb-false, eq-eqb, ne-eqb}
+use Rattle.words.specs.Bits.{bits}
+use Rattle.entry.specs.Entry.{secondWord, referenced, changed, withMarks, withPP}
+use Rattle.entry.proofs.Marks.{marks-lt, marks-above, marks-below, marks-referenced, marks-changed}
+use Rattle.entry.proofs.Packing.{second-lt}
+use Rattle.register_words.specs.Sdr1.{maskOnes}
+use Rattle.register_words.proofs.Sdr1.{length-is}
+use Rattle.groups.specs.Page.{Page, InRange}
+use Rattle.groups.proofs.Stored.{words-fit}
+use Rattle.matches.specs.Search.{anyMatch, contradict, merged}
+use Rattle.matches.proofs.Agreement.{any-true, any-member}
+use Rattle.matches.proofs.Summaries.{merged-referenced, merged-changed}
+use Rattle.tables.specs.Matches.{Match}
+use Rattle.tables.specs.Layout.{matchesOf, freePlace, overwrite, overwriteEach}
+use Rattle.tables.proofs.Groups.{MatchOf}
+use Rattle.protection.specs.Access.{fetching, storing}
+use Rattle.protection.specs.Fault.{noMatch, noFetch, protection, faultOf}
+use Rattle.translation.specs.Steps.{pageOutcome, afterSearch, outcomeOf, answerOf}
+use Rattle.translation.specs.declared.Early.{Early}
+use Rattle.translation.specs.declared.Early.the-variants.{Decided, Search}
+use Rattle.translation.specs.declared.Outcome.{Outcome}
+use Rattle.translation.specs.declared.Outcome.the-variants.{NoMatch}
+use Rattle.translation.specs.declared.Searched.{Searched}
+use Rattle.translation.specs.declared.Searched.the-variants.{Nothing, At, Contradicting}
+use Rattle.translation.specs.declared.Wanted.{Wanted}
+use Rattle.translation.proofs.Stated.{access-as-stated}
+use Rattle.translation.proofs.Steps.{page-by, after-nothing, after-at, outcome-searched}
+use Rattle.calls.specs.Request.{MapCall, ProtectCall, AnsweredCall, AccessCall, Request, mapPage, unmap, protect, look, access, sdr1In, fed, fedAnswered}
+use Rattle.calls.specs.Answers.{wordAnswer, accessAnswer}
+use Rattle.calls.specs.OnBytes.{layout, Ended, ended, byMatches, entryWord, earlyOf, wantedPage, searched, markedBy, bytesDo, onBytes}
+use Rattle.calls.specs.Represents.{GoodTable}
+use Rattle.calls.specs.AnyTable.{groupAt, firstHere, secondHere, Matching, SomeMatch, SomeMatchHas, Disagreeing, FirstMatch, Free, FirstFree, Marked, Taken}
+use Rattle.calls.specs.AnyTable.{MapOnAny, UnmapOnAny, ProtectOnAny, LookOnAny, SearchOnAny, AccessOnAny, CallsOnAnyTable, AccessStated}
+use Rattle.calls.proofs.OnBytes.{taken}
+use Rattle.calls.proofs.Rules.{fitting, map-kept, unmap-kept, look-kept, protect-kept}
+use Rattle.calls.proofs.Histories.{sdr1-fed}
+use Rattle.calls.proofs.TableLaws.{Word, layout-laws}
+use Rattle.calls.proofs.Step.{own-fits}
+use Rattle.calls.proofs.Access.{fault-number, unmarked, unmarked-decided}
+use Rattle.calls.proofs.AnyEntries.{by-matches, own, member-matching, member-second, asMatch, matching-member, some-match, no-match, head-is}
+use Rattle.calls.proofs.AnyEntries.{disagree, contradicts, disagreeing-some, place-free, free-is, none-free, match-edited, others-kept, entry-put, all-but-kept}
+
+-- a taken call's table has its length
+good-table : (request : Request (List ℕ)) (t : List ℕ) → Taken request t → GoodTable (maskOnes (sdr1In request)) t
+good-table request t a =
+    let fit = fitting (fed request) (length t) (a .not-refused) in
+    record { long = fit .long ∙ length-is (sdr1In (fed request)) (fit .shape) ∙ ap (λ (s : ℕ). 65536 * 2 ^ maskOnes s) (sdr1-fed request); bytes = a .bytes }
+
+-- what a call leaves, and its number
+does : (request : Request (List ℕ)) (t : List ℕ) → Taken request t → onBytes request t ≡ bytesDo (maskOnes (sdr1In request)) request t
+does request t a = taken request t (a .not-refused)
+
+number-of : {e d : Ended (List ℕ)} → e ≡ d → e .number ≡ d .number
+number-of q = ap (λ (x : Ended (List ℕ)). x .number) q
+
+state-of : {e d : Ended (List ℕ)} → e ≡ d → e .state ≡ d .state
+state-of q = ap (λ (x : Ended (List ℕ)). x .state) q
+
+answer-of : {e d : Ended (List ℕ)} → e ≡ d → e .answer ≡ d .answer
+answer-of q = ap (λ (x : Ended (List ℕ)). x .answer) q
+
+-- by an option, keeping the equation
+by-place : {A X : Type 0} (o : Option A) → (o ≡ none → X) → ((a : A) → o ≡ some a → X) → X
+by-place none missing found = missing refl
+by-place (some a) missing found = found a refl
+
+-- ---- map
+
+module _ (c : MapCall) (t : List ℕ) (a : Taken (mapPage c) t) where
+  abbrev mk : ℕ
+  mk = maskOnes (c .sdr1)
+
+  map-good : GoodTable mk t
+  unfolding sdr1In
+  map-good = good-table (mapPage c) t a
+
+  map-matched : (x : Match) (xs : List Match) → own mk t (c .page) ≡ x ∷ xs → onBytes (mapPage c) t ≡ ended 7 t []
+  unfolding sdr1In bytesDo
+  map-matched x xs e = does (mapPage c) t a ∙ (rw e)
+
+  map-full : own mk t (c .page) ≡ [] → freePlace (layout mk) t (c .page) ≡ none → onBytes (mapPage c) t ≡ ended 9 t []
+  unfolding sdr1In bytesDo
+  map-full e f = does (mapPage c) t a ∙ (rw (e, f))
+
+  map-free : own mk t (c .page) ≡ [] → (b : Bool) (i : ℕ) → freePlace (layout mk) t (c .page) ≡ some (b, i)
+      → onBytes (mapPage c) t ≡ ended 0 (layout mk .put t (groupAt mk (c .page) b) i (entryWord b (c .page)) (secondWord (c .rpn) 0 0 (c .wimg) (c .pp))) []
+  unfolding sdr1In bytesDo
+  map-free e b i f = does (mapPage c) t a ∙ (rw (e, f))
+
+  -- a done map wrote the first free entry
+  map-wrote : onBytes (mapPage c) t .number ≡ 0 → (b : Bool) (i : ℕ) → FirstFree mk t (c .page) b i
+      → onBytes (mapPage c) t ≡ ended 0 (layout mk .put t (groupAt mk (c .page) b) i (entryWord b (c .page)) (secondWord (c .rpn) 0 0 (c .wimg) (c .pp))) []
+  map-wrote z b i f =
+      by-matches (own mk t (c .page))
+      (λ e.
+      by-place (freePlace (layout mk) t (c .page)) (λ n. absurd (let q = sym (number-of (map-full e n)) ∙ z in omega arith))
+      (λ place n.
+      let (side, at) = free-is mk t (c .page) b (place .0) i (place .1) f n in
+      map-free e b i (n ∙ ap₂ (λ (s : Bool) (j : ℕ). some (s, j)) (sym side) (sym at))))
+      (λ x xs e. absurd (let q = sym (number-of (map-matched x xs e)) ∙ z in omega arith))
+
+  map-on-any : MapOnAny c t mk
+  unfolding entryWord fed
+  map-on-any =
+      let kept = map-kept (length t) c (a .not-refused) in
+      record {
+        refused-7 = (
+          λ z.
+              by-matches (own mk t (c .page))
+              (λ e.
+              by-place (freePlace (layout mk) t (c .page)) (λ n. absurd (let q = sym (number-of (map-full e n)) ∙ z in omega arith))
+              (λ place n. absurd (let q = sym (number-of (map-free e (place .0) (place .1) n)) ∙ z in omega arith)))
+              (λ x xs e. some-match mk t (c .page) x xs e),
+          λ s. by-matches (own mk t (c .page)) (λ e. absurd (no-match mk t (c .page) e s)) (λ x xs e. number-of (map-matched x xs e)),
+        );
+        refused-9 = (
+          λ z.
+              by-matches (own mk t (c .page))
+              (λ e.
+              by-place (freePlace (layout mk) t (c .page)) (λ n. (no-match mk t (c .page) e, none-free mk t (c .page) n))
+              (λ place n. absurd (let q = sym (number-of (map-free e (place .0) (place .1) n)) ∙ z in omega arith)))
+              (λ x xs e. absurd (let q = sym (number-of (map-matched x xs e)) ∙ z in omega arith)),
+          λ (out, full).
+              by-matches (own mk t (c .page))
+              (λ e.
+              by-place (freePlace (layout mk) t (c .page)) (λ n. number-of (map-full e n))
+              (λ place n. absurd (full (place .0) (place .1) (place-free mk t (c .page) (place .0) (place .1) n .is-free))))
+              (λ x xs e. absurd (out (some-match mk t (c .page) x xs e))),
+        );
+        entered = λ z b i f.
+            rw (map-wrote z b i f)
+            (entry-put mk t (c .page) map-good b i _ _ (f .is-free .0) (own-fits b (c .page) (kept .0))
+            (second-lt (c .rpn) 0 0 (c .wimg) (c .pp) (kept .1 .0) (lit< tt) (lit< tt) (kept .1 .1 .0) (kept .1 .1 .1)));
+        others = λ z b i f. rw (map-wrote z b i f) (all-but-kept mk t (c .page) map-good b i _ _ (f .is-free .0));
+      }
+
+-- ---- unmap, protect and look
+
+-- where a call is done exactly if the page has a match, and else refused 8
+module _ (k : ℕ) (t : List ℕ) (page : Page) (number : ℕ) (missing : own k t page ≡ [] → number ≡ 8)
+    (found : (x : Match) (xs : List Match) → own k t page ≡ x ∷ xs → number ≡ 0) where
+  done-by-match : (number ≡ 0) ↔ SomeMatch k t page
+  done-by-match = (
+    λ z. by-matches (own k t page) (λ e. absurd (let q = missing e in omega arith)) (λ x xs e. some-match k t page x xs e),
+    λ s. by-matches (own k t page) (λ e. absurd (no-match k t page e s)) found,
+  )
+
+  refused-by-none : (number ≡ 8) ↔ (SomeMatch k t page → ⊥)
+  refused-by-none = (
+    λ z. by-matches (own k t page) (no-match k t page) (λ x xs e. absurd (let q = found x xs e in omega arith)),
+    λ out. by-matches (own k t page) missing (λ x xs e. absurd (out (some-match k t page x xs e))),
+  )
+
+-- the bit that a test reads
+bit-set : (n : ℕ) (test : ℕ → Bool) → ((w : ℕ) → test w ≡ eqb (bits n n w) 1) → (w : ℕ) → (bits n n w ≡ 1) ↔ (test w ≡ true)
+bit-set n test is w = (λ e. is w ∙ eq-eqb (bits n n w) 1 e, λ e. eqb-true (bits n n w) 1 (sym (is w) ∙ e))
+
+r-is : (w : ℕ) → referenced w ≡ eqb (bits 23 23 w) 1
+unfolding referenced
+r-is w = refl
+
+c-is : (w : ℕ) → changed w ≡ eqb (bits 24 24 w) 1
+unfolding changed
+c-is w = refl
+
+-- some match of the list passes a test exactly where some matching entry's second word has the bit
+any-has : (k : ℕ) (t : List ℕ) (page : Page) (n : ℕ) (test : ℕ → Bool) → ((w : ℕ) → test w ≡ eqb (bits n n w) 1)
+    → (anyMatch (λ (m : Match). test (m .second)) (own k t page) ≡ true) ↔ SomeMatchHas k t page n
+any-has k t page n test is = (
+  λ e.
+      let (y, at, passes) = any-true (λ (m : Match). test (m .second)) (own k t page) e in (
+        y .secondary,
+        y .entry,
+        member-matching k t page y at,
+        bit-set n test is (secondHere k t page (y .secondary) (y .entry)) .1 (ap test (sym (member-second k t page y at)) ∙ passes),
+      ),
+  λ (b, i, m, has).
+      any-member (λ (m : Match). test (m .second)) (own k t page) (asMatch k t page b i) (matching-member k t page b i m)
+      (bit-set n test is (secondHere k t page b i) .0 has),
+)
+
+module _ (c : AnsweredCall (List ℕ)) (t : List ℕ) (a : Taken (unmap c) t) where
+  abbrev uk : ℕ
+  uk = maskOnes (c .sdr1)
+
+  unmap-good : GoodTable uk t
+  unfolding sdr1In
+  unmap-good = good-table (unmap c) t a
+
+  unmap-none : own uk t (c .page) ≡ [] → onBytes (unmap c) t ≡ ended 8 t (wordAnswer 8 0)
+  unfolding sdr1In bytesDo
+  unmap-none e = does (unmap c) t a ∙ (rw e)
+
+  unmap-some : (x : Match) (xs : List Match) → own uk t (c .page) ≡ x ∷ xs
+      → onBytes (unmap c) t ≡ ended 0 (overwriteEach (layout uk) (c .page) (λ y. (0, 0)) (own uk t (c .page)) t) (wordAnswer 0 (merged x xs))
+  unfolding sdr1In bytesDo
+  unmap-some x xs e = does (unmap c) t a ∙ (rw e)
+
+  zeros-fit : (x : Match) → MatchOf (layout uk) t (c .page) x → Word 0 × Word 0
+  zeros-fit x m = (lit< tt, lit< tt)
+
+  unmap-left : onBytes (unmap c) t .number ≡ 0 → onBytes (unmap c) t .state ≡ overwriteEach (layout uk) (c .page) (λ y. (0, 0)) (own uk t (c .page)) t
+  unmap-left z =
+      by-matches (own uk t (c .page)) (λ e. absurd (let q = sym (number-of (unmap-none e)) ∙ z in omega arith)) (λ x xs e. state-of (unmap-some x xs e))
+
+  -- the word answered: the first match's, with the marks of all
+  unmap-word : (b : Bool) (i : ℕ) → FirstMatch uk t (c .page) b i → (w : ℕ) × (onBytes (unmap c) t .answer ≡ wordAnswer 0 w)
+      × ((bits 23 23 w ≡ 1) ↔ SomeMatchHas uk t (c .page) 23) × ((bits 24 24 w ≡ 1) ↔ SomeMatchHas uk t (c .page) 24)
+      × (bits 0 22 w ≡ bits 0 22 (secondHere uk t (c .page) b i)) × (bits 25 31 w ≡ bits 25 31 (secondHere uk t (c .page) b i))
+  unfolding merged
+  unmap-word b i f =
+      let h = head-is uk t (c .page) b i f in
+      let x = h .x in
+      let xs = h .xs in
+      let r = anyMatch (λ (m : Match). referenced (m .second)) (x ∷ xs) in
+      let d = anyMatch (λ (m : Match). changed (m .second)) (x ∷ xs) in (
+        merged x xs,
+        answer-of (unmap-some x xs (h .are)),
+        marks-iff 23 referenced r-is (merged x xs) x xs (h .are) (merged-referenced x xs),
+        marks-iff 24 changed c-is (merged x xs) x xs (h .are) (merged-changed x xs),
+        marks-above r d (x .second) 0 22 (lit< tt) ∙ ap (bits 0 22) (h .second-is),
+        marks-below r d (x .second) 25 31 (lit< tt) (lit≤ tt) (lit< tt) ∙ ap (bits 25 31) (h .second-is),
+      )
+    where
+      marks-iff : (n : ℕ) (test : ℕ → Bool) → ((w : ℕ) → test w ≡ eqb (bits n n w) 1) → (w : ℕ) (x : Match) (xs : List Match) → own uk t (c .page) ≡ x ∷ xs
+          → test w ≡ anyMatch (λ (m : Match). test (m .second)) (x ∷ xs) → (bits n n w ≡ 1) ↔ SomeMatchHas uk t (c .page) n
+      marks-iff n test is w x xs e told =
+          let all : test w ≡ anyMatch (λ (m : Match). test (m .second)) (own uk t (c .page)) = told ∙ ap (anyMatch (λ (m : Match). test (m .second))) (sym e) in (
+            λ q. any-has uk t (c .page) n test is .0 (sym all ∙ bit-set n test is w .0 q),
+            λ s. bit-set n test is w .1 (all ∙ any-has uk t (c .page) n test is .1 s),
+          )
+
+  unmap-on-any : UnmapOnAny c t uk
+  unmap-on-any = record {
+    done-where = done-by-match uk t (c .page) (onBytes (unmap c) t .number) (λ e. number-of (unmap-none e)) (λ x xs e. number-of (unmap-some x xs e));
+    refused-8 = refused-by-none uk t (c .page) (onBytes (unmap c) t .number) (λ e. number-of (unmap-none e)) (λ x xs e. number-of (unmap-some x xs e));
+    zeroed = λ z b i m. rw (unmap-left z) (match-edited uk t (c .page) unmap-good (λ y. (0, 0)) zeros-fit b i m);
+    others = λ z. rw (unmap-left z) (others-kept uk t (c .page) unmap-good (λ y. (0, 0)) zeros-fit);
+    word = unmap-word;
+  }
+
+module _ (c : ProtectCall) (t : List ℕ) (a : Taken (protect c) t) where
+  abbrev pk : ℕ
+  pk = maskOnes (c .sdr1)
+
+  abbrev another : Match → ℕ × ℕ
+  another y = (y .first, withPP (c .pp) (y .second))
+
+  protect-good : GoodTable pk t
+  unfolding sdr1In
+  protect-good = good-table (protect c) t a
+
+  protect-none : own pk t (c .page) ≡ [] → onBytes (protect c) t ≡ ended 8 t []
+  unfolding sdr1In bytesDo
+  protect-none e = does (protect c) t a ∙ (rw e)
+
+  protect-some : (x : Match) (xs : List Match) → own pk t (c .page) ≡ x ∷ xs
+      → onBytes (protect c) t ≡ ended 0 (overwriteEach (layout pk) (c .page) another (own pk t (c .page)) t) []
+  unfolding sdr1In bytesDo
+  protect-some x xs e = does (protect c) t a ∙ (rw e)
+
+  pp-lt : c .pp < 2 ^ 2
+  unfolding fed
+  pp-lt = protect-kept (length t) c (a .not-refused) .1
+
+  pp-is : (w : ℕ) → withPP (c .pp) w ≡ w / 4 * 4 + c .pp
+  unfolding withPP
+  pp-is w = omega arith
+
+  words-fit-here : (x : Match) → MatchOf (layout pk) t (c .page) x → Word (x .first) × Word (withPP (c .pp) (x .second))
+  words-fit-here x m =
+      let (f, s) = words-fit t (groupAt pk (c .page) (x .secondary)) (x .entry) (a .bytes) in
+      let e = m .first-word in
+      let d = m .second-word in
+      let p = pp-lt in
+      (rw e f, rw (pp-is (x .second), d) (omega arith))
+
+  protect-left : onBytes (protect c) t .number ≡ 0 → onBytes (protect c) t .state ≡ overwriteEach (layout pk) (c .page) another (own pk t (c .page)) t
+  protect-left z =
+      by-matches (own pk t (c .page)) (λ e. absurd (let q = sym (number-of (protect-none e)) ∙ z in omega arith)) (λ x xs e. state-of (protect-some x xs e))
+
+  protect-on-any : ProtectOnAny c t pk
+  protect-on-any = record {
+    done-where = done-by-match pk t (c .page) (onBytes (protect c) t .number) (λ e. number-of (protect-none e)) (λ x xs e. number-of (protect-some x xs e));
+    refused-8 = refused-by-none pk t (c .page) (onBytes (protect c) t .number) (λ e. number-of (protect-none e)) (λ x xs e. number-of (protect-some x xs e));
+    put = λ z b i m.
+        let r = match-edited pk t (c .page) protect-good another words-fit-here b i m in
+        rw (protect-left z) (r .0, r .1 ∙ pp-is (secondHere pk t (c .page) b i));
+    others = λ z. rw (protect-left z) (others-kept pk t (c .page) protect-good another words-fit-here);
+  }
+
+module _ (c : AnsweredCall (List ℕ)) (t : List ℕ) (a : Taken (look c) t) where
+  abbrev lk : ℕ
+  lk = maskOnes (c .sdr1)
+
+  look-none : own lk t (c .page) ≡ [] → onBytes (look c) t ≡ ended 8 t (wordAnswer 8 0)
+  unfolding sdr1In bytesDo
+  look-none e = does (look c) t a ∙ (rw e)
+
+  look-ten : (x : Match) (xs : List Match) → own lk t (c .page) ≡ x ∷ xs → contradict x xs ≡ true → onBytes (look c) t ≡ ended 10 t (wordAnswer 10 0)
+  unfolding sdr1In bytesDo
+  look-ten x xs e d = does (look c) t a ∙ (rw (e, d))
+
+  look-one : (x : Match) (xs : List Match) → own lk t (c .page) ≡ x ∷ xs → contradict x xs ≡ false → onBytes (look c) t ≡ ended 0 t (wordAnswer 0 (x .second))
+  unfolding sdr1In bytesDo
+  look-one x xs e d = does (look c) t a ∙ (rw (e, d))
+
+  -- in each case, by the matches and whether they contradict
+  look-by : {X : Type 0} → (own lk t (c .page) ≡ [] → X) → ((x : Match) (xs : List Match) → own lk t (c .page) ≡ x ∷ xs → contradict x xs ≡ true → X)
+      → ((x : Match) (xs : List Match) → own lk t (c .page) ≡ x ∷ xs → contradict x xs ≡ false → X) → X
+  look-by {X} missing ten one = by-matches (own lk t (c .page)) missing (λ x xs e. go x xs e (contradict x xs) refl)
+    where
+      go : (x : Match) (xs : List Match) → own lk t (c .page) ≡ x ∷ xs → (d : Bool) → contradict x xs ≡ d → X
+      go x xs e true d = ten x xs e d
+      go x xs e false d = one x xs e d
+
+  look-on-any : LookOnAny c t lk
+  look-on-any = record {
+    refused-10 = (
+      λ z.
+          look-by (λ e. absurd (let q = sym (number-of (look-none e)) ∙ z in omega arith)) (λ x xs e d. disagree lk t (c .page) x xs e d)
+          (λ x xs e d. absurd (let q = sym (number-of (look-one x xs e d)) ∙ z in omega arith)),
+      λ dis.
+          look-by (λ e. absurd (no-match lk t (c .page) e (disagreeing-some lk t (c .page) dis))) (λ x xs e d. number-of (look-ten x xs e d))
+          (λ x xs e d. absurd (true≢false (sym (contradicts lk t (c .page) x xs e dis) ∙ d))),
+    );
+    refused-8 = (
+      λ z.
+          look-by (no-match lk t (c .page)) (λ x xs e d. absurd (let q = sym (number-of (look-ten x xs e d)) ∙ z in omega arith))
+          (λ x xs e d. absurd (let q = sym (number-of (look-one x xs e d)) ∙ z in omega arith)),
+      λ out. by-matches (own lk t (c .page)) (λ e. number-of (look-none e)) (λ x xs e. absurd (out (some-match lk t (c .page) x xs e))),
+    );
+    word = λ z b i f.
+        let h = head-is lk t (c .page) b i f in
+        look-by (λ e. absurd (let q = sym (number-of (look-none e)) ∙ z in omega arith))
+        (λ x xs e d. absurd (let q = sym (number-of (look-ten x xs e d)) ∙ z in omega arith))
+        (λ x xs e d.
+        let same : x ∷ xs ≡ h .x ∷ h .xs = sym e ∙ h .are in
+        let is : x ≡ h .x = cc in
+        answer-of (look-one x xs e d) ∙ ap (λ (m : Match). wordAnswer 0 (m .second)) is ∙ ap (wordAnswer 0) (h .second-is));
+    left = look-by (λ e. state-of (look-none e)) (λ x xs e d. state-of (look-ten x xs e d)) (λ x xs e d. state-of (look-one x xs e d));
+  }
+
+-- ---- access
+
+-- a fault or a done access is not refused 10
+not-ten : (cause kind : ℕ) → faultOf cause kind .result ≡ 10 → ⊥
+unfolding faultOf
+not-ten cause kind = go (fetching kind)
+  where
+    go : (t : Bool) → cond {A = ℕ} t 65 64 ≡ 10 → ⊥
+    go true e = omega arith
+    go false e = omega arith
+
+module _ (kind : ℕ) (key : Bool) (address : ℕ) where
+  found-not-ten : (word : ℕ) → answerOf kind address (afterSearch kind key (At word)) .result ≡ 10 → ⊥
+  unfolding answerOf afterSearch
+  found-not-ten word =
+      page-by kind key word (λ (outcome : Outcome). answerOf kind address outcome .result ≡ 10 → ⊥)
+      (λ g e. not-ten noFetch kind e) (λ g p e. not-ten protection kind e) (λ g p e. omega arith)
+
+  missing-not-ten : answerOf kind address (afterSearch kind key Nothing) .result ≡ 10 → ⊥
+  unfolding answerOf afterSearch
+  missing-not-ten e = not-ten noMatch kind e
+
+  missing-not-done : answerOf kind address (afterSearch kind key Nothing) .result ≡ 0 → ⊥
+  unfolding answerOf afterSearch
+  missing-not-done e = fault-number noMatch kind e
+
+  contradicting-ten : answerOf kind address (afterSearch kind key Contradicting) .result ≡ 10
+  unfolding answerOf afterSearch
+  contradicting-ten = refl
+
+storing-store : (kind : ℕ) → kind ≡ 2 → storing kind ≡ true
+unfolding storing
+storing-store kind e = eq-eqb kind 2 e
+
+storing-other : (kind : ℕ) → (kind ≡ 2 → ⊥) → storing kind ≡ false
+unfolding storing
+storing-other kind n = ne-eqb kind 2 n
+
+-- R alone leaves C
+only-r : (w : ℕ) → bits 24 24 (withMarks true false w) ≡ bits 24 24 w
+unfolding withMarks
+only-r w = omega arith
+
+-- step 7 sets R, and C on a store, and leaves every other bit
+marked-word : (kind w : ℕ) → Marked kind w (withMarks true (storing kind) w)
+marked-word kind w = record {
+  referenced = bit-set 23 referenced r-is (withMarks true (storing kind) w) .1 (marks-referenced true (storing kind) w);
+  changed = λ e. bit-set 24 changed c-is (withMarks true (storing kind) w) .1 (marks-changed true (storing kind) w ∙ (rw (storing-store kind e)));
+  not-changed = λ n. rw (storing-other kind n) (only-r w);
+  above = marks-above true (storing kind) w 0 22 (lit< tt);
+  below = marks-below true (storing kind) w 25 31 (lit< tt) (lit≤ tt) (lit< tt);
+}
+
+module _ (c : AccessCall (List ℕ)) (t : List ℕ) (a : Taken (access c) t) where
+  abbrev ak : ℕ
+  ak = maskOnes (sdr1In (access c))
+
+  access-good : GoodTable ak t
+  access-good = good-table (access c) t a
+
+  -- what the steps before the search, and the matches, come to
+  abbrev outcome : Outcome
+  outcome = outcomeOf (c .kind) (λ wanted. searched (matchesOf (layout ak) t (wantedPage wanted))) (earlyOf c)
+
+  access-does : onBytes (access c) t
+      ≡ ended (answerOf (c .kind) (c .address) outcome .result) (markedBy ak (c .kind) (earlyOf c) (answerOf (c .kind) (c .address) outcome .result) t)
+      (accessAnswer (answerOf (c .kind) (c .address) outcome))
+  unfolding bytesDo
+  access-does = does (access c) t a
+
+  module _ (wanted : Wanted) (searches : earlyOf c ≡ Search wanted) where
+    abbrev page : Page
+    page = wantedPage wanted
+
+    abbrev toldBy : Searched → Ended (List ℕ)
+    toldBy found =
+        let words = answerOf (c .kind) (c .address) (afterSearch (c .kind) (wanted .key) found) in
+        ended (words .result) (markedBy ak (c .kind) (Search wanted) (words .result) t) (accessAnswer words)
+
+    search-does : onBytes (access c) t ≡ toldBy (searched (own ak t page))
+    unfolding outcomeOf
+    search-does = access-does ∙ (rw searches)
+
+    by-none : own ak t page ≡ [] → onBytes (access c) t ≡ toldBy Nothing
+    unfolding searched
+    by-none e = search-does ∙ ap (λ (ms : List Match). toldBy (searched ms)) e
+
+    by-ten : (x : Match) (xs : List Match) → own ak t page ≡ x ∷ xs → contradict x xs ≡ true → onBytes (access c) t ≡ toldBy Contradicting
+    unfolding searched
+    by-ten x xs e d = search-does ∙ ap (λ (ms : List Match). toldBy (searched ms)) e ∙ ap (λ (z : Bool). toldBy (cond z Contradicting (At (x .second)))) d
+
+    by-one : (x : Match) (xs : List Match) → own ak t page ≡ x ∷ xs → contradict x xs ≡ false → onBytes (access c) t ≡ toldBy (At (x .second))
+    unfolding searched
+    by-one x xs e d = search-does ∙ ap (λ (ms : List Match). toldBy (searched ms)) e ∙ ap (λ (z : Bool). toldBy (cond z Contradicting (At (x .second)))) d
+
+    -- a done access is done by the first match, where the matches do not contradict
+    search-by : {X : Type 0} → (own ak t page ≡ [] → X) → ((x : Match) (xs : List Match) → own ak t page ≡ x ∷ xs → contradict x xs ≡ true → X)
+        → ((x : Match) (xs : List Match) → own ak t page ≡ x ∷ xs → contradict x xs ≡ false → X) → X
+    search-by {X} missing ten one = by-matches (own ak t page) missing (λ x xs e. go x xs e (contradict x xs) refl)
+      where
+        go : (x : Match) (xs : List Match) → own ak t page ≡ x ∷ xs → (d : Bool) → contradict x xs ≡ d → X
+        go x xs e true d = ten x xs e d
+        go x xs e false d = one x xs e d
+
+    refused-ten : (onBytes (access c) t .number ≡ 10) ↔ Disagreeing ak t page
+    refused-ten = (
+      λ z.
+          search-by (λ e. absurd (missing-not-ten (c .kind) (wanted .key) (c .address) (sym (number-of (by-none e)) ∙ z)))
+          (λ x xs e d. disagree ak t page x xs e d)
+          (λ x xs e d. absurd (found-not-ten (c .kind) (wanted .key) (c .address) (x .second) (sym (number-of (by-one x xs e d)) ∙ z))),
+      λ dis.
+          search-by (λ e. absurd (no-match ak t page e (disagreeing-some ak t page dis)))
+          (λ x xs e d. number-of (by-ten x xs e d) ∙ contradicting-ten (c .kind) (wanted .key) (c .address))
+          (λ x xs e d. absurd (true≢false (sym (contradicts ak t page x xs e dis) ∙ d))),
+    )
+
+    -- done, the table has the first match marked
+    marked-at : onBytes (access c) t .number ≡ 0 → (b : Bool) (i : ℕ) → FirstMatch ak t page b i
+        → onBytes (access c) t .state
+        ≡ layout ak .put t (groupAt ak page b) i (firstHere ak t page b i) (withMarks true (storing (c .kind)) (secondHere ak t page b i))
+    unfolding markedBy overwrite
+    marked-at z b i f =
+        let h = head-is ak t page b i f in
+        let mark : Match → List ℕ = λ (m : Match). layout ak .put t (groupAt ak page (m .secondary)) (m .entry) (m .first) (withMarks true (storing (c .kind)) (m .second)) in
+        state-of search-does
+        ∙ ap (λ (r : ℕ). markedBy ak (c .kind) (Search wanted) r t) (sym (number-of search-does) ∙ z)
+        ∙ ap (λ (ms : List Match). byMatches ms t (λ x xs. mark x)) (h .are)
+        ∙ ap₂ (λ (s : Bool) (j : ℕ). layout ak .put t (groupAt ak page s) j (h .x .first) (withMarks true (storing (c .kind)) (h .x .second))) (h .side) (h .at)
+        ∙ ap₂ (λ (u v : ℕ). layout ak .put t (groupAt ak page b) i u (withMarks true (storing (c .kind)) v)) (h .first-is) (h .second-is)
+
+    search-on-any : SearchOnAny c t ak wanted
+    search-on-any = record {
+      refused-10 = refused-ten;
+      no-match = λ out.
+          by-matches (own ak t page)
+          (λ e. answer-of (by-none e) ∙ ap (λ (o : Outcome). accessAnswer (answerOf (c .kind) (c .address) o)) (after-nothing (c .kind) (wanted .key)))
+          (λ x xs e. absurd (out (some-match ak t page x xs e)));
+      by-first = λ agreed b i f.
+          let h = head-is ak t page b i f in
+          search-by (λ e. absurd (no-match ak t page e (b, i, f .matching))) (λ x xs e d. absurd (agreed (disagree ak t page x xs e d)))
+          (λ x xs e d.
+          let same : x ∷ xs ≡ h .x ∷ h .xs = sym e ∙ h .are in
+          let is : x ≡ h .x = cc in
+          answer-of (by-one x xs e d)
+          ∙ ap (λ (w : ℕ). accessAnswer (answerOf (c .kind) (c .address) (afterSearch (c .kind) (wanted .key) (At w)))) (ap (λ (m : Match). m .second) is ∙ h .second-is));
+      marks = λ z b i f.
+          let (fits, other) = words-fit t (groupAt ak page b) i (a .bytes) in
+          let r = entry-put ak t page access-good b i (firstHere ak t page b i) (withMarks true (storing (c .kind)) (secondHere ak t page b i)) (f .matching .0) fits
+          (marks-lt true (storing (c .kind)) (secondHere ak t page b i) other) in
+          rw (marked-at z b i f) (r .0, subst (Marked (c .kind) (secondHere ak t page b i)) (sym (r .1)) (marked-word (c .kind) (secondHere ak t page b i)));
+      others = λ z b i f. rw (marked-at z b i f) (all-but-kept ak t page access-good b i _ _ (f .matching .0));
+    }
+
+  access-on-any : AccessOnAny c t ak
+  access-on-any = record {
+    not-done = λ n. state-of access-does ∙ unmarked ak (c .kind) (earlyOf c) (answerOf (c .kind) (c .address) outcome .result) t (λ z. n (number-of access-does ∙ z));
+    not-by-page = λ o e.
+        state-of access-does
+        ∙ ap (λ (x : Early). markedBy ak (c .kind) x (answerOf (c .kind) (c .address) outcome .result) t) e
+        ∙ unmarked-decided ak (c .kind) o (answerOf (c .kind) (c .address) outcome .result) t;
+    by-page = search-on-any;
+  }
+
+pub calls-on-any-table : CallsOnAnyTable
+calls-on-any-table = record { maps = map-on-any; unmaps = unmap-on-any; protects = protect-on-any; looks = look-on-any; accesses = access-on-any }
+
+pub access-stated : AccessStated
+access-stated = record { steps = access-as-stated; on-tables = access-on-any }

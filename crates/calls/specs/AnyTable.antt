@@ -1,0 +1,187 @@
+-- What each call does to any table of bytes, whoever wrote it (rules 4 to 6). An entry is named by its group and its number, and a match is an
+-- entry that matches: nothing here goes by the list of matches that the calls go by.
+use Prim.Native.Nat.{ℕ, _+_, _*_, _/_, _^_, _≤_, _<_}
+use mathlib.Core.Bool.{Bool, true, false}
+use mathlib.Core.List.{List}
+use mathlib.Core.Logic.{_↔_}
+use mathlib.Core.Path.{_≡_}
+use lib.ListN.{length, getD}
+use Rattle.numbers.specs.Numbers.{done, refusedMapped, refusedNoMatch, refusedFull, refusedContradiction, store, groupEntries}
+use Rattle.words.specs.Bits.{bits}
+use Rattle.entry.specs.Entry.{firstWord, secondWord, matches, free, apiOf}
+use Rattle.register_words.specs.Sdr1.{maskOnes}
+use Rattle.groups.specs.Page.{Page}
+use Rattle.groups.specs.Hash.{groupNumber}
+use Rattle.groups.specs.Group.{firstOf, secondOf}
+use Rattle.matches.specs.Search.{hOf, agree}
+use Rattle.translation.specs.Steps.{afterSearch, answerOf}
+use Rattle.translation.specs.Stated.{AccessAsStated}
+use Rattle.translation.specs.declared.Early.the-variants.{Decided, Search}
+use Rattle.translation.specs.declared.Outcome.{Outcome}
+use Rattle.translation.specs.declared.Outcome.the-variants.{NoMatch}
+use Rattle.translation.specs.declared.Searched.the-variants.{At}
+use Rattle.translation.specs.declared.Wanted.{Wanted}
+use Rattle.calls.specs.Request.{MapCall, ProtectCall, AnsweredCall, AccessCall, Request, mapPage, unmap, protect, look, access, sdr1In, fed}
+use Rattle.calls.specs.Rules.{refusal}
+use Rattle.calls.specs.Answers.{wordAnswer, accessAnswer}
+use Rattle.calls.specs.OnBytes.{Ended, onBytes, earlyOf, wantedPage}
+
+-- ---- entries and matches
+
+-- entry i of group g has the same words in both tables
+abbrev pub SameEntry : List ℕ → List ℕ → ℕ → ℕ → Type 0
+SameEntry t u g i = (firstOf u g i ≡ firstOf t g i) × (secondOf u g i ≡ secondOf t g i)
+
+-- a place among a page's sixteen in search order: primary entries 0 to 7, then secondary
+abbrev pub inOrder : Bool → ℕ → ℕ
+inOrder b i = groupEntries * hOf b + i
+
+-- the number of a page's primary (false) or secondary (true) group, for a mask of k ones
+abbrev pub groupAt : ℕ → Page → Bool → ℕ
+groupAt k page b = groupNumber (10 + k) b page
+
+-- a table for a mask of k ones, and a page; b tells the page's primary group from its secondary
+module _ (k : ℕ) (t : List ℕ) (page : Page) where
+  abbrev pub firstHere : Bool → ℕ → ℕ
+  firstHere b i = firstOf t (groupAt k page b) i
+
+  abbrev pub secondHere : Bool → ℕ → ℕ
+  secondHere b i = secondOf t (groupAt k page b) i
+
+  -- entry i of the group is a match
+  abbrev pub Matching : Bool → ℕ → Type 0
+  Matching b i = (i < groupEntries) × (matches (page .vsid) (hOf b) (apiOf (page .index)) (firstHere b i) ≡ true)
+
+  abbrev pub SomeMatch : Type 0
+  SomeMatch = (b : Bool) × (i : ℕ) × Matching b i
+
+  -- two matches do not agree, wherever they stand
+  abbrev pub Disagreeing : Type 0
+  Disagreeing = (b : Bool) × (i : ℕ) × (c : Bool) × (j : ℕ) × Matching b i × Matching c j × (agree (secondHere b i) (secondHere c j) ≡ false)
+
+  -- the first match in search order
+  pub record FirstMatch (b : Bool) (i : ℕ) : Type 0 where
+    pub matching : Matching b i
+    pub first : (c : Bool) (j : ℕ) → Matching c j → inOrder b i ≤ inOrder c j
+
+  -- some match has bit n of its second word set
+  abbrev pub SomeMatchHas : ℕ → Type 0
+  SomeMatchHas n = (b : Bool) × (i : ℕ) × Matching b i × (bits n n (secondHere b i) ≡ 1)
+
+  -- entry i of the group has V = 0, and is the first such in search order
+  abbrev pub Free : Bool → ℕ → Type 0
+  Free b i = (i < groupEntries) × (free (firstHere b i) ≡ true)
+
+  pub record FirstFree (b : Bool) (i : ℕ) : Type 0 where
+    pub is-free : Free b i
+    pub first : (c : Bool) (j : ℕ) → Free c j → inOrder b i ≤ inOrder c j
+
+  -- every entry but the page's matches reads as before; every entry but one does
+  abbrev pub OthersKept : List ℕ → Type 0
+  OthersKept u = (g i : ℕ) → g < 2 ^ (10 + k) → i < groupEntries → ((b : Bool) → g ≡ groupAt k page b → Matching b i → ⊥) → SameEntry t u g i
+
+  abbrev pub AllButKept : Bool → ℕ → List ℕ → Type 0
+  AllButKept b i u = (g j : ℕ) → g < 2 ^ (10 + k) → j < groupEntries → (g ≡ groupAt k page b → j ≡ i → ⊥) → SameEntry t u g j
+
+-- a second word before and after step 7: R is set, C too on a store, and every other bit is as before
+pub record Marked (kind old new : ℕ) : Type 0 where
+  pub referenced : bits 23 23 new ≡ 1
+  pub changed : kind ≡ store → bits 24 24 new ≡ 1
+  pub not-changed : (kind ≡ store → ⊥) → bits 24 24 new ≡ bits 24 24 old
+  pub above : bits 0 22 new ≡ bits 0 22 old
+  pub below : bits 25 31 new ≡ bits 25 31 old
+
+-- ---- the calls
+
+-- a call that its arguments do not refuse, on a table of bytes
+pub record Taken (request : Request (List ℕ)) (t : List ℕ) : Type 0 where
+  pub not-refused : refusal (fed request) (length t) ≡ 0
+  pub bytes : (i : ℕ) → getD t i 0 < 2 ^ 8
+
+-- map: refused where the page has a match, and where it has none and all sixteen entries have V = 1; else the first with V = 0 is written
+module _ (c : MapCall) (t : List ℕ) where
+  abbrev pub mapped : Ended (List ℕ)
+  mapped = onBytes (mapPage c) t
+
+  pub record MapOnAny (k : ℕ) : Type 0 where
+    pub refused-7 : (mapped .number ≡ refusedMapped) ↔ SomeMatch k t (c .page)
+    pub refused-9 : (mapped .number ≡ refusedFull) ↔ ((SomeMatch k t (c .page) → ⊥) × ((b : Bool) (i : ℕ) → Free k t (c .page) b i → ⊥))
+    pub entered : mapped .number ≡ done → (b : Bool) (i : ℕ) → FirstFree k t (c .page) b i
+        → (firstOf (mapped .state) (groupAt k (c .page) b) i ≡ firstWord 1 (c .page .vsid) (hOf b) (apiOf (c .page .index)))
+        × (secondOf (mapped .state) (groupAt k (c .page) b) i ≡ secondWord (c .rpn) 0 0 (c .wimg) (c .pp))
+    pub others : mapped .number ≡ done → (b : Bool) (i : ℕ) → FirstFree k t (c .page) b i → AllButKept k t (c .page) b i (mapped .state)
+
+-- unmap: each match reads two zero words; the word answered is the first match's, with the marks of all
+module _ (c : AnsweredCall (List ℕ)) (t : List ℕ) where
+  abbrev pub unmapped : Ended (List ℕ)
+  unmapped = onBytes (unmap c) t
+
+  pub record UnmapOnAny (k : ℕ) : Type 0 where
+    pub done-where : (unmapped .number ≡ done) ↔ SomeMatch k t (c .page)
+    pub refused-8 : (unmapped .number ≡ refusedNoMatch) ↔ (SomeMatch k t (c .page) → ⊥)
+    pub zeroed : unmapped .number ≡ done → (b : Bool) (i : ℕ) → Matching k t (c .page) b i
+        → (firstOf (unmapped .state) (groupAt k (c .page) b) i ≡ 0) × (secondOf (unmapped .state) (groupAt k (c .page) b) i ≡ 0)
+    pub others : unmapped .number ≡ done → OthersKept k t (c .page) (unmapped .state)
+    pub word : (b : Bool) (i : ℕ) → FirstMatch k t (c .page) b i → (w : ℕ) × (unmapped .answer ≡ wordAnswer done w)
+        × ((bits 23 23 w ≡ 1) ↔ SomeMatchHas k t (c .page) 23) × ((bits 24 24 w ≡ 1) ↔ SomeMatchHas k t (c .page) 24)
+        × (bits 0 22 w ≡ bits 0 22 (secondHere k t (c .page) b i)) × (bits 25 31 w ≡ bits 25 31 (secondHere k t (c .page) b i))
+
+-- protect: each match has that PP and every other bit as before
+module _ (c : ProtectCall) (t : List ℕ) where
+  abbrev pub protected : Ended (List ℕ)
+  protected = onBytes (protect c) t
+
+  pub record ProtectOnAny (k : ℕ) : Type 0 where
+    pub done-where : (protected .number ≡ done) ↔ SomeMatch k t (c .page)
+    pub refused-8 : (protected .number ≡ refusedNoMatch) ↔ (SomeMatch k t (c .page) → ⊥)
+    pub put : protected .number ≡ done → (b : Bool) (i : ℕ) → Matching k t (c .page) b i
+        → (firstOf (protected .state) (groupAt k (c .page) b) i ≡ firstHere k t (c .page) b i)
+        × (secondOf (protected .state) (groupAt k (c .page) b) i ≡ secondHere k t (c .page) b i / 4 * 4 + c .pp)
+    pub others : protected .number ≡ done → OthersKept k t (c .page) (protected .state)
+
+-- look: refused where two matches do not agree; else the first match's second word
+module _ (c : AnsweredCall (List ℕ)) (t : List ℕ) where
+  abbrev pub looked : Ended (List ℕ)
+  looked = onBytes (look c) t
+
+  pub record LookOnAny (k : ℕ) : Type 0 where
+    pub refused-10 : (looked .number ≡ refusedContradiction) ↔ Disagreeing k t (c .page)
+    pub refused-8 : (looked .number ≡ refusedNoMatch) ↔ (SomeMatch k t (c .page) → ⊥)
+    pub word : looked .number ≡ done → (b : Bool) (i : ℕ) → FirstMatch k t (c .page) b i → looked .answer ≡ wordAnswer done (secondHere k t (c .page) b i)
+    pub left : looked .state ≡ t
+
+-- an access
+module _ (c : AccessCall (List ℕ)) (t : List ℕ) where
+  abbrev pub accessed : Ended (List ℕ)
+  accessed = onBytes (access c) t
+
+  -- one that reaches step 4
+  pub record SearchOnAny (k : ℕ) (wanted : Wanted) : Type 0 where
+    pub refused-10 : (accessed .number ≡ refusedContradiction) ↔ Disagreeing k t (wantedPage wanted)
+    pub no-match : (SomeMatch k t (wantedPage wanted) → ⊥) → accessed .answer ≡ accessAnswer (answerOf (c .kind) (c .address) NoMatch)
+    pub by-first : (Disagreeing k t (wantedPage wanted) → ⊥) → (b : Bool) (i : ℕ) → FirstMatch k t (wantedPage wanted) b i
+        → accessed .answer ≡ accessAnswer (answerOf (c .kind) (c .address) (afterSearch (c .kind) (wanted .key) (At (secondHere k t (wantedPage wanted) b i))))
+    -- done, it marks the first match alone
+    pub marks : accessed .number ≡ done → (b : Bool) (i : ℕ) → FirstMatch k t (wantedPage wanted) b i
+        → (firstOf (accessed .state) (groupAt k (wantedPage wanted) b) i ≡ firstHere k t (wantedPage wanted) b i)
+        × Marked (c .kind) (secondHere k t (wantedPage wanted) b i) (secondOf (accessed .state) (groupAt k (wantedPage wanted) b) i)
+    pub others : accessed .number ≡ done → (b : Bool) (i : ℕ) → FirstMatch k t (wantedPage wanted) b i → AllButKept k t (wantedPage wanted) b i (accessed .state)
+
+  pub record AccessOnAny (k : ℕ) : Type 0 where
+    -- a fault or a refusal leaves the table, and so does an access that is done by real mode or a block
+    pub not-done : (accessed .number ≡ done → ⊥) → accessed .state ≡ t
+    pub not-by-page : (outcome : Outcome) → earlyOf c ≡ Decided outcome → accessed .state ≡ t
+    pub by-page : (wanted : Wanted) → earlyOf c ≡ Search wanted → SearchOnAny k wanted
+
+-- every call on any table
+pub record CallsOnAnyTable : Type 0 where
+  pub maps : (c : MapCall) (t : List ℕ) → Taken (mapPage c) t → MapOnAny c t (maskOnes (c .sdr1))
+  pub unmaps : (c : AnsweredCall (List ℕ)) (t : List ℕ) → Taken (unmap c) t → UnmapOnAny c t (maskOnes (c .sdr1))
+  pub protects : (c : ProtectCall) (t : List ℕ) → Taken (protect c) t → ProtectOnAny c t (maskOnes (c .sdr1))
+  pub looks : (c : AnsweredCall (List ℕ)) (t : List ℕ) → Taken (look c) t → LookOnAny c t (maskOnes (c .sdr1))
+  pub accesses : (c : AccessCall (List ℕ)) (t : List ℕ) → Taken (access c) t → AccessOnAny c t (maskOnes (sdr1In (access c)))
+
+-- demand 2: each access gives the physical address, attributes and marks, or the fault, of the rules
+pub record AccessStated : Type 0 where
+  pub steps : AccessAsStated
+  pub on-tables : (c : AccessCall (List ℕ)) (t : List ℕ) → Taken (access c) t → AccessOnAny c t (maskOnes (sdr1In (access c)))

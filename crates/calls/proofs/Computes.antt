@@ -9,7 +9,8 @@ use Rattle.calls.specs.Answers.{wordAnswer, accessAnswer, refusedBytes, 
 use Rattle.calls.specs.OnBytes.{entryWord, searched, markedBy, bytesDo, onBytes}
 use Rattle.calls.specs.OnMap.{fieldsWord, arranged?, foundIn, mapMarked, mapDoes, onMap}
 use Rattle.calls.specs.Histories.{bytesStep, mapStep}
+use Rattle.calls.specs.PageRows.{groupWith}
 
 unfoldable pub calls-compute : Unit {0}
-unfolding matches-compute translation-computes ofLength checkCall setRegisterCall packCall unpackCall sdr1In fed pageInRange writeThroughInhibited rules refusal wordAnswer accessAnswer refusedBytes answerRefused compared entryWord searched markedBy bytesDo onBytes fieldsWord arranged? foundIn mapMarked mapDoes onMap bytesStep mapStep
+unfolding matches-compute translation-computes ofLength checkCall setRegisterCall packCall unpackCall sdr1In fed pageInRange writeThroughInhibited rules refusal wordAnswer accessAnswer refusedBytes answerRefused compared entryWord searched markedBy bytesDo onBytes fieldsWord arranged? foundIn mapMarked mapDoes onMap bytesStep mapStep groupWith
 calls-compute = tt

@@ -10,8 +10,11 @@ pub mod Histories
 pub mod Theorem
 pub mod AnyEntries
 pub mod AnyTable
+pub mod Refusals
 pub mod Changes
 pub mod Corollaries
 pub mod PageCalls
 pub mod Access
 pub mod Computes
+pub mod Tables
+pub mod Demands

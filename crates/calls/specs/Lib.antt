@@ -11,3 +11,7 @@ pub mod Represents
 pub mod Histories
 pub mod Theorem
 pub mod AnyTable
+pub mod Refusals
+pub mod Tables
+pub mod PageRows
+pub mod Demands

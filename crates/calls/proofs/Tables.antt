@@ -1,0 +1,29 @@
+-- Every row of the calls holds: both sides compute to the same.
+use mathlib.Core.Path.{refl}
+use Rattle.calls.specs.Tables.{WithoutTableTables}
+use Rattle.calls.specs.PageRows.{PageRows}
+use Rattle.calls.proofs.Computes.{calls-compute}
+
+pub without-table-tables : WithoutTableTables
+unfolding calls-compute
+without-table-tables = record {
+  check-rows = record { equal = refl };
+  set-rows = record { equal = refl };
+  pack-rows = record { equal = refl };
+  unpack-rows = record { equal = refl };
+}
+
+pub page-rows : PageRows
+unfolding calls-compute
+page-rows = record {
+  page-refusals = record { equal = refl };
+  access-refusals = record { equal = refl };
+  left-rows = record { equal = refl };
+  look-rows = record { equal = refl };
+  unmap-rows = record { equal = refl };
+  protect-rows = record { equal = refl };
+  map-rows = record { equal = refl };
+  access-rows = record { equal = refl };
+  secondary-rows = record { equal = refl };
+  both-rows = record { equal = refl };
+}

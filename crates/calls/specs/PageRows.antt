@@ -22,17 +22,17 @@ abbrev pub inside : Page
 inside = pageOf 0xFFFFFF 0xFFFF
 
 -- a register page of zeros with bytes changed: SDR1 of mask 5; a block of BL 2; two data blocks at 0; segment 15 with T = 1
-abbrev pub blank : List ℕ
-blank = replicate 132 0
+abbrev pub zeroRegisters : List ℕ
+zeroRegisters = replicate 132 0
 
 abbrev pub broken : List ℕ
-broken = set (set (set blank 3 5) 71 10) 64 128
+broken = set (set (set zeroRegisters 3 5) 71 10) 64 128
 
 abbrev pub blocks : List ℕ
-blocks = set (set (set blank 103 2) 111 2) 64 128
+blocks = set (set (set zeroRegisters 103 2) 111 2) 64 128
 
 abbrev pub segment : List ℕ
-segment = set blank 64 128
+segment = set zeroRegisters 64 128
 
 -- one group: two matches of VSID 0x400, page 0, ignored bits set; an entry of VSID 0; an entry of VSID 0x400 with H = 1; then free entries that are
 -- not zero
@@ -53,12 +53,12 @@ equal = groupWith 0x80020000 0x12345E16 0x54321E96 0x12345E16
 abbrev pub differing : List ℕ
 differing = groupWith 0x80020000 0x12345E96 0x54321E96 0x12345F16
 
-abbrev pub page : Page
-page = pageOf 0x400 0
+abbrev pub doubled : Page
+doubled = pageOf 0x400 0
 
 -- segment register 0 with VSID 0x400
 abbrev pub registers : List ℕ
-registers = set (set blank 6 4) 7 0
+registers = set (set zeroRegisters 6 4) 7 0
 
 -- a page that may only be read, and a guarded one
 abbrev pub readable : List ℕ
@@ -73,7 +73,7 @@ abbrev pub both : Page
 both = pageOf 0x1FF 0
 
 abbrev pub bothRegisters : List ℕ
-bothRegisters = set (set blank 6 1) 7 255
+bothRegisters = set (set zeroRegisters 6 1) 7 255
 
 abbrev pub bothWith : ℕ → ℕ → ℕ → ℕ → List ℕ
 bothWith first second other duplicate = replicate 32704 0 ++ bytesOf (first ∷ second ∷ replicate 14 0) ++ bytesOf (0 ∷ 0 ∷ other ∷ duplicate ∷ replicate 12 0)
@@ -135,25 +135,25 @@ pub record PageRows : Type 0 where
       )
   -- the refusals of an access in every mode, each length one below and one above, and each adjacent pair of their order
   pub access-refusals : Hold (
-      (refusal (toAccess blank 7 2 0 16) 65536, done)
-      ∷ (refusal (toAccess blank 0 0 0 16) 65536, done)
+      (refusal (toAccess zeroRegisters 7 2 0 16) 65536, done)
+      ∷ (refusal (toAccess zeroRegisters 0 0 0 16) 65536, done)
       ∷ (refusal (toAccess (replicate 131 0) 8 0 0 16) 0, refusedLentLength)
       ∷ (refusal (toAccess (replicate 133 0) 0 0 0 16) 65536, refusedLentLength)
-      ∷ (refusal (toAccess blank 8 0 0 15) 65536, refusedLentLength)
+      ∷ (refusal (toAccess zeroRegisters 8 0 0 15) 65536, refusedLentLength)
       ∷ (refusal (toAccess (replicate 131 0) 0 0 0 16) 65536, refusedLentLength)
-      ∷ (refusal (toAccess blank 0 0 0 15) 65536, refusedLentLength)
-      ∷ (refusal (toAccess blank 0 0 0 17) 65536, refusedLentLength)
-      ∷ (refusal (toAccess blank 8 0 0 16) 65536, refusedArgument)
-      ∷ (refusal (toAccess blank 0 3 0 16) 65536, refusedArgument)
+      ∷ (refusal (toAccess zeroRegisters 0 0 0 15) 65536, refusedLentLength)
+      ∷ (refusal (toAccess zeroRegisters 0 0 0 17) 65536, refusedLentLength)
+      ∷ (refusal (toAccess zeroRegisters 8 0 0 16) 65536, refusedArgument)
+      ∷ (refusal (toAccess zeroRegisters 0 3 0 16) 65536, refusedArgument)
       ∷ (refusal (toAccess broken 8 0 0 16) 0, refusedArgument)
       ∷ (refusal (toAccess broken 0 3 0 16) 0, refusedArgument)
       ∷ (refusal (toAccess broken 0 0 0 16) 0, refusedSdr1)
       ∷ (refusal (toAccess (set broken 3 0) 0 0 0 16) 0, refusedBlock)
       ∷ (refusal (toAccess blocks 0 0 0 16) 0, refusedBlocksShare)
       ∷ (refusal (toAccess segment 0 0 0 16) 0, refusedSegment)
-      ∷ (refusal (toAccess blank 0 0 0 16) 0, refusedTableLength)
-      ∷ (refusal (toAccess blank 0 0 0 16) 65535, refusedTableLength)
-      ∷ (refusal (toAccess blank 0 0 0 16) 65537, refusedTableLength)
+      ∷ (refusal (toAccess zeroRegisters 0 0 0 16) 0, refusedTableLength)
+      ∷ (refusal (toAccess zeroRegisters 0 0 0 16) 65535, refusedTableLength)
+      ∷ (refusal (toAccess zeroRegisters 0 0 0 16) 65537, refusedTableLength)
       ∷ []
       )
   -- after a refusal table and answer: nothing where a length is refused, else the number and three zero words
@@ -161,7 +161,7 @@ pub record PageRows : Type 0 where
       (onBytes (toUnmap 0 inside (replicate 15 255)) (7 ∷ []), ended refusedLentLength (7 ∷ []) (replicate 15 255))
       ∷ (onBytes (toLook 0 inside (replicate 17 255)) (7 ∷ []), ended refusedLentLength (7 ∷ []) (replicate 17 255))
       ∷ (onBytes (toAccess [] 0 0 0 (replicate 16 255)) (7 ∷ []), ended refusedLentLength (7 ∷ []) (replicate 16 255))
-      ∷ (onBytes (toAccess blank 0 0 0 []) (7 ∷ []), ended refusedLentLength (7 ∷ []) [])
+      ∷ (onBytes (toAccess zeroRegisters 0 0 0 []) (7 ∷ []), ended refusedLentLength (7 ∷ []) [])
       ∷ (onBytes (toUnmap 0 inside (replicate 16 255)) (7 ∷ []), ended refusedTableLength (7 ∷ []) (bytesOf (refusedTableLength ∷ 0 ∷ 0 ∷ 0 ∷ [])))
       ∷ (onBytes (toLook 0 inside (replicate 16 255)) (7 ∷ []), ended refusedTableLength (7 ∷ []) (bytesOf (refusedTableLength ∷ 0 ∷ 0 ∷ 0 ∷ [])))
       ∷ (onBytes (toAccess segment 0 0 0 (replicate 16 255)) (7 ∷ []), ended refusedSegment (7 ∷ []) (bytesOf (refusedSegment ∷ 0 ∷ 0 ∷ 0 ∷ [])))
@@ -172,27 +172,27 @@ pub record PageRows : Type 0 where
       )
   -- look: equal duplicates answer the first's raw word, differing ones contradict; the entry with H = 1 does not match
   pub look-rows : Hold (
-      (bytesDo 0 (toLook 0 page []) equal, ended done equal (wordAnswer done 0x12345E16))
-      ∷ (bytesDo 0 (toLook 0 page []) differing, ended refusedContradiction differing (wordAnswer refusedContradiction 0))
+      (bytesDo 0 (toLook 0 doubled []) equal, ended done equal (wordAnswer done 0x12345E16))
+      ∷ (bytesDo 0 (toLook 0 doubled []) differing, ended refusedContradiction differing (wordAnswer refusedContradiction 0))
       ∷ (bytesDo 0 (toLook 0 (pageOf 0 0) []) differing, ended done differing (wordAnswer done 0x54321E96))
       ∷ (bytesDo 0 (toLook 0 (pageOf 0x800 0) []) differing, ended refusedNoMatch differing (wordAnswer refusedNoMatch 0))
       ∷ []
       )
   -- unmap: every match zeroed, ignored bits too, and no other byte; the first's word with the marks of all
   pub unmap-rows : Hold (
-      (bytesDo 0 (toUnmap 0 page []) differing, ended done (groupWith 0 0 0x54321E96 0) (wordAnswer done 0x12345F96))
+      (bytesDo 0 (toUnmap 0 doubled []) differing, ended done (groupWith 0 0 0x54321E96 0) (wordAnswer done 0x12345F96))
       ∷ (bytesDo 0 (toUnmap 0 (pageOf 0x800 0) []) differing, ended refusedNoMatch differing (wordAnswer refusedNoMatch 0))
       ∷ []
       )
   -- protect: PP of every match, every other bit kept
   pub protect-rows : Hold (
-      (bytesDo 0 (toProtect 0 page 1) differing, ended done (groupWith 0x80020000 0x12345E95 0x54321E96 0x12345F15) [])
+      (bytesDo 0 (toProtect 0 doubled 1) differing, ended done (groupWith 0x80020000 0x12345E95 0x54321E96 0x12345F15) [])
       ∷ (bytesDo 0 (toProtect 0 (pageOf 0x800 0) 1) differing, ended refusedNoMatch differing [])
       ∷ []
       )
   -- map: refused for a page with matches, though they contradict; else the first entry with V = 0, its R, C and ignored bits zero
   pub map-rows : Hold (
-      (bytesDo 0 (toMap 0 page 0 0 0) differing, ended refusedMapped differing [])
+      (bytesDo 0 (toMap 0 doubled 0 0 0) differing, ended refusedMapped differing [])
       ∷ (
         bytesDo 0 (toMap 0 (pageOf 0x800 0) 0xABCDE 11 3) differing,
         ended done (withWord (withWord differing 32 0x80040000) 36 0xABCDE05B) [],

@@ -75,24 +75,24 @@ abbrev pub mapTo : ℕ → ℕ → Page → Request (List ℕ)
 mapTo sdr1 pp page = toMap sdr1 page 0x12345 2 pp
 
 -- a lent answer
-abbrev pub blank : List ℕ
-blank = replicate answerSize 0
+abbrev pub lentAnswer : List ℕ
+lentAnswer = replicate answerSize 0
 
 -- a register page: SDR1, segment register 0 and the first data block; every other word is zero
 abbrev pub registerPage : ℕ → ℕ → ℕ → ℕ → List ℕ
 registerPage sdr1 segment upper lower = bytesOf ((sdr1 ∷ segment ∷ replicate 23 0) ++ (upper ∷ lower ∷ replicate 6 0))
 
 -- a store to address 00FFA01B in mode 1, by segment 0 with Ks and Kp zero and all blocks off
-abbrev pub storing : ℕ → Request (List ℕ)
-storing sdr1 = toAccess (registerPage sdr1 0x000C701C 0 0) 1 2 0x00FFA01B blank
+abbrev pub storeAt : ℕ → Request (List ℕ)
+storeAt sdr1 = toAccess (registerPage sdr1 0x000C701C 0 0) 1 2 0x00FFA01B lentAnswer
 
 -- eight other pages with the same primary group under both SDR1s: their VSIDs agree in the low 13 bits
 abbrev pub others : List Page
 others = map (λ i. record { vsid = 0x0C701C + 0x2000 * i; index = 0x0FFA }) (1 ∷ 2 ∷ 3 ∷ 4 ∷ 5 ∷ 6 ∷ 7 ∷ 8 ∷ [])
 
 -- a load in mode 1 with a data block
-abbrev pub loading : ℕ → ℕ → ℕ → ℕ → Request (List ℕ)
-loading sdr1 upper lower address = toAccess (registerPage sdr1 0 upper lower) 1 1 address blank
+abbrev pub loadAt : ℕ → ℕ → ℕ → ℕ → Request (List ℕ)
+loadAt sdr1 upper lower address = toAccess (registerPage sdr1 0 upper lower) 1 1 address lentAnswer
 
 -- VSIDs 0, 0x400 .. 0x3C00, page 0
 abbrev pub sixteen : List Page
@@ -130,17 +130,17 @@ cases2to5 sdr1 primary secondary =
     ∷ (2, stored sdr1 (map (mapTo sdr1 2) (others ++ (thePage ∷ []))) secondary (0x86380E43 ∷ 0x12345012 ∷ replicate 14 0))
     ∷ (
       3,
-      answered sdr1 (mapTo sdr1 2 thePage ∷ storing sdr1 ∷ toLook sdr1 thePage blank ∷ [])
+      answered sdr1 (mapTo sdr1 2 thePage ∷ storeAt sdr1 ∷ toLook sdr1 thePage lentAnswer ∷ [])
           (result done ∷ fourWords done 0x1234501B 2 0x00FFA01B ∷ fourWords done 0x12345192 0 0 ∷ []),
     )
-    ∷ (3, stored sdr1 (mapTo sdr1 2 thePage ∷ storing sdr1 ∷ []) primary (0x86380E03 ∷ 0x12345192 ∷ replicate 14 0))
+    ∷ (3, stored sdr1 (mapTo sdr1 2 thePage ∷ storeAt sdr1 ∷ []) primary (0x86380E03 ∷ 0x12345192 ∷ replicate 14 0))
     ∷ (
       4,
-      answered sdr1 (mapTo sdr1 3 thePage ∷ storing sdr1 ∷ toLook sdr1 thePage blank ∷ [])
+      answered sdr1 (mapTo sdr1 3 thePage ∷ storeAt sdr1 ∷ toLook sdr1 thePage lentAnswer ∷ [])
           (result done ∷ fourWords dataStorageFault 0x0A000000 0x300 0x00FFA01B ∷ fourWords done 0x12345013 0 0 ∷ []),
     )
-    ∷ (4, stored sdr1 (mapTo sdr1 3 thePage ∷ storing sdr1 ∷ []) primary (0x86380E03 ∷ 0x12345013 ∷ replicate 14 0))
-    ∷ (5, answered sdr1 (storing sdr1 ∷ []) (fourWords dataStorageFault 0x42000000 0x300 0x00FFA01B ∷ []))
+    ∷ (4, stored sdr1 (mapTo sdr1 3 thePage ∷ storeAt sdr1 ∷ []) primary (0x86380E03 ∷ 0x12345013 ∷ replicate 14 0))
+    ∷ (5, answered sdr1 (storeAt sdr1 ∷ []) (fourWords dataStorageFault 0x42000000 0x300 0x00FFA01B ∷ []))
     ∷ []
 
 abbrev pub case6 : List Row
@@ -154,18 +154,18 @@ abbrev pub case7 : ℕ → List Row
 case7 sdr1 =
     (7, refused (toClear sdr1) refusedSdr1)
     ∷ (7, refused (mapTo sdr1 2 thePage) refusedSdr1)
-    ∷ (7, refused (storing sdr1) refusedSdr1)
+    ∷ (7, refused (storeAt sdr1) refusedSdr1)
     ∷ (7, computes (checkCall (registerPage sdr1 0 0 0)) refusedSdr1)
     ∷ []
 
 -- an address outside the block goes by its segment, and its page has no match; BL 2 is refused by access and by check
 abbrev pub cases8to10 : ℕ → List Row
 cases8to10 sdr1 =
-    (8, answered sdr1 (loading sdr1 0x80001FFE 0x10000002 0x8FFFFFFF ∷ []) (fourWords done 0x1FFFFFFF 0 0x8FFFFFFF ∷ []))
-    ∷ (8, answered sdr1 (loading sdr1 0x80001FFE 0x10000002 0x90000000 ∷ []) (fourWords dataStorageFault 0x40000000 0x300 0x90000000 ∷ []))
-    ∷ (9, answered sdr1 (loading sdr1 0x00000002 0x10000002 0x0001FFFF ∷ []) (fourWords done 0x1001FFFF 0 0x0001FFFF ∷ []))
-    ∷ (9, answered sdr1 (loading sdr1 0x00000002 0x10000002 0x00020000 ∷ []) (fourWords dataStorageFault 0x40000000 0x300 0x00020000 ∷ []))
-    ∷ (10, refused (loading sdr1 0x0000000A 0x10000002 0) refusedBlock)
+    (8, answered sdr1 (loadAt sdr1 0x80001FFE 0x10000002 0x8FFFFFFF ∷ []) (fourWords done 0x1FFFFFFF 0 0x8FFFFFFF ∷ []))
+    ∷ (8, answered sdr1 (loadAt sdr1 0x80001FFE 0x10000002 0x90000000 ∷ []) (fourWords dataStorageFault 0x40000000 0x300 0x90000000 ∷ []))
+    ∷ (9, answered sdr1 (loadAt sdr1 0x00000002 0x10000002 0x0001FFFF ∷ []) (fourWords done 0x1001FFFF 0 0x0001FFFF ∷ []))
+    ∷ (9, answered sdr1 (loadAt sdr1 0x00000002 0x10000002 0x00020000 ∷ []) (fourWords dataStorageFault 0x40000000 0x300 0x00020000 ∷ []))
+    ∷ (10, refused (loadAt sdr1 0x0000000A 0x10000002 0) refusedBlock)
     ∷ (10, computes (checkCall (registerPage sdr1 0 0x0000000A 0x10000002)) refusedBlock)
     ∷ []
 
@@ -197,7 +197,7 @@ case11 =
 abbrev pub freed : Page → Page → Row
 freed page one = (
   12,
-  answered 0 (sixteenMaps ++ (toUnmap 0 one blank ∷ mapTo 0 2 page ∷ [])) (replicate 16 (result done) ++ (fourWords done 0x12345012 0 0 ∷ result done ∷ [])),
+  answered 0 (sixteenMaps ++ (toUnmap 0 one lentAnswer ∷ mapTo 0 2 page ∷ [])) (replicate 16 (result done) ++ (fourWords done 0x12345012 0 0 ∷ result done ∷ [])),
 )
 
 abbrev pub case12 : Page → List Row

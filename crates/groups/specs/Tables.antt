@@ -13,8 +13,8 @@ use Rattle.groups.specs.Hash.{hashOf, groupsOf, groupNumber, groupAddres
 use Rattle.groups.specs.Group.{groupOf, firstOf, secondOf, putAt, firstFreePlace}
 use Rattle.groups.specs.declared.Place.the-variants.{Entry, Full}
 
-abbrev pub page : ℕ → ℕ → Page
-page vsid index = record { vsid = vsid; index = index }
+abbrev pub pageAt : ℕ → ℕ → Page
+pageAt vsid index = record { vsid = vsid; index = index }
 
 -- VSID 0x0C701C and API 3 match in entries 1, 3 and 6 with H = 0 and in entry 0 with H = 1; entries 2 and 5 are free
 abbrev pub mixed : ℕ → ℕ → ℕ → ℕ → ℕ → ℕ → List ℕ
@@ -56,22 +56,22 @@ pub record GroupsTables : Type 0 where
   pub case-1 : Hold (
       (2 ^ hashBits 0x0F980007, 8192)
       ∷ (groupAddress 0x0F980007 0, 0x0F980000)
-      ∷ (groupAddress 0x0F980007 (groupNumber (hashBits 0x0F980007) false (page 0x0C701C 0x0FFA)), 0x0F9FF980)
-      ∷ (groupAddress 0x0F980007 (groupNumber (hashBits 0x0F980007) true (page 0x0C701C 0x0FFA)), 0x0F980640)
+      ∷ (groupAddress 0x0F980007 (groupNumber (hashBits 0x0F980007) false (pageAt 0x0C701C 0x0FFA)), 0x0F9FF980)
+      ∷ (groupAddress 0x0F980007 (groupNumber (hashBits 0x0F980007) true (pageAt 0x0C701C 0x0FFA)), 0x0F980640)
       ∷ []
       )
   -- and its note: the three highest bits of the page index play no part in the group's number there
-  pub same-group : map (λ index. groupNumber 13 false (page 0x0C701C index)) (0x0FFA ∷ 0x2FFA ∷ 0x4FFA ∷ 0x6FFA ∷ 0x8FFA ∷ 0xAFFA ∷ 0xCFFA ∷ 0xEFFA ∷ [])
+  pub same-group : map (λ index. groupNumber 13 false (pageAt 0x0C701C index)) (0x0FFA ∷ 0x2FFA ∷ 0x4FFA ∷ 0x6FFA ∷ 0x8FFA ∷ 0xAFFA ∷ 0xCFFA ∷ 0xEFFA ∷ [])
       ≡ replicate 8 0x1FE6
   -- cases 6 and 11
   pub groups : Hold (
-      (groupNumber (hashBits 0x0F980000) false (page 0x0C701C 0x0FFA), 0x3E6)
-      ∷ (groupNumber (hashBits 0x0F980000) true (page 0x0C701C 0x0FFA), 0x019)
-      ∷ (groupNumber (hashBits 0) false (page 0x3C00 0), 0)
-      ∷ (groupNumber (hashBits 0) true (page 0x3C00 0), 0x3FF)
-      ∷ (groupNumber (hashBits 0) false (page 0 0x3FF), 0x3FF)
-      ∷ (groupNumber (hashBits 0) true (page 0 0x3FF), 0)
-      ∷ (groupNumber 19 true (page 0x0C701C 0x0FFA), 0x38019)
+      (groupNumber (hashBits 0x0F980000) false (pageAt 0x0C701C 0x0FFA), 0x3E6)
+      ∷ (groupNumber (hashBits 0x0F980000) true (pageAt 0x0C701C 0x0FFA), 0x019)
+      ∷ (groupNumber (hashBits 0) false (pageAt 0x3C00 0), 0)
+      ∷ (groupNumber (hashBits 0) true (pageAt 0x3C00 0), 0x3FF)
+      ∷ (groupNumber (hashBits 0) false (pageAt 0 0x3FF), 0x3FF)
+      ∷ (groupNumber (hashBits 0) true (pageAt 0 0x3FF), 0)
+      ∷ (groupNumber 19 true (pageAt 0x0C701C 0x0FFA), 0x38019)
       ∷ []
       )
   -- both groups of a hash, at each number of hash bits' ends; the complement is in n bits
@@ -91,9 +91,9 @@ pub record GroupsTables : Type 0 where
       ∷ []
       )
   pub pages : Hold (
-      (samePage (page 1 2) (page 1 2), true)
-      ∷ (samePage (page 1 2) (page 3 2), false)
-      ∷ (samePage (page 1 2) (page 1 3), false)
+      (samePage (pageAt 1 2) (pageAt 1 2), true)
+      ∷ (samePage (pageAt 1 2) (pageAt 3 2), false)
+      ∷ (samePage (pageAt 1 2) (pageAt 1 3), false)
       ∷ []
       )
   -- the first free entry: of the primary group, of the secondary where the primary is full, or none

@@ -9,11 +9,11 @@ use Rattle.placement.specs.Placement.{Arrangement}
 use Rattle.placement.specs.FiniteMap.{mappedPages, putIn, fieldsAt, takeOut, revise, NoPageTwice}
 
 -- three pages; then page 4 put in, page 2 taken out, page 2 revised
-abbrev pub three : List (ℕ × ℕ)
-three = (1, 10) ∷ (2, 20) ∷ (3, 30) ∷ []
+abbrev pub threePages : List (ℕ × ℕ)
+threePages = (1, 10) ∷ (2, 20) ∷ (3, 30) ∷ []
 
 abbrev pub changes : List (List (ℕ × ℕ))
-changes = three ∷ putIn 4 40 three ∷ takeOut eqb 2 three ∷ revise eqb 2 (λ f. f + 1) three ∷ []
+changes = threePages ∷ putIn 4 40 threePages ∷ takeOut eqb 2 threePages ∷ revise eqb 2 (λ f. f + 1) threePages ∷ []
 
 -- four groups, of which 0 and 3 are a pair, and 1 and 2 are the other
 abbrev pub fourGroups : Bool → ℕ → ℕ
@@ -32,17 +32,17 @@ Fit capacity ps = Arrangement fourGroups capacity ps
 pub record PlacementTables : Type 0 where
   -- the fields of pages 1 to 4
   pub fields : Hold (
-      (map (λ p. fieldsAt eqb p three) (1 ∷ 2 ∷ 3 ∷ 4 ∷ []), some 10 ∷ some 20 ∷ some 30 ∷ none ∷ [])
-      ∷ (map (λ p. fieldsAt eqb p (putIn 4 40 three)) (1 ∷ 2 ∷ 3 ∷ 4 ∷ []), some 10 ∷ some 20 ∷ some 30 ∷ some 40 ∷ [])
-      ∷ (map (λ p. fieldsAt eqb p (takeOut eqb 2 three)) (1 ∷ 2 ∷ 3 ∷ 4 ∷ []), some 10 ∷ none ∷ some 30 ∷ none ∷ [])
-      ∷ (map (λ p. fieldsAt eqb p (revise eqb 2 (λ f. f + 1) three)) (1 ∷ 2 ∷ 3 ∷ 4 ∷ []), some 10 ∷ some 21 ∷ some 30 ∷ none ∷ [])
+      (map (λ p. fieldsAt eqb p threePages) (1 ∷ 2 ∷ 3 ∷ 4 ∷ []), some 10 ∷ some 20 ∷ some 30 ∷ none ∷ [])
+      ∷ (map (λ p. fieldsAt eqb p (putIn 4 40 threePages)) (1 ∷ 2 ∷ 3 ∷ 4 ∷ []), some 10 ∷ some 20 ∷ some 30 ∷ some 40 ∷ [])
+      ∷ (map (λ p. fieldsAt eqb p (takeOut eqb 2 threePages)) (1 ∷ 2 ∷ 3 ∷ 4 ∷ []), some 10 ∷ none ∷ some 30 ∷ none ∷ [])
+      ∷ (map (λ p. fieldsAt eqb p (revise eqb 2 (λ f. f + 1) threePages)) (1 ∷ 2 ∷ 3 ∷ 4 ∷ []), some 10 ∷ some 21 ∷ some 30 ∷ none ∷ [])
       ∷ []
       )
   -- the mapped pages
   pub pages : Hold ((map mappedPages changes, (1 ∷ 2 ∷ 3 ∷ []) ∷ (4 ∷ 1 ∷ 2 ∷ 3 ∷ []) ∷ (1 ∷ 3 ∷ []) ∷ (1 ∷ 2 ∷ 3 ∷ []) ∷ []) ∷ [])
   -- each page is there once; page 2 put in again is there twice
-  pub once : NoPageTwice eqb three
-  pub twice : NoPageTwice eqb (putIn 2 40 three) → ⊥
+  pub once : NoPageTwice eqb threePages
+  pub twice : NoPageTwice eqb (putIn 2 40 threePages) → ⊥
   -- sixteen pages of a pair of groups of eight fit and seventeen do not, whichever of the two groups is primary
   pub sixteen : Fit 8 (pagesIn 16 0) × Fit 8 (pagesIn 8 0 ++ pagesIn 8 3)
   pub seventeen : (Fit 8 (pagesIn 17 0) → ⊥) × (Fit 8 (pagesIn 9 0 ++ pagesIn 8 3) → ⊥) × (Fit 8 (pagesIn 1 3 ++ pagesIn 16 0) → ⊥)

@@ -28,8 +28,8 @@ abbrev pub answer : ℕ → ℕ → ℕ → ℕ → Answer
 answer result address attributes effective = record { result = result; address = address; attributes = attributes; effective = effective }
 
 -- what a page of this key and second word comes to
-abbrev pub found : Bool → ℕ → List Outcome
-found key second = byKind (λ (kind : ℕ). afterSearch kind key (At second))
+abbrev pub foundWith : Bool → ℕ → List Outcome
+foundWith key second = byKind (λ (kind : ℕ). afterSearch kind key (At second))
 
 abbrev pub outcomes : Outcome → Outcome → Outcome → List Outcome
 outcomes fetch load store = fetch ∷ load ∷ store ∷ []
@@ -39,8 +39,8 @@ abbrev pub holding : ℕ → Wanted → Searched
 holding second wanted = cond (eqb (wanted .vsid) 0x0C701C && eqb (wanted .index) 0x0FFA) (At second) Nothing
 
 -- a whole access to that table
-abbrev pub accessed : ℕ → List ℕ → ℕ → ℕ → ℕ → Answer
-accessed second words mode kind address = answerOf kind address (outcomeOf kind (holding second) (beforeSearch blockPairs blWidth words mode kind address))
+abbrev pub wholeAccess : ℕ → List ℕ → ℕ → ℕ → ℕ → Answer
+wholeAccess second words mode kind address = answerOf kind address (outcomeOf kind (holding second) (beforeSearch blockPairs blWidth words mode kind address))
 
 -- segment 0 no-execute, and blocks that allow nothing over its first 128 KB on both sides
 abbrev pub forbidding : List ℕ
@@ -169,22 +169,22 @@ pub record AccessTables : Type 0 where
       )
   -- steps 5 to 7, key × PP × kind: first W, I and M alone, then G too, which stops a fetch before protection and no other access
   pub pages : Hold (
-      (found false 0x12345070, outcomes (Done 0x12345070) (Done 0x12345070) (Done 0x12345070))
-      ∷ (found false 0x12345071, outcomes (Done 0x12345071) (Done 0x12345071) (Done 0x12345071))
-      ∷ (found false 0x12345072, outcomes (Done 0x12345072) (Done 0x12345072) (Done 0x12345072))
-      ∷ (found false 0x12345073, outcomes (Done 0x12345073) (Done 0x12345073) Protection)
-      ∷ (found true 0x12345070, outcomes Protection Protection Protection)
-      ∷ (found true 0x12345071, outcomes (Done 0x12345071) (Done 0x12345071) Protection)
-      ∷ (found true 0x12345072, outcomes (Done 0x12345072) (Done 0x12345072) (Done 0x12345072))
-      ∷ (found true 0x12345073, outcomes (Done 0x12345073) (Done 0x12345073) Protection)
-      ∷ (found false 0x12345008, outcomes Guarded (Done 0x12345008) (Done 0x12345008))
-      ∷ (found false 0x12345009, outcomes Guarded (Done 0x12345009) (Done 0x12345009))
-      ∷ (found false 0x1234500A, outcomes Guarded (Done 0x1234500A) (Done 0x1234500A))
-      ∷ (found false 0x1234500B, outcomes Guarded (Done 0x1234500B) Protection)
-      ∷ (found true 0x12345008, outcomes Guarded Protection Protection)
-      ∷ (found true 0x12345009, outcomes Guarded (Done 0x12345009) Protection)
-      ∷ (found true 0x1234500A, outcomes Guarded (Done 0x1234500A) (Done 0x1234500A))
-      ∷ (found true 0x1234500B, outcomes Guarded (Done 0x1234500B) Protection)
+      (foundWith false 0x12345070, outcomes (Done 0x12345070) (Done 0x12345070) (Done 0x12345070))
+      ∷ (foundWith false 0x12345071, outcomes (Done 0x12345071) (Done 0x12345071) (Done 0x12345071))
+      ∷ (foundWith false 0x12345072, outcomes (Done 0x12345072) (Done 0x12345072) (Done 0x12345072))
+      ∷ (foundWith false 0x12345073, outcomes (Done 0x12345073) (Done 0x12345073) Protection)
+      ∷ (foundWith true 0x12345070, outcomes Protection Protection Protection)
+      ∷ (foundWith true 0x12345071, outcomes (Done 0x12345071) (Done 0x12345071) Protection)
+      ∷ (foundWith true 0x12345072, outcomes (Done 0x12345072) (Done 0x12345072) (Done 0x12345072))
+      ∷ (foundWith true 0x12345073, outcomes (Done 0x12345073) (Done 0x12345073) Protection)
+      ∷ (foundWith false 0x12345008, outcomes Guarded (Done 0x12345008) (Done 0x12345008))
+      ∷ (foundWith false 0x12345009, outcomes Guarded (Done 0x12345009) (Done 0x12345009))
+      ∷ (foundWith false 0x1234500A, outcomes Guarded (Done 0x1234500A) (Done 0x1234500A))
+      ∷ (foundWith false 0x1234500B, outcomes Guarded (Done 0x1234500B) Protection)
+      ∷ (foundWith true 0x12345008, outcomes Guarded Protection Protection)
+      ∷ (foundWith true 0x12345009, outcomes Guarded (Done 0x12345009) Protection)
+      ∷ (foundWith true 0x1234500A, outcomes Guarded (Done 0x1234500A) (Done 0x1234500A))
+      ∷ (foundWith true 0x1234500B, outcomes Guarded (Done 0x1234500B) Protection)
       ∷ []
       )
   -- what each outcome answers
@@ -209,13 +209,13 @@ pub record AccessTables : Type 0 where
       )
   -- whole accesses: cases 3, 4, 5 and 8, then the same page fetched, and its fetch forbidden by G, by N and by N before any search
   pub accesses : Hold (
-      (accessed 0x12345012 (one 1 0x000C701C) 1 2 0x00FFA01B, answer done 0x1234501B 2 0x00FFA01B)
-      ∷ (accessed 0x12345013 (one 1 0x000C701C) 1 2 0x00FFA01B, answer dataStorageFault 0x0A000000 0x300 0x00FFA01B)
-      ∷ (accessed 0x12345012 (one 1 0x000C701C) 1 2 0x00FFB01B, answer dataStorageFault 0x42000000 0x300 0x00FFB01B)
-      ∷ (accessed 0x12345012 (two 25 0x80001FFE 26 0x10000002) 1 1 0x8FFFFFFF, answer done 0x1FFFFFFF 0 0x8FFFFFFF)
-      ∷ (accessed 0x12345012 (one 1 0x000C701C) 2 0 0x00FFA01B, answer done 0x1234501B 2 0x00FFA01B)
-      ∷ (accessed 0x1234501A (one 1 0x000C701C) 2 0 0x00FFA01B, answer instructionStorageFault 0x10000000 0x400 0x00FFA01B)
-      ∷ (accessed 0x12345012 (one 1 0x100C701C) 2 0 0x00FFA01B, answer instructionStorageFault 0x10000000 0x400 0x00FFA01B)
-      ∷ (accessed 0x12345012 (one 1 0x100C701C) 2 0 0x00FFB01B, answer instructionStorageFault 0x10000000 0x400 0x00FFB01B)
+      (wholeAccess 0x12345012 (one 1 0x000C701C) 1 2 0x00FFA01B, answer done 0x1234501B 2 0x00FFA01B)
+      ∷ (wholeAccess 0x12345013 (one 1 0x000C701C) 1 2 0x00FFA01B, answer dataStorageFault 0x0A000000 0x300 0x00FFA01B)
+      ∷ (wholeAccess 0x12345012 (one 1 0x000C701C) 1 2 0x00FFB01B, answer dataStorageFault 0x42000000 0x300 0x00FFB01B)
+      ∷ (wholeAccess 0x12345012 (two 25 0x80001FFE 26 0x10000002) 1 1 0x8FFFFFFF, answer done 0x1FFFFFFF 0 0x8FFFFFFF)
+      ∷ (wholeAccess 0x12345012 (one 1 0x000C701C) 2 0 0x00FFA01B, answer done 0x1234501B 2 0x00FFA01B)
+      ∷ (wholeAccess 0x1234501A (one 1 0x000C701C) 2 0 0x00FFA01B, answer instructionStorageFault 0x10000000 0x400 0x00FFA01B)
+      ∷ (wholeAccess 0x12345012 (one 1 0x100C701C) 2 0 0x00FFA01B, answer instructionStorageFault 0x10000000 0x400 0x00FFA01B)
+      ∷ (wholeAccess 0x12345012 (one 1 0x100C701C) 2 0 0x00FFB01B, answer instructionStorageFault 0x10000000 0x400 0x00FFB01B)
       ∷ []
       )

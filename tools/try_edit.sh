@@ -40,14 +40,15 @@ copy_with() {
     ln -s "$root/target" "$work/tree/target"
 }
 
-# what_was_refused CRATE FILE..: the first refusals in the log of each edit.
+# what_was_refused CRATE FILE..: the first refusals in the log of each edit, but for those that follow from another.
 what_was_refused() {
-    local crate=$1 file log
+    local crate=$1 file place
     shift
     for file in "$@"; do
-        log=target/must-fail/$crate/$(basename "$file" .edit)/.log
-        echo "$log:"
-        grep -m 3 -E ': error: |: no proof: ' "$log" | cut -c 1-300 | sed 's/^/    /' || true
+        place=must-fail/$crate/$(basename "$file" .edit)
+        echo "target/$place/.log:"
+        grep -E ': error: |: no proof: ' "target/$place/.log" | grep -v 'was not admitted' | head -n 3 \
+            | sed -e "s|^[^ ]*/$place/||" -e 's/^/    /' | cut -c 1-300 || true
     done
 }
 
@@ -74,7 +75,7 @@ try_edits() {
 # An edit of the smallest crate is refused, a changed comment is not, and a label that does not exist is told.
 self_test() {
     local crate=placement edits source comment
-    edits=(crates/$crate/must-fail/*.edit)
+    edits=("crates/$crate"/must-fail/*.edit)
     try_edits "$crate" "$(basename "${edits[0]}" .edit)" > "$work/first" || { cat "$work/first"; exit 1; }
     [ "$(grep -c 'must-fail .*: refused, as it must be' "$work/first")" = 1 ] || { cat "$work/first"; exit 1; }
     source=$(find "crates/$crate/specs" -name '*.antt' | sort | head -n 1)

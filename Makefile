@@ -46,6 +46,7 @@ test-install: $(ARCHIVE)
 	$(LOCKED) tests/install/run.sh $(ARCHIVE)
 
 documents: $(ARCHIVE)
+	python3 tools/check_documents.py
 	python3 tools/run_blocks.py --self-test
 	$(LOCKED) python3 tools/run_blocks.py $(ARCHIVE)
 
@@ -85,7 +86,7 @@ help:
 	@echo 'make test               the whole gate, .ci/run'
 	@echo 'make test-c             header and C tests under AddressSanitizer and valgrind'
 	@echo 'make test-install       installs into a temporary folder; pkg-config, CMake and uninstall'
-	@echo 'make documents          compiles and runs the C blocks of README.md and docs/C-GUIDE.md'
+	@echo 'make documents          lines and links of the documents; compiles and runs the C of README and C-GUIDE'
 	@echo 'make header             compares include/mmu.h with the archive, the Rattle source and VERSION'
 	@echo 'make bench              the library beside plain C; bench/run.sh --write also writes docs/BENCHMARKS.md'
 	@echo 'make install            archive, header, pkg-config and CMake files; PREFIX (default /usr/local), LIBDIR,'

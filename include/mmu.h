@@ -152,12 +152,13 @@ extern "C" {
 
 /* ---- The ten calls ---------------------------------------------------------------------------- */
 
-/* Each returns MMU_DONE, a refusal or, an access alone, a fault. Of several refusals the first named is told. */
+/* Each returns MMU_DONE, a refusal or, an access alone, a fault. Of several refusals that hold, the first is told. */
 
 /*
  * Check: whether a register page breaks a rule.
  *   registers  the register page, MMU_REGISTERS_SIZE bytes
- * Refusals: MMU_REFUSED_LENT_LENGTH, _SDR1, _BLOCK, _BLOCKS_SHARE, _SEGMENT.
+ * Refusals: MMU_REFUSED_LENT_LENGTH, MMU_REFUSED_SDR1, MMU_REFUSED_BLOCK, MMU_REFUSED_BLOCKS_SHARE,
+ *   MMU_REFUSED_SEGMENT.
  */
 uint32_t mmu_check(const uint8_t *registers, size_t registers_len);
 
@@ -166,7 +167,8 @@ uint32_t mmu_check(const uint8_t *registers, size_t registers_len);
  *   registers  the register page, MMU_REGISTERS_SIZE bytes
  *   number     which word, below MMU_REGISTER_COUNT: MMU_REGISTER_SDR1, MMU_REGISTER_SEGMENT(n) ..
  *   word       the new word
- * Refusals: MMU_REFUSED_LENT_LENGTH, _ARGUMENT (number), then of the new set _SDR1, _BLOCK, _BLOCKS_SHARE, _SEGMENT.
+ * Refusals: MMU_REFUSED_LENT_LENGTH, MMU_REFUSED_ARGUMENT (number), then of the new set MMU_REFUSED_SDR1,
+ *   MMU_REFUSED_BLOCK, MMU_REFUSED_BLOCKS_SHARE, MMU_REFUSED_SEGMENT.
  */
 uint32_t mmu_set_register(uint8_t *registers, size_t registers_len, uint32_t number, uint32_t word);
 
@@ -174,7 +176,7 @@ uint32_t mmu_set_register(uint8_t *registers, size_t registers_len, uint32_t num
  * Clear: zeroes the table.
  *   sdr1   the word of SDR1
  *   table  the table, MMU_TABLE_SIZE(sdr1) bytes
- * Refusals: MMU_REFUSED_SDR1, _TABLE_LENGTH.
+ * Refusals: MMU_REFUSED_SDR1, MMU_REFUSED_TABLE_LENGTH.
  */
 uint32_t mmu_clear(uint32_t sdr1, uint8_t *table, size_t table_len);
 
@@ -187,7 +189,7 @@ uint32_t mmu_clear(uint32_t sdr1, uint8_t *table, size_t table_len);
  *   wimg        its attributes, below 16, not both W and I
  *   pp          its protection, below 4
  *   table       the table, MMU_TABLE_SIZE(sdr1) bytes
- * Refusals: MMU_REFUSED_ARGUMENT, _SDR1, _TABLE_LENGTH, _MAPPED, _FULL.
+ * Refusals: MMU_REFUSED_ARGUMENT, MMU_REFUSED_SDR1, MMU_REFUSED_TABLE_LENGTH, MMU_REFUSED_MAPPED, MMU_REFUSED_FULL.
  */
 uint32_t mmu_map(uint32_t sdr1, uint32_t vsid, uint32_t page_index, uint32_t rpn, uint32_t wimg, uint32_t pp,
                  uint8_t *table, size_t table_len);
@@ -197,7 +199,8 @@ uint32_t mmu_map(uint32_t sdr1, uint32_t vsid, uint32_t page_index, uint32_t rpn
  *   sdr1, vsid, page_index  as for mmu_map
  *   table                   the table, MMU_TABLE_SIZE(sdr1) bytes
  *   answer                  MMU_ANSWER_SIZE bytes, written
- * Refusals: MMU_REFUSED_LENT_LENGTH, _ARGUMENT, _SDR1, _TABLE_LENGTH, _NO_MATCH.
+ * Refusals: MMU_REFUSED_LENT_LENGTH, MMU_REFUSED_ARGUMENT, MMU_REFUSED_SDR1, MMU_REFUSED_TABLE_LENGTH,
+ *   MMU_REFUSED_NO_MATCH.
  */
 uint32_t mmu_unmap(uint32_t sdr1, uint32_t vsid, uint32_t page_index, uint8_t *table, size_t table_len,
                    uint8_t *answer, size_t answer_len);
@@ -207,7 +210,7 @@ uint32_t mmu_unmap(uint32_t sdr1, uint32_t vsid, uint32_t page_index, uint8_t *t
  *   sdr1, vsid, page_index  as for mmu_map
  *   pp                      the new protection, below 4
  *   table                   the table, MMU_TABLE_SIZE(sdr1) bytes
- * Refusals: MMU_REFUSED_ARGUMENT, _SDR1, _TABLE_LENGTH, _NO_MATCH.
+ * Refusals: MMU_REFUSED_ARGUMENT, MMU_REFUSED_SDR1, MMU_REFUSED_TABLE_LENGTH, MMU_REFUSED_NO_MATCH.
  */
 uint32_t mmu_protect(uint32_t sdr1, uint32_t vsid, uint32_t page_index, uint32_t pp, uint8_t *table, size_t table_len);
 
@@ -216,7 +219,8 @@ uint32_t mmu_protect(uint32_t sdr1, uint32_t vsid, uint32_t page_index, uint32_t
  *   sdr1, vsid, page_index  as for mmu_map
  *   table                   the table, MMU_TABLE_SIZE(sdr1) bytes, only read
  *   answer                  MMU_ANSWER_SIZE bytes, written
- * Refusals: MMU_REFUSED_LENT_LENGTH, _ARGUMENT, _SDR1, _TABLE_LENGTH, then _CONTRADICTION or _NO_MATCH.
+ * Refusals: MMU_REFUSED_LENT_LENGTH, MMU_REFUSED_ARGUMENT, MMU_REFUSED_SDR1, MMU_REFUSED_TABLE_LENGTH, then
+ *   MMU_REFUSED_CONTRADICTION or MMU_REFUSED_NO_MATCH.
  */
 uint32_t mmu_look(uint32_t sdr1, uint32_t vsid, uint32_t page_index, const uint8_t *table, size_t table_len,
                   uint8_t *answer, size_t answer_len);
@@ -230,8 +234,8 @@ uint32_t mmu_look(uint32_t sdr1, uint32_t vsid, uint32_t page_index, const uint8
  *   table      the table, MMU_TABLE_SIZE(SDR1 of the page) bytes, in real mode too
  *   answer     MMU_ACCESS_ANSWER_SIZE bytes, written; mmu_read_answer reads it
  * Faults: MMU_DATA_STORAGE_FAULT of a load or store, MMU_INSTRUCTION_STORAGE_FAULT of a fetch.
- * Refusals: MMU_REFUSED_LENT_LENGTH, _ARGUMENT (mode, kind), _SDR1, _BLOCK, _BLOCKS_SHARE, _SEGMENT, _TABLE_LENGTH,
- * _CONTRADICTION.
+ * Refusals: MMU_REFUSED_LENT_LENGTH, MMU_REFUSED_ARGUMENT (mode, kind), MMU_REFUSED_SDR1, MMU_REFUSED_BLOCK,
+ *   MMU_REFUSED_BLOCKS_SHARE, MMU_REFUSED_SEGMENT, MMU_REFUSED_TABLE_LENGTH, MMU_REFUSED_CONTRADICTION.
  */
 uint32_t mmu_access(const uint8_t *registers, size_t registers_len, uint32_t mode, uint32_t kind, uint32_t address,
                     uint8_t *table, size_t table_len, uint8_t *answer, size_t answer_len);
@@ -243,7 +247,7 @@ uint32_t mmu_access(const uint8_t *registers, size_t registers_len, uint32_t mod
  *   api              the top six bits of the page index, below 64
  *   wimg, pp         below 16 (W and I may both be one), below 4
  *   entry            MMU_ENTRY_SIZE bytes, written
- * Refusals: MMU_REFUSED_LENT_LENGTH, _ARGUMENT.
+ * Refusals: MMU_REFUSED_LENT_LENGTH, MMU_REFUSED_ARGUMENT.
  */
 uint32_t mmu_pack(uint32_t v, uint32_t vsid, uint32_t h, uint32_t api, uint32_t rpn, uint32_t r, uint32_t c,
                   uint32_t wimg, uint32_t pp, uint8_t *entry, size_t entry_len);

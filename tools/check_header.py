@@ -5,7 +5,8 @@ check_header.py [ARCHIVE]     default target/staticlib/libmmu.a; exit status 1 a
 check_header.py --self-test   feeds wrong headers to the comparison, each of which must be refused
 
 The version is the Makefile's VERSION: the header's MMU_VERSION_MAJOR and _MINOR and the first heading of CHANGELOG.md
-must have it.
+must have it. The comment of a call must name each of its parameters, and the refusals that the comparison with the model
+has for it (NUMBERS of tests/compare/src/tally.rs), no others.
 """
 import re
 import subprocess
@@ -17,6 +18,7 @@ HEADER = ROOT / "include" / "mmu.h"
 SOURCES = ROOT / "crates" / "mmu" / "src"
 MAKEFILE = ROOT / "Makefile"
 CHANGELOG = ROOT / "CHANGELOG.md"
+TALLY = ROOT / "tests" / "compare" / "src" / "tally.rs"
 ARCHIVE = ROOT / "target" / "staticlib" / "libmmu.a"
 
 # A Rattle type and the C parameters that stand for it.
@@ -147,6 +149,42 @@ def version_differences(header, makefile, changelog):
     return lines
 
 
+def call_comments(header):
+    """Name to the comment above each declared function and to its parameters' names."""
+    found = re.findall(r"/\*((?:(?!\*/).)*)\*/\s*\w+ (mmu_\w+)\(([^)]*)\);", header, re.S)
+    return {name: (comment, [part.split()[-1].lstrip("*") for part in parameters.split(",")])
+            for comment, name, parameters in found}
+
+
+def refusals_in_tally(tally):
+    """Name of a call, as in the header, to its refusals in the comparison's table."""
+    table = re.search(r"const NUMBERS[^=]*=\s*\[(.*?)\n\];", tally, re.S)
+    if not table:
+        raise Unreadable("tally.rs: no table NUMBERS")
+    rows = re.findall(r'\("(\w+)", &\[([^\]]*)\]\)', table.group(1))
+    names = {"set": "set_register"}
+    return {"mmu_" + names.get(call, call): {int(number) for number in numbers.split(",")} - {0, 64, 65}
+            for call, numbers in rows}
+
+
+def comment_differences(header, tally):
+    """A line for each parameter that a call's comment does not name, and each refusal too few or too many."""
+    numbers = {name: int(number) for name, number in re.findall(r"^#define (MMU_REFUSED_\w+) (\d+)u", header, re.M)}
+    names, lines = {number: name for name, number in numbers.items()}, []
+    comments, wanted = call_comments(header), refusals_in_tally(tally)
+    for call in sorted(declared_functions(header)):
+        comment, parameters = comments.get(call, ("", []))
+        lines += [f"{call}: the comment does not name {name}" for name in parameters
+                  if not name.endswith("_len") and not re.search(rf"\b{name}\b", comment)]
+        told = {numbers.get(name, name) for name in re.findall(r"MMU_REFUSED_\w+", comment)}
+        for number in sorted(told ^ wanted.get(call, set()), key=str):
+            where = "names" if number in told else "does not name"
+            lines.append(f"{call}: the comment {where} {names.get(number, number)}, unlike the comparison's table")
+    return lines
+
+
+SAMPLE_TALLY = 'const NUMBERS: [(&str, &[u32]); 2] = [\n    ("look", &[0, 11, 2, 8]),\n    ("clear", &[0, 2]),\n];\n'
+
 SAMPLE_MAKEFILE = "RT ?= rt\nVERSION := 3.14.1\n"
 
 SAMPLE_CHANGELOG = "# Changes\n\n## 3.14.1\n\n## 3.13.0\n"
@@ -173,7 +211,12 @@ SAMPLE_HEADER = """
 /* uint32_t mmu_old(uint32_t number); */
 struct mmu_pair { uint32_t first; uint32_t second; };
 static inline uint32_t mmu_half(uint32_t number) { if (number) { return mmu_word(number); } return 0; }
+#define MMU_REFUSED_SDR1 2u
+#define MMU_REFUSED_NO_MATCH 8u
+#define MMU_REFUSED_LENT_LENGTH 11u
+/* Looks by sdr1 into table, fills answer. MMU_REFUSED_LENT_LENGTH, MMU_REFUSED_SDR1, MMU_REFUSED_NO_MATCH. */
 uint32_t mmu_look(uint32_t sdr1, const uint8_t *table, size_t table_len, uint8_t *answer, size_t answer_len);
+/* Zeroes table, as long as sdr1 says. Refusal: MMU_REFUSED_SDR1. */
 uint32_t mmu_clear(uint32_t sdr1, uint8_t *table, size_t table_len);
 static inline uint32_t mmu_word(const uint8_t *bytes) { return bytes[0]; }
 """
@@ -187,6 +230,11 @@ WRONG_HEADERS = {
     "a length is missing": ("uint8_t *answer, size_t answer_len", "uint8_t *answer"),
     "another result": ("uint32_t mmu_look(", "int mmu_look("),
     "a call after a static function does not exist": ("return 0; }\n", "return 0; }\nuint32_t mmu_erase(uint32_t sdr1);\n"),
+    "a parameter that the comment does not name": ("fills answer.", "fills it."),
+    "a refusal that the comment does not name": (", MMU_REFUSED_NO_MATCH.", "."),
+    "a refusal too many in the comment": ("Refusal: ", "Refusal: MMU_REFUSED_NO_MATCH, "),
+    "a refusal of another name": ("Refusal: MMU_REFUSED_SDR1", "Refusal: MMU_REFUSED_SHAPE"),
+    "a call without a comment": ("/* Zeroes table, as long as sdr1 says. Refusal: MMU_REFUSED_SDR1. */\n", ""),
     "another major version": ("MMU_VERSION_MAJOR 3", "MMU_VERSION_MAJOR 2"),
     "another minor version": ("MMU_VERSION_MINOR 14", "MMU_VERSION_MINOR 1"),
     "no minor version": ("#define MMU_VERSION_MINOR 14\n", ""),
@@ -194,7 +242,8 @@ WRONG_HEADERS = {
 
 
 def sample_differences(header, symbols):
-    return differences(header, SAMPLE_SOURCE, symbols) + version_differences(header, SAMPLE_MAKEFILE, SAMPLE_CHANGELOG)
+    return (differences(header, SAMPLE_SOURCE, symbols) + version_differences(header, SAMPLE_MAKEFILE, SAMPLE_CHANGELOG)
+            + comment_differences(header, SAMPLE_TALLY))
 
 
 def self_test():
@@ -224,13 +273,15 @@ def main(arguments):
         symbols = archive_symbols(archive)
         lines = differences(HEADER.read_text(), source, symbols)
         lines += version_differences(HEADER.read_text(), MAKEFILE.read_text(), CHANGELOG.read_text())
+        lines += comment_differences(HEADER.read_text(), TALLY.read_text())
     except (Unreadable, OSError) as error:
         lines = [str(error)]
     if lines:
         print("include/mmu.h and the library differ:")
         print("\n".join("  " + line for line in lines))
         return 1
-    print(f"include/mmu.h: {len(symbols)} calls, as in the archive and in the Rattle source, and the Makefile's version")
+    print(f"include/mmu.h: {len(symbols)} calls, as in the archive and in the Rattle source; parameters and refusals are told;"
+          " the version is the Makefile's")
     return 0
 
 

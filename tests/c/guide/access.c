@@ -1,15 +1,20 @@
 /* One access and the taking of its faults; the wanted words are the manual's Tables 6-10 and 6-11, bit by bit. */
 #include "expect.h"
 
+#include <setjmp.h>
+#include <string.h>
+
 #include "core.inc"
 #include "access.inc"
 #include "fault.inc"
 
+static jmp_buf before;
 static const char *stopped;
 
 static void stop(const char *why)
 {
     stopped = why;
+    longjmp(before, 1);
 }
 
 #include "store.inc"
@@ -99,11 +104,15 @@ static void test_instruction_fault(void)
 
 static void test_refusal(void)
 {
-    struct core core = new_core();
+    static struct core core;
+    core = new_core();
     mmu_put_word(core.registers, MMU_REGISTER_OFFSET(MMU_REGISTER_SEGMENT(9)), MMU_SEGMENT_T);
-    stopped = NULL;
-    store_byte(&core, 0x00FFA01B, 0x77);
-    EXPECT(stopped != NULL);
+    if (setjmp(before) == 0) {
+        store_byte(&core, 0x00FFA01B, 0x77);
+        EXPECT(stopped != NULL);
+    }
+    EXPECT(strcmp(stopped, mmu_result_name(MMU_REFUSED_SEGMENT)) == 0);
+    EXPECT(core.pc == 0x1234);
 }
 
 int main(void)

@@ -4,9 +4,9 @@
 check_header.py [ARCHIVE]     default target/staticlib/libmmu.a; exit status 1 and a line for each difference
 check_header.py --self-test   feeds wrong headers to the comparison, each of which must be refused
 
-The version is the Makefile's VERSION: the header's MMU_VERSION_MAJOR and _MINOR and the first heading of CHANGELOG.md
-must have it. The comment of a call must name each of its parameters, and the refusals that the comparison with the model
-has for it (NUMBERS of tests/compare/src/tally.rs), no others.
+The version is the Makefile's VERSION: the header's MMU_VERSION_MAJOR and _MINOR, the first heading of CHANGELOG.md and
+the find_package of docs/C-GUIDE.md must have it. The comment of a call must name each of its parameters, and the
+refusals that the comparison with the model has for it (NUMBERS of tests/compare/src/tally.rs), no others.
 """
 import re
 import subprocess
@@ -18,6 +18,7 @@ HEADER = ROOT / "include" / "mmu.h"
 SOURCES = ROOT / "crates" / "mmu" / "src"
 MAKEFILE = ROOT / "Makefile"
 CHANGELOG = ROOT / "CHANGELOG.md"
+GUIDE = ROOT / "docs" / "C-GUIDE.md"
 TALLY = ROOT / "tests" / "compare" / "src" / "tally.rs"
 ARCHIVE = ROOT / "target" / "staticlib" / "libmmu.a"
 
@@ -131,7 +132,7 @@ def differences(header, source, symbols):
     return lines
 
 
-def version_differences(header, makefile, changelog):
+def version_differences(header, makefile, changelog, guide):
     """A line for each place whose version is not the Makefile's."""
     versions = re.findall(r"^VERSION\s*:?=\s*(\d+)\.(\d+)\.(\d+)\s*$", makefile, re.M)
     if len(versions) != 1:
@@ -146,6 +147,9 @@ def version_differences(header, makefile, changelog):
     version = ".".join(versions[0])
     if headings[:1] != [version]:
         lines.append(f"CHANGELOG.md: its first heading is {' '.join(headings[:1]) or 'missing'}, the Makefile's VERSION {version}")
+    packages = re.findall(r"find_package\(mmu (\S+)", guide)
+    if packages != [".".join(versions[0][:2])]:
+        lines.append(f"docs/C-GUIDE.md: find_package of {' and '.join(packages) or 'no version'}, the Makefile's VERSION {version}")
     return lines
 
 
@@ -188,6 +192,8 @@ SAMPLE_TALLY = 'const NUMBERS: [(&str, &[u32]); 2] = [\n    ("look", &[0, 11, 2,
 SAMPLE_MAKEFILE = "RT ?= rt\nVERSION := 3.14.1\n"
 
 SAMPLE_CHANGELOG = "# Changes\n\n## 3.14.1\n\n## 3.13.0\n"
+
+SAMPLE_GUIDE = "    find_package(mmu 3.14 CONFIG REQUIRED)\n"
 
 SAMPLE_SOURCE = """
 // mmu_note is only told of here: pub extern fn.
@@ -242,8 +248,8 @@ WRONG_HEADERS = {
 
 
 def sample_differences(header, symbols):
-    return (differences(header, SAMPLE_SOURCE, symbols) + version_differences(header, SAMPLE_MAKEFILE, SAMPLE_CHANGELOG)
-            + comment_differences(header, SAMPLE_TALLY))
+    return (differences(header, SAMPLE_SOURCE, symbols) + comment_differences(header, SAMPLE_TALLY)
+            + version_differences(header, SAMPLE_MAKEFILE, SAMPLE_CHANGELOG, SAMPLE_GUIDE))
 
 
 def self_test():
@@ -252,15 +258,17 @@ def self_test():
     for label, (old, new) in WRONG_HEADERS.items():
         if SAMPLE_HEADER.count(old) != 1 or not sample_differences(SAMPLE_HEADER.replace(old, new), symbols):
             failed.append(f"not refused: {label}")
-    if not version_differences(SAMPLE_HEADER, SAMPLE_MAKEFILE, SAMPLE_CHANGELOG.replace("## 3.14.1", "## 3.14.0")):
+    if not version_differences(SAMPLE_HEADER, SAMPLE_MAKEFILE, SAMPLE_CHANGELOG.replace("## 3.14.1", "## 3.14.0"), SAMPLE_GUIDE):
         failed.append("not refused: another version in CHANGELOG.md")
+    if not version_differences(SAMPLE_HEADER, SAMPLE_MAKEFILE, SAMPLE_CHANGELOG, SAMPLE_GUIDE.replace("3.14", "3.13")):
+        failed.append("not refused: another version in the guide")
     for lost in sorted(symbols):
         if not differences(SAMPLE_HEADER, SAMPLE_SOURCE, symbols - {lost}):
             failed.append(f"not refused: {lost} is not in the archive")
     if not differences(SAMPLE_HEADER, SAMPLE_SOURCE, symbols | {"mmu_extra"}):
         failed.append("not refused: mmu_extra is in the archive alone")
-    print("\n".join(failed) or f"self test: the right header passes, {len(WRONG_HEADERS)} wrong ones, 3 wrong archives"
-          " and a wrong CHANGELOG.md are refused")
+    print("\n".join(failed) or f"self test: the right header passes, {len(WRONG_HEADERS)} wrong ones, 3 wrong archives,"
+          " a wrong CHANGELOG.md and a wrong guide are refused")
     return 1 if failed else 0
 
 
@@ -272,7 +280,7 @@ def main(arguments):
         source = "\n".join(path.read_text() for path in sorted(SOURCES.rglob("*.rt")))
         symbols = archive_symbols(archive)
         lines = differences(HEADER.read_text(), source, symbols)
-        lines += version_differences(HEADER.read_text(), MAKEFILE.read_text(), CHANGELOG.read_text())
+        lines += version_differences(HEADER.read_text(), MAKEFILE.read_text(), CHANGELOG.read_text(), GUIDE.read_text())
         lines += comment_differences(HEADER.read_text(), TALLY.read_text())
     except (Unreadable, OSError) as error:
         lines = [str(error)]

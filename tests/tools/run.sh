@@ -17,7 +17,7 @@ fail() {
 mkdir -p "$work/tree/crates"
 cp -R .ci Makefile crates.txt examples include tools "$work/tree"
 cd "$work/tree"
-unset MMU_LOCKED
+unset MMU_LOCKED MAKEFLAGS ARCHIVE RT
 
 # A stand-in for rt: it says when it begins and ends, and fails where a file says so.
 cat > "$work/rt" <<'END'

@@ -1,12 +1,13 @@
 /*
  * The smallest processor core on the library: it fetches, loads and stores through mmu_access and takes data and
- * instruction storage faults. The supervisor's part, which maps a page on its first use, is C too.
+ * instruction storage faults (DSI, ISI). The supervisor's part, which maps a page on its first use, is C too.
  *
  * An instruction is a word: 1 load, 2 store, 3 jump, 0 halt in its first byte, an effective address in the rest,
  * shifted so that it can name any page's first byte: bits 8 to 11 are the segment, bits 12 to 27 the page.
  */
-#include "answer.h"
+#include "mmu.h"
 
+#include <stdio.h>
 #include <stdlib.h>
 
 enum { MEMORY_SIZE = 1 << 18 };
@@ -24,9 +25,8 @@ enum { HALT, LOAD, STORE, JUMP };
 struct core {
     uint8_t registers[MMU_REGISTERS_SIZE];
     uint8_t memory[MEMORY_SIZE];
-    uint8_t answer[MMU_ANSWER_SIZE];
     uint32_t mode, pc, value;
-    uint32_t srr0, dar, fault_word; /* What an interrupt leaves for the supervisor. */
+    uint32_t srr0, srr1, dsisr, dar; /* What an interrupt leaves for the supervisor. */
     unsigned faults;
 };
 
@@ -42,38 +42,46 @@ static void stop(const char *what, const char *why)
 static void must(const char *what, uint32_t result)
 {
     if (result != MMU_DONE)
-        stop(what, result_in_words(result));
+        stop(what, mmu_result_name(result));
 }
 
 /* ---- Translation ------------------------------------------------------------------------------ */
 
-/* A fault becomes an interrupt: the faulting address and word are kept, and the core leaves user mode. */
-static void take_fault(uint32_t result)
+/* A fault becomes an interrupt: DSI keeps its word in DSISR and its address in DAR, ISI its word in SRR1. */
+static void take_fault(const struct mmu_answer *answer)
 {
     core.srr0 = core.pc;
-    core.dar = mmu_get_word(core.answer, MMU_ANSWER_EFFECTIVE);
-    core.fault_word = mmu_get_word(core.answer, MMU_ANSWER_FAULT);
-    core.pc = mmu_get_word(core.answer, MMU_ANSWER_OFFSET);
+    core.srr1 = 0; /* Of the MSR this core has the mode alone, and only the user faults. */
+    if (answer->result == MMU_DATA_STORAGE_FAULT) {
+        core.dsisr = answer->fault;
+        core.dar = answer->effective;
+    } else {
+        core.srr1 = answer->fault;
+    }
+    core.pc = answer->offset;
     core.mode = 0;
     core.faults++;
-    printf("  %s at %08X: %s\n", result_in_words(result), (unsigned)core.dar, cause_in_words(core.fault_word));
+    printf("  %s at %08X: %s\n", mmu_result_name(answer->result), (unsigned)answer->effective,
+           mmu_cause_name(answer->fault));
 }
 
 /* The memory of one aligned word, or NULL after a fault. */
 static uint8_t *translated(uint32_t kind, uint32_t address)
 {
+    uint8_t bytes[MMU_ACCESS_ANSWER_SIZE];
+    struct mmu_answer answer;
     uint32_t result = mmu_access(core.registers, sizeof core.registers, core.mode, kind, address, core.memory + TABLE,
-                                 MMU_TABLE_SIZE(SDR1), core.answer, sizeof core.answer);
-    uint32_t physical;
-    if (result == MMU_DATA_STORAGE_FAULT || result == MMU_INSTRUCTION_STORAGE_FAULT) {
-        take_fault(result);
+                                 MMU_TABLE_SIZE(SDR1), bytes, sizeof bytes);
+    if (result != MMU_DATA_STORAGE_FAULT && result != MMU_INSTRUCTION_STORAGE_FAULT)
+        must("access", result);
+    answer = mmu_read_answer(bytes);
+    if (answer.result != MMU_DONE) {
+        take_fault(&answer);
         return NULL;
     }
-    must("access", result);
-    physical = mmu_get_word(core.answer, MMU_ANSWER_PHYSICAL);
-    if (physical > MEMORY_SIZE - 4)
+    if (answer.physical > MEMORY_SIZE - 4)
         stop("access", "no memory at this physical address");
-    return core.memory + physical;
+    return core.memory + answer.physical;
 }
 
 /* ---- Instructions ----------------------------------------------------------------------------- */
@@ -147,7 +155,7 @@ static int handle_interrupt(void)
 {
     if (core.pc == MMU_OFFSET_INSTRUCTION)
         return 0;
-    if (core.fault_word & MMU_FAULT_NO_MATCH) {
+    if (core.dsisr & MMU_FAULT_NO_MATCH) {
         map_page(core.dar, FREE_FRAME, 2);
         return_to_user(core.srr0);
     } else {
@@ -200,7 +208,8 @@ int main(void)
         running = core.mode == 0 ? handle_interrupt() : step();
     printf("%u faults taken; the word stored is %08X\n", core.faults,
            (unsigned)mmu_get_word(core.memory, FREE_FRAME << 12));
-    if (core.faults != 3 || mmu_get_word(core.memory, FREE_FRAME << 12) != 0xCAFE0001u)
+    if (core.faults != 3 || core.dar != 0x00004000u || core.dsisr != (MMU_FAULT_PROTECTION | MMU_FAULT_STORE)
+        || core.srr1 != MMU_FAULT_NO_EXECUTE || mmu_get_word(core.memory, FREE_FRAME << 12) != 0xCAFE0001u)
         stop("end", "not what the program should have left");
     return EXIT_SUCCESS;
 }

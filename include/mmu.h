@@ -1,10 +1,11 @@
 /*
- * mmu.h - address translation of a 32-bit PowerPC: register set, hashed page table, access check.
+ * mmu.h - address translation of a 32-bit PowerPC: register set (SDR1, segment registers, BATs), hashed page
+ * table, access check. A core calls mmu_access for each load, store and fetch and takes the DSI or ISI it tells.
  *
- * Link with libmmu.a. The terms are those of document 01; docs/C-GUIDE.md tells how to use the calls.
+ * Link with libmmu.a. docs/C-GUIDE.md tells how to use the calls; README.md has the manual's words beside ours.
  *
- * A slice is lent as a pointer and its length in bytes. NULL with length 0 is a slice of length 0.
- * The slices lent to one call must not overlap. All words are stored big-endian. Bit 0 is the most
+ * A slice is lent as a pointer and its length in bytes, the parameter with _len. NULL with length 0 is a slice of
+ * length 0. The slices lent to one call must not overlap. All words are stored big-endian. Bit 0 is the most
  * significant bit of a word. Every call returns its result number.
  */
 #ifndef MMU_H
@@ -17,15 +18,19 @@
 extern "C" {
 #endif
 
+/* The version; CHANGELOG.md says what a caller must change from one to the next. */
+#define MMU_VERSION_MAJOR 0
+#define MMU_VERSION_MINOR 2
+
 /* ---- Results ---------------------------------------------------------------------------------- */
 
 #define MMU_DONE 0u                       /* Done: the call did what it was asked. */
-#define MMU_DATA_STORAGE_FAULT 64u        /* Data storage fault: a load or a store is not allowed or not mapped. */
-#define MMU_INSTRUCTION_STORAGE_FAULT 65u /* Instruction storage fault: a fetch is not allowed or not mapped. */
+#define MMU_DATA_STORAGE_FAULT 64u        /* DSI: a load or a store is not allowed or not mapped. */
+#define MMU_INSTRUCTION_STORAGE_FAULT 65u /* ISI: a fetch is not allowed or not mapped. */
 
 /* Refusals: table and registers are left as they were. */
 #define MMU_REFUSED_TABLE_LENGTH 1u   /* Table length wrong: the lent table is not as long as SDR1 says. */
-#define MMU_REFUSED_SDR1 2u           /* SDR1 shape: a reserved bit, a mask with a gap, or an origin bit under the mask. */
+#define MMU_REFUSED_SDR1 2u           /* SDR1 shape: a reserved bit, a gap in the mask, or an origin bit under it. */
 #define MMU_REFUSED_BLOCK 3u          /* Block shape: a pair that is on breaks a rule of block words. */
 #define MMU_REFUSED_BLOCKS_SHARE 4u   /* Two blocks of a side share an address and a V bit. */
 #define MMU_REFUSED_SEGMENT 5u        /* Segment: T is 1 or one of bits 4 to 7 is set. */
@@ -34,11 +39,11 @@ extern "C" {
 #define MMU_REFUSED_NO_MATCH 8u       /* The page has no match (unmap, protect, look). */
 #define MMU_REFUSED_FULL 9u           /* Map: all 16 entries of the page's two groups have V = 1. */
 #define MMU_REFUSED_CONTRADICTION 10u /* Contradicting matches: they differ in more than H (access, look). */
-#define MMU_REFUSED_LENT_LENGTH 11u   /* Register page, answer, entry or fields lent with another length: nothing is written. */
+#define MMU_REFUSED_LENT_LENGTH 11u   /* Registers, answer, entry or fields of another length; nothing is written. */
 
 /* ---- An access -------------------------------------------------------------------------------- */
 
-/* Mode: the sum of the bits that are on, 0 to 7. */
+/* Mode: the sum of the MSR's bits that are on, 0 to 7. */
 #define MMU_MODE_PR 4u /* PR: the access is the user's (problem state), else the supervisor's. */
 #define MMU_MODE_IR 2u /* IR: fetches are translated. */
 #define MMU_MODE_DR 1u /* DR: loads and stores are translated. */
@@ -55,38 +60,46 @@ extern "C" {
 #define MMU_ATTRIBUTE_G 1u    /* G: guarded. */
 #define MMU_ATTRIBUTES_REAL 3u /* Attributes of every access in real mode: M and G. */
 
-/* Fault word: a sum by cause; only the first cause met counts. */
+/* Fault word, for DSISR (data) or SRR1 (fetch): a sum by cause; only the first cause met counts. */
 #define MMU_FAULT_NO_MATCH 0x40000000u   /* No match: the page is not in the table. */
 #define MMU_FAULT_NO_EXECUTE 0x10000000u /* N or G: a fetch from a no-execute segment or a guarded page. */
 #define MMU_FAULT_PROTECTION 0x08000000u /* Protection: PP, with the key where it is a page, does not allow it. */
 #define MMU_FAULT_STORE 0x02000000u      /* Added where the access was a store. */
 
-/* Interrupt offset: where the core continues after a fault. */
+/* Interrupt offset: the vector at which the core continues after a fault. */
 #define MMU_OFFSET_DATA 0x300u        /* Interrupt offset of a data storage fault. */
 #define MMU_OFFSET_INSTRUCTION 0x400u /* Interrupt offset of an instruction storage fault. */
 
 /* ---- Answer: four words ----------------------------------------------------------------------- */
 
-#define MMU_ANSWER_SIZE 16u       /* Length of an answer in bytes. */
+#define MMU_ANSWER_SIZE 16u        /* Length of the answer of unmap and look in bytes. */
+#define MMU_ACCESS_ANSWER_SIZE 16u /* Length of the answer of an access; it grows with a later version. */
 #define MMU_ANSWER_RESULT 0u      /* Byte offset of the result number. */
 #define MMU_ANSWER_PHYSICAL 4u    /* Physical address, after an access that is done. */
 #define MMU_ANSWER_FAULT 4u       /* Fault word, after a fault. */
 #define MMU_ANSWER_SECOND 4u      /* Second entry word, after a look or an unmap that is done. */
 #define MMU_ANSWER_ATTRIBUTES 8u  /* Attributes, after an access that is done. */
 #define MMU_ANSWER_OFFSET 8u      /* Interrupt offset, after a fault. */
-#define MMU_ANSWER_EFFECTIVE 12u  /* Effective address, after an access that is done or a fault. */
+#define MMU_ANSWER_EFFECTIVE 12u  /* Effective address (DAR), after an access that is done or a fault. */
 
 /* ---- Register page: 33 words ------------------------------------------------------------------ */
 
-#define MMU_REGISTERS_SIZE 132u                              /* Length of the register page in bytes. */
-#define MMU_REGISTER_COUNT 33u                               /* Register words, numbered 0 to 32. */
-#define MMU_REGISTER_SDR1 0u                                 /* Number of SDR1. */
-#define MMU_REGISTER_SEGMENT(n) (1u + (n))                   /* Number of segment register n, 0 to 15. */
-#define MMU_REGISTER_INSTRUCTION_UPPER(n) (17u + 2u * (n))   /* Number of the upper word of instruction block pair n, 0 to 3. */
-#define MMU_REGISTER_INSTRUCTION_LOWER(n) (18u + 2u * (n))   /* Number of the lower word of instruction block pair n, 0 to 3. */
-#define MMU_REGISTER_DATA_UPPER(n) (25u + 2u * (n))          /* Number of the upper word of data block pair n, 0 to 3. */
-#define MMU_REGISTER_DATA_LOWER(n) (26u + 2u * (n))          /* Number of the lower word of data block pair n, 0 to 3. */
-#define MMU_REGISTER_OFFSET(number) (4u * (number))          /* Byte offset of a register word in the page. */
+#define MMU_REGISTERS_SIZE 132u                            /* Length of the register page in bytes. */
+#define MMU_REGISTER_COUNT 33u                             /* Register words, numbered 0 to 32. */
+#define MMU_REGISTER_SDR1 0u                               /* Number of SDR1. */
+#define MMU_REGISTER_SEGMENT(n) (1u + (n))                 /* Number of segment register n, 0 to 15. */
+#define MMU_REGISTER_INSTRUCTION_UPPER(n) (17u + 2u * (n)) /* IBATnU: upper word of instruction block pair n, 0 to 3. */
+#define MMU_REGISTER_INSTRUCTION_LOWER(n) (18u + 2u * (n)) /* IBATnL: its lower word. */
+#define MMU_REGISTER_DATA_UPPER(n) (25u + 2u * (n))        /* DBATnU: upper word of data block pair n, 0 to 3. */
+#define MMU_REGISTER_DATA_LOWER(n) (26u + 2u * (n))        /* DBATnL: its lower word. */
+#define MMU_REGISTER_OFFSET(number) (4u * (number))        /* Byte offset of a register word in the page. */
+#define MMU_REGISTER_NONE 0xFFFFFFFFu                      /* No register word; mmu_set_register refuses it. */
+
+/* SPR numbers of mtspr and mfspr: SDR1; IBAT0U, IBAT0L .. IBAT3L, DBAT0U .. DBAT3L in a row. */
+#define MMU_SPR_SDR1 25u
+#define MMU_SPR_IBAT0U 528u
+#define MMU_SPR_DBAT0U 536u
+#define MMU_SPR_DBAT3L 543u
 
 /* SDR1 and segment register. */
 #define MMU_SDR1_ORIGIN 0xFFFF0000u  /* Origin: the table's address, bits 0 to 15. */
@@ -106,7 +119,7 @@ extern "C" {
 #define MMU_BLOCK_WIMG_SHIFT 3u       /* Lower word, WIMG: its place, bits 25 to 28. */
 #define MMU_BLOCK_PP 0x00000003u      /* Lower word, PP: the protection. */
 
-/* ---- Table, groups and entries ---------------------------------------------------------------- */
+/* ---- Table, groups (PTEGs) and entries (PTEs) -------------------------------------------------- */
 
 #define MMU_TABLE_SIZE(sdr1) ((size_t)65536u * (((sdr1) & MMU_SDR1_MASK) + 1u)) /* Length of the table in bytes. */
 #define MMU_GROUP_SIZE 64u    /* Length of a group in bytes; group g starts at byte 64 * g of the table. */
@@ -139,42 +152,115 @@ extern "C" {
 
 /* ---- The ten calls ---------------------------------------------------------------------------- */
 
-/* Check: whether a register page breaks a rule. Refusals in order: 11, 2, 3, 4, 5. */
+/* Each returns MMU_DONE, a refusal or, an access alone, a fault. Of several refusals that hold, the first is told. */
+
+/*
+ * Check: whether a register page breaks a rule.
+ *   registers  the register page, MMU_REGISTERS_SIZE bytes
+ * Refusals: MMU_REFUSED_LENT_LENGTH, MMU_REFUSED_SDR1, MMU_REFUSED_BLOCK, MMU_REFUSED_BLOCKS_SHARE,
+ *   MMU_REFUSED_SEGMENT.
+ */
 uint32_t mmu_check(const uint8_t *registers, size_t registers_len);
 
-/* Replaces one register word, number 0 to 32, where the new set breaks no rule. Refusals: 11, 6, 2, 3, 4, 5. */
+/*
+ * Replaces one register word where the new set breaks no rule.
+ *   registers  the register page, MMU_REGISTERS_SIZE bytes
+ *   number     which word, below MMU_REGISTER_COUNT: MMU_REGISTER_SDR1, MMU_REGISTER_SEGMENT(n) ..
+ *   word       the new word
+ * Refusals: MMU_REFUSED_LENT_LENGTH, MMU_REFUSED_ARGUMENT (number), then of the new set MMU_REFUSED_SDR1,
+ *   MMU_REFUSED_BLOCK, MMU_REFUSED_BLOCKS_SHARE, MMU_REFUSED_SEGMENT.
+ */
 uint32_t mmu_set_register(uint8_t *registers, size_t registers_len, uint32_t number, uint32_t word);
 
-/* Clear: zeroes the table. Refusals: 2, 1. */
+/*
+ * Clear: zeroes the table.
+ *   sdr1   the word of SDR1
+ *   table  the table, MMU_TABLE_SIZE(sdr1) bytes
+ * Refusals: MMU_REFUSED_SDR1, MMU_REFUSED_TABLE_LENGTH.
+ */
 uint32_t mmu_clear(uint32_t sdr1, uint8_t *table, size_t table_len);
 
-/* Map: puts a page into the first entry with V = 0 in search order, R and C zero. Refusals: 6, 2, 1, 7, 9. */
+/*
+ * Map: puts a page into the first entry with V = 0 in search order, R and C zero.
+ *   sdr1        the word of SDR1
+ *   vsid        the page's VSID, below 2^24
+ *   page_index  the page within its segment, address bits 4 to 19, below 2^16
+ *   rpn         its frame, below 2^20
+ *   wimg        its attributes, below 16, not both W and I
+ *   pp          its protection, below 4
+ *   table       the table, MMU_TABLE_SIZE(sdr1) bytes
+ * Refusals: MMU_REFUSED_ARGUMENT, MMU_REFUSED_SDR1, MMU_REFUSED_TABLE_LENGTH, MMU_REFUSED_MAPPED, MMU_REFUSED_FULL.
+ */
 uint32_t mmu_map(uint32_t sdr1, uint32_t vsid, uint32_t page_index, uint32_t rpn, uint32_t wimg, uint32_t pp,
                  uint8_t *table, size_t table_len);
 
-/* Unmap: zeroes each match of a page; answers the first match's second word with all their marks. Refusals: 11, 6, 2, 1, 8. */
+/*
+ * Unmap: zeroes every match of a page and answers the first match's second word, with R and C if any match had it.
+ *   sdr1, vsid, page_index  as for mmu_map
+ *   table                   the table, MMU_TABLE_SIZE(sdr1) bytes
+ *   answer                  MMU_ANSWER_SIZE bytes, written
+ * Refusals: MMU_REFUSED_LENT_LENGTH, MMU_REFUSED_ARGUMENT, MMU_REFUSED_SDR1, MMU_REFUSED_TABLE_LENGTH,
+ *   MMU_REFUSED_NO_MATCH.
+ */
 uint32_t mmu_unmap(uint32_t sdr1, uint32_t vsid, uint32_t page_index, uint8_t *table, size_t table_len,
                    uint8_t *answer, size_t answer_len);
 
-/* Protect: puts PP into each match of a page. Refusals: 6, 2, 1, 8. */
+/*
+ * Protect: puts PP into every match of a page.
+ *   sdr1, vsid, page_index  as for mmu_map
+ *   pp                      the new protection, below 4
+ *   table                   the table, MMU_TABLE_SIZE(sdr1) bytes
+ * Refusals: MMU_REFUSED_ARGUMENT, MMU_REFUSED_SDR1, MMU_REFUSED_TABLE_LENGTH, MMU_REFUSED_NO_MATCH.
+ */
 uint32_t mmu_protect(uint32_t sdr1, uint32_t vsid, uint32_t page_index, uint32_t pp, uint8_t *table, size_t table_len);
 
-/* Look: answers the second word of a page's first match. Refusals: 11, 6, 2, 1, then 10 or 8. */
+/*
+ * Look: answers the second word of a page's first match and marks nothing.
+ *   sdr1, vsid, page_index  as for mmu_map
+ *   table                   the table, MMU_TABLE_SIZE(sdr1) bytes, only read
+ *   answer                  MMU_ANSWER_SIZE bytes, written
+ * Refusals: MMU_REFUSED_LENT_LENGTH, MMU_REFUSED_ARGUMENT, MMU_REFUSED_SDR1, MMU_REFUSED_TABLE_LENGTH, then
+ *   MMU_REFUSED_CONTRADICTION or MMU_REFUSED_NO_MATCH.
+ */
 uint32_t mmu_look(uint32_t sdr1, uint32_t vsid, uint32_t page_index, const uint8_t *table, size_t table_len,
                   uint8_t *answer, size_t answer_len);
 
-/* Access: translates one address and marks the page used. Done, fault 64 or 65, or a refusal: 11, 6, 2, 3, 4, 5, 1, 10. */
+/*
+ * Access: translates one address; done by a page, it sets R there, and C on a store.
+ *   registers  the register page, MMU_REGISTERS_SIZE bytes
+ *   mode       sum of MMU_MODE_PR, MMU_MODE_IR, MMU_MODE_DR
+ *   kind       MMU_FETCH, MMU_LOAD or MMU_STORE
+ *   address    the effective address of an operand within one page
+ *   table      the table, MMU_TABLE_SIZE(SDR1 of the page) bytes, in real mode too
+ *   answer     MMU_ACCESS_ANSWER_SIZE bytes, written; mmu_read_answer reads it
+ * Faults: MMU_DATA_STORAGE_FAULT of a load or store, MMU_INSTRUCTION_STORAGE_FAULT of a fetch.
+ * Refusals: MMU_REFUSED_LENT_LENGTH, MMU_REFUSED_ARGUMENT (mode, kind), MMU_REFUSED_SDR1, MMU_REFUSED_BLOCK,
+ *   MMU_REFUSED_BLOCKS_SHARE, MMU_REFUSED_SEGMENT, MMU_REFUSED_TABLE_LENGTH, MMU_REFUSED_CONTRADICTION.
+ */
 uint32_t mmu_access(const uint8_t *registers, size_t registers_len, uint32_t mode, uint32_t kind, uint32_t address,
                     uint8_t *table, size_t table_len, uint8_t *answer, size_t answer_len);
 
-/* Packs nine fields into the two words of an entry, zero words after 6. Refusals: 11, 6. */
+/*
+ * Packs nine fields into the two words of an entry; two zero words after MMU_REFUSED_ARGUMENT.
+ *   v, h, r, c       0 or 1
+ *   vsid, rpn        below 2^24, below 2^20
+ *   api              the top six bits of the page index, below 64
+ *   wimg, pp         below 16 (W and I may both be one), below 4
+ *   entry            MMU_ENTRY_SIZE bytes, written
+ * Refusals: MMU_REFUSED_LENT_LENGTH, MMU_REFUSED_ARGUMENT.
+ */
 uint32_t mmu_pack(uint32_t v, uint32_t vsid, uint32_t h, uint32_t api, uint32_t rpn, uint32_t r, uint32_t c,
                   uint32_t wimg, uint32_t pp, uint8_t *entry, size_t entry_len);
 
-/* Unpacks the two words of an entry into nine fields. Refusal: 11. */
+/*
+ * Unpacks the two words of an entry into nine fields, at MMU_FIELD_V to MMU_FIELD_PP.
+ *   first, second  the words, any bits
+ *   fields         MMU_FIELDS_SIZE bytes, written
+ * Refusal: MMU_REFUSED_LENT_LENGTH.
+ */
 uint32_t mmu_unpack(uint32_t first, uint32_t second, uint8_t *fields, size_t fields_len);
 
-/* ---- Words for the caller's own use; C code, not part of the archive --------------------------- */
+/* ---- For the caller's own use; C code, tested and not proved, not part of the archive ----------- */
 
 /* The big-endian word at a byte offset. */
 static inline uint32_t mmu_get_word(const uint8_t *bytes, size_t offset)
@@ -190,6 +276,74 @@ static inline void mmu_put_word(uint8_t *bytes, size_t offset, uint32_t word)
     bytes[offset + 1] = (uint8_t)(word >> 16);
     bytes[offset + 2] = (uint8_t)(word >> 8);
     bytes[offset + 3] = (uint8_t)word;
+}
+
+/* The answer of an access as numbers; what its result does not have is 0. */
+struct mmu_answer {
+    uint32_t result;     /* The result number. */
+    uint32_t physical;   /* Physical address, of an access that is done. */
+    uint32_t attributes; /* WIMG, of an access that is done. */
+    uint32_t fault;      /* Fault word, for DSISR or SRR1, of a fault. */
+    uint32_t offset;     /* Interrupt offset, of a fault. */
+    uint32_t effective;  /* Effective address, of an access that is done or a fault. */
+};
+
+/* Reads the MMU_ACCESS_ANSWER_SIZE bytes that an access wrote; after MMU_REFUSED_LENT_LENGTH it wrote none. */
+static inline struct mmu_answer mmu_read_answer(const uint8_t *answer)
+{
+    struct mmu_answer read;
+    int done;
+    read.result = mmu_get_word(answer, MMU_ANSWER_RESULT);
+    done = read.result == MMU_DONE;
+    read.physical = done ? mmu_get_word(answer, MMU_ANSWER_PHYSICAL) : 0u;
+    read.attributes = done ? mmu_get_word(answer, MMU_ANSWER_ATTRIBUTES) : 0u;
+    read.fault = done ? 0u : mmu_get_word(answer, MMU_ANSWER_FAULT);
+    read.offset = done ? 0u : mmu_get_word(answer, MMU_ANSWER_OFFSET);
+    read.effective = mmu_get_word(answer, MMU_ANSWER_EFFECTIVE);
+    return read;
+}
+
+/* A result number in words. */
+static inline const char *mmu_result_name(uint32_t result)
+{
+    switch (result) {
+    case MMU_DONE: return "done";
+    case MMU_DATA_STORAGE_FAULT: return "data storage fault";
+    case MMU_INSTRUCTION_STORAGE_FAULT: return "instruction storage fault";
+    case MMU_REFUSED_TABLE_LENGTH: return "refused: table length wrong";
+    case MMU_REFUSED_SDR1: return "refused: SDR1 shape";
+    case MMU_REFUSED_BLOCK: return "refused: block shape";
+    case MMU_REFUSED_BLOCKS_SHARE: return "refused: two blocks share an address";
+    case MMU_REFUSED_SEGMENT: return "refused: segment register";
+    case MMU_REFUSED_ARGUMENT: return "refused: argument out of range";
+    case MMU_REFUSED_MAPPED: return "refused: page is mapped already";
+    case MMU_REFUSED_NO_MATCH: return "refused: page has no match";
+    case MMU_REFUSED_FULL: return "refused: both groups are full";
+    case MMU_REFUSED_CONTRADICTION: return "refused: contradicting matches";
+    case MMU_REFUSED_LENT_LENGTH: return "refused: lent length wrong";
+    default: return "unknown result";
+    }
+}
+
+/* The cause in a fault word in words. */
+static inline const char *mmu_cause_name(uint32_t fault)
+{
+    switch (fault & ~MMU_FAULT_STORE) {
+    case MMU_FAULT_NO_MATCH: return "no match";
+    case MMU_FAULT_NO_EXECUTE: return "no execute or guarded";
+    case MMU_FAULT_PROTECTION: return "protection";
+    default: return "unknown cause";
+    }
+}
+
+/* The number of the register word that an SPR holds, MMU_REGISTER_NONE where it holds none. */
+static inline uint32_t mmu_register_of_spr(uint32_t spr)
+{
+    if (spr == MMU_SPR_SDR1)
+        return MMU_REGISTER_SDR1;
+    if (spr >= MMU_SPR_IBAT0U && spr <= MMU_SPR_DBAT3L)
+        return MMU_REGISTER_INSTRUCTION_UPPER(0u) + (spr - MMU_SPR_IBAT0U);
+    return MMU_REGISTER_NONE;
 }
 
 #ifdef __cplusplus

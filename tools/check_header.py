@@ -1,8 +1,12 @@
 #!/usr/bin/env python3
-"""Compares include/mmu.h with the archive's symbols and with the exported functions of the Rattle source.
+"""Compares include/mmu.h with the archive's symbols, the exported functions of the Rattle source, and the version.
 
 check_header.py [ARCHIVE]     default target/staticlib/libmmu.a; exit status 1 and a line for each difference
 check_header.py --self-test   feeds wrong headers to the comparison, each of which must be refused
+
+The version is the Makefile's VERSION: the header's MMU_VERSION_MAJOR and _MINOR, the first heading of CHANGELOG.md and
+the find_package of docs/C-GUIDE.md must have it. The comment of a call must name each of its parameters, and the
+refusals that the comparison with the model has for it (NUMBERS of tests/compare/src/tally.rs), no others.
 """
 import re
 import subprocess
@@ -12,6 +16,10 @@ from pathlib import Path
 ROOT = Path(__file__).resolve().parent.parent
 HEADER = ROOT / "include" / "mmu.h"
 SOURCES = ROOT / "crates" / "mmu" / "src"
+MAKEFILE = ROOT / "Makefile"
+CHANGELOG = ROOT / "CHANGELOG.md"
+GUIDE = ROOT / "docs" / "C-GUIDE.md"
+TALLY = ROOT / "tests" / "compare" / "src" / "tally.rs"
 ARCHIVE = ROOT / "target" / "staticlib" / "libmmu.a"
 
 # A Rattle type and the C parameters that stand for it.
@@ -63,13 +71,28 @@ def c_parameter_type(text):
     return " ".join(words)
 
 
+def without_static_functions(text):
+    """The text with static functions, which are the header's own, taken out: from the word to the brace that ends the body."""
+    while True:
+        start = re.search(r"\bstatic\b[^{;]*\{", text)
+        if not start:
+            return text
+        at, depth = start.end(), 1
+        while depth:
+            if at == len(text):
+                raise Unreadable(f"header: no end of {start.group().split('{')[0].strip()}")
+            depth += {"{": 1, "}": -1}.get(text[at], 0)
+            at += 1
+        text = text[:start.start()] + text[at:]
+
+
 def declared_functions(header):
     """Name to C signature of every function that a header declares; static functions are the header's own."""
     text = re.sub(r"/\*.*?\*/", "", header, flags=re.S)
     text = re.sub(r"//[^\n]*", "", text)
     text = re.sub(r"^[ \t]*#(?:\\\n|[^\n])*", "", text, flags=re.M)
     text = re.sub(r'extern\s+"C"\s*\{', "", text)
-    text = re.sub(r"\bstatic\b[^{;]*\{[^{}]*\}", "", text)
+    text = without_static_functions(text)
     functions = {}
     for result, name, parameters in re.findall(r"(\w[\w\s*]*?)\b(\w+)\s*\(([^)]*)\)\s*;", text):
         if name in functions:
@@ -109,6 +132,69 @@ def differences(header, source, symbols):
     return lines
 
 
+def version_differences(header, makefile, changelog, guide):
+    """A line for each place whose version is not the Makefile's."""
+    versions = re.findall(r"^VERSION\s*:?=\s*(\d+)\.(\d+)\.(\d+)\s*$", makefile, re.M)
+    if len(versions) != 1:
+        raise Unreadable("Makefile: no line VERSION := MAJOR.MINOR.PATCH, or several")
+    wanted = dict(zip(["MAJOR", "MINOR"], versions[0]))
+    lines = []
+    for part, number in wanted.items():
+        found = re.findall(rf"^#define MMU_VERSION_{part} (\d+)\s*$", header, re.M)
+        if found != [number]:
+            lines.append(f"MMU_VERSION_{part}: {' and '.join(found) or 'none'} in the header, {number} in the Makefile's VERSION")
+    headings = re.findall(r"^## (\S+)", changelog, re.M)
+    version = ".".join(versions[0])
+    if headings[:1] != [version]:
+        lines.append(f"CHANGELOG.md: its first heading is {' '.join(headings[:1]) or 'missing'}, the Makefile's VERSION {version}")
+    packages = re.findall(r"find_package\(mmu (\S+)", guide)
+    if packages != [".".join(versions[0][:2])]:
+        lines.append(f"docs/C-GUIDE.md: find_package of {' and '.join(packages) or 'no version'}, the Makefile's VERSION {version}")
+    return lines
+
+
+def call_comments(header):
+    """Name to the comment above each declared function and to its parameters' names."""
+    found = re.findall(r"/\*((?:(?!\*/).)*)\*/\s*\w+ (mmu_\w+)\(([^)]*)\);", header, re.S)
+    return {name: (comment, [part.split()[-1].lstrip("*") for part in parameters.split(",")])
+            for comment, name, parameters in found}
+
+
+def refusals_in_tally(tally):
+    """Name of a call, as in the header, to its refusals in the comparison's table."""
+    table = re.search(r"const NUMBERS[^=]*=\s*\[(.*?)\n\];", tally, re.S)
+    if not table:
+        raise Unreadable("tally.rs: no table NUMBERS")
+    rows = re.findall(r'\("(\w+)", &\[([^\]]*)\]\)', table.group(1))
+    names = {"set": "set_register"}
+    return {"mmu_" + names.get(call, call): {int(number) for number in numbers.split(",")} - {0, 64, 65}
+            for call, numbers in rows}
+
+
+def comment_differences(header, tally):
+    """A line for each parameter that a call's comment does not name, and each refusal too few or too many."""
+    numbers = {name: int(number) for name, number in re.findall(r"^#define (MMU_REFUSED_\w+) (\d+)u", header, re.M)}
+    names, lines = {number: name for name, number in numbers.items()}, []
+    comments, wanted = call_comments(header), refusals_in_tally(tally)
+    for call in sorted(declared_functions(header)):
+        comment, parameters = comments.get(call, ("", []))
+        lines += [f"{call}: the comment does not name {name}" for name in parameters
+                  if not name.endswith("_len") and not re.search(rf"\b{name}\b", comment)]
+        told = {numbers.get(name, name) for name in re.findall(r"MMU_REFUSED_\w+", comment)}
+        for number in sorted(told ^ wanted.get(call, set()), key=str):
+            where = "names" if number in told else "does not name"
+            lines.append(f"{call}: the comment {where} {names.get(number, number)}, unlike the comparison's table")
+    return lines
+
+
+SAMPLE_TALLY = 'const NUMBERS: [(&str, &[u32]); 2] = [\n    ("look", &[0, 11, 2, 8]),\n    ("clear", &[0, 2]),\n];\n'
+
+SAMPLE_MAKEFILE = "RT ?= rt\nVERSION := 3.14.1\n"
+
+SAMPLE_CHANGELOG = "# Changes\n\n## 3.14.1\n\n## 3.13.0\n"
+
+SAMPLE_GUIDE = "    find_package(mmu 3.14 CONFIG REQUIRED)\n"
+
 SAMPLE_SOURCE = """
 // mmu_note is only told of here: pub extern fn.
 #[no_mangle]
@@ -125,9 +211,18 @@ pub extern "C" fn mmu_clear(
 
 SAMPLE_HEADER = """
 #include <stdint.h>
+#define MMU_VERSION_MAJOR 3
+#define MMU_VERSION_MINOR 14
 #define MMU_SIZE(n) ((size_t)(n))
 /* uint32_t mmu_old(uint32_t number); */
+struct mmu_pair { uint32_t first; uint32_t second; };
+static inline uint32_t mmu_half(uint32_t number) { if (number) { return mmu_word(number); } return 0; }
+#define MMU_REFUSED_SDR1 2u
+#define MMU_REFUSED_NO_MATCH 8u
+#define MMU_REFUSED_LENT_LENGTH 11u
+/* Looks by sdr1 into table, fills answer. MMU_REFUSED_LENT_LENGTH, MMU_REFUSED_SDR1, MMU_REFUSED_NO_MATCH. */
 uint32_t mmu_look(uint32_t sdr1, const uint8_t *table, size_t table_len, uint8_t *answer, size_t answer_len);
+/* Zeroes table, as long as sdr1 says. Refusal: MMU_REFUSED_SDR1. */
 uint32_t mmu_clear(uint32_t sdr1, uint8_t *table, size_t table_len);
 static inline uint32_t mmu_word(const uint8_t *bytes) { return bytes[0]; }
 """
@@ -140,21 +235,40 @@ WRONG_HEADERS = {
     "a number of another width": ("mmu_clear(uint32_t sdr1", "mmu_clear(uint64_t sdr1"),
     "a length is missing": ("uint8_t *answer, size_t answer_len", "uint8_t *answer"),
     "another result": ("uint32_t mmu_look(", "int mmu_look("),
+    "a call after a static function does not exist": ("return 0; }\n", "return 0; }\nuint32_t mmu_erase(uint32_t sdr1);\n"),
+    "a parameter that the comment does not name": ("fills answer.", "fills it."),
+    "a refusal that the comment does not name": (", MMU_REFUSED_NO_MATCH.", "."),
+    "a refusal too many in the comment": ("Refusal: ", "Refusal: MMU_REFUSED_NO_MATCH, "),
+    "a refusal of another name": ("Refusal: MMU_REFUSED_SDR1", "Refusal: MMU_REFUSED_SHAPE"),
+    "a call without a comment": ("/* Zeroes table, as long as sdr1 says. Refusal: MMU_REFUSED_SDR1. */\n", ""),
+    "another major version": ("MMU_VERSION_MAJOR 3", "MMU_VERSION_MAJOR 2"),
+    "another minor version": ("MMU_VERSION_MINOR 14", "MMU_VERSION_MINOR 1"),
+    "no minor version": ("#define MMU_VERSION_MINOR 14\n", ""),
 }
+
+
+def sample_differences(header, symbols):
+    return (differences(header, SAMPLE_SOURCE, symbols) + comment_differences(header, SAMPLE_TALLY)
+            + version_differences(header, SAMPLE_MAKEFILE, SAMPLE_CHANGELOG, SAMPLE_GUIDE))
 
 
 def self_test():
     symbols = {"mmu_look", "mmu_clear"}
-    failed = [f"the right header is refused: {line}" for line in differences(SAMPLE_HEADER, SAMPLE_SOURCE, symbols)]
+    failed = [f"the right header is refused: {line}" for line in sample_differences(SAMPLE_HEADER, symbols)]
     for label, (old, new) in WRONG_HEADERS.items():
-        if SAMPLE_HEADER.count(old) != 1 or not differences(SAMPLE_HEADER.replace(old, new), SAMPLE_SOURCE, symbols):
+        if SAMPLE_HEADER.count(old) != 1 or not sample_differences(SAMPLE_HEADER.replace(old, new), symbols):
             failed.append(f"not refused: {label}")
+    if not version_differences(SAMPLE_HEADER, SAMPLE_MAKEFILE, SAMPLE_CHANGELOG.replace("## 3.14.1", "## 3.14.0"), SAMPLE_GUIDE):
+        failed.append("not refused: another version in CHANGELOG.md")
+    if not version_differences(SAMPLE_HEADER, SAMPLE_MAKEFILE, SAMPLE_CHANGELOG, SAMPLE_GUIDE.replace("3.14", "3.13")):
+        failed.append("not refused: another version in the guide")
     for lost in sorted(symbols):
         if not differences(SAMPLE_HEADER, SAMPLE_SOURCE, symbols - {lost}):
             failed.append(f"not refused: {lost} is not in the archive")
     if not differences(SAMPLE_HEADER, SAMPLE_SOURCE, symbols | {"mmu_extra"}):
         failed.append("not refused: mmu_extra is in the archive alone")
-    print("\n".join(failed) or f"self test: the right header passes, {len(WRONG_HEADERS)} wrong ones and 3 wrong archives are refused")
+    print("\n".join(failed) or f"self test: the right header passes, {len(WRONG_HEADERS)} wrong ones, 3 wrong archives,"
+          " a wrong CHANGELOG.md and a wrong guide are refused")
     return 1 if failed else 0
 
 
@@ -166,13 +280,16 @@ def main(arguments):
         source = "\n".join(path.read_text() for path in sorted(SOURCES.rglob("*.rt")))
         symbols = archive_symbols(archive)
         lines = differences(HEADER.read_text(), source, symbols)
+        lines += version_differences(HEADER.read_text(), MAKEFILE.read_text(), CHANGELOG.read_text(), GUIDE.read_text())
+        lines += comment_differences(HEADER.read_text(), TALLY.read_text())
     except (Unreadable, OSError) as error:
         lines = [str(error)]
     if lines:
         print("include/mmu.h and the library differ:")
         print("\n".join("  " + line for line in lines))
         return 1
-    print(f"include/mmu.h: {len(symbols)} calls, as in the archive and in the Rattle source")
+    print(f"include/mmu.h: {len(symbols)} calls, as in the archive and in the Rattle source; parameters and refusals are told;"
+          " the version is the Makefile's")
     return 0
 
 

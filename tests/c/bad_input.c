@@ -399,7 +399,7 @@ static void test_contradiction(void)
     mmu_put_word(primary, 12, 0x12345012u);
     mmu_put_word(secondary, 56, 0x86380E43u);
     mmu_put_word(secondary, 60, 0x12345012u);
-    expect(look(&l, SDR1, VSID, PAGE) == 0 && answer_is(&l.answer, 0, 0x12345012u, 0, 0), "look at twins", 0);
+    expect(look(&l, SDR1, VSID, PAGE) == 0 && answer_is(&l.answer, 0, 0x12345012u, 0, 0), "look at duplicates", 0);
     mmu_put_word(secondary, 60, 0x12345092u);
     remember(&l.table);
     expect(refused(&l, look(&l, SDR1, VSID, PAGE), 10, 1), "look at contradicting matches", 10);

@@ -41,16 +41,23 @@ quiet() {
 
 memcheck=(valgrind --quiet --error-exitcode=9 --leak-check=full)
 
-# shellcheck disable=SC2086
-$cxx $strict tests/c/cplusplus.cpp "$archive" -o "$out/cplusplus"
-quiet "header in C++" "$out/cplusplus"
+# One text as each language version; -x names the language, and none again for the archive.
+for version in c99 c11 c++11 c++20; do
+    case $version in
+    c++*) compiler="$cxx -x c++" ;;
+    *) compiler="$cc -x c" ;;
+    esac
+    # shellcheck disable=SC2086
+    $compiler -std=$version $strict -Wconversion $sanitize tests/c/header.c -x none "$archive" -o "$out/header_$version"
+    quiet "header as $version" "$out/header_$version"
+done
 
 build bad_input_asan "$sanitize" tests/c/bad_input.c
 build bad_input "-g -O1" tests/c/bad_input.c
 quiet "bad input, AddressSanitizer" "$out/bad_input_asan" 5000
 quiet "bad input, valgrind" "${memcheck[@]}" "$out/bad_input" 500
 
-for example in magazine core; do
+for example in frame_reuse core; do
     build "${example}_asan" "$sanitize" "examples/$example.c"
     build "$example" "-g -O1" "examples/$example.c"
     quiet "examples/$example.c, AddressSanitizer" "$out/${example}_asan"

@@ -138,7 +138,7 @@ pub fn page_of(call: &Call, registers: &[u8], table: usize) -> Option<(u32, Page
 
 #[rustfmt::skip]
 const SITUATIONS: [&str; 5] = [
-    "no match", "one match", "twins in one group", "twins in both groups", "contradicting matches",
+    "no match", "one match", "duplicates in one group", "duplicates in both groups", "contradicting matches",
 ];
 
 fn situation(met: &[Place]) -> &'static str {

@@ -24,7 +24,7 @@ pub enum Flaw {
     /// Protect clears the ignored bits.
     ProtectIgnoredBits,
     /// Matches that differ in ignored bits alone do not contradict.
-    TwinsByFields,
+    DuplicatesByFields,
     /// An access marks every match.
     MarksEveryMatch,
     /// Marking clears the ignored bits.
@@ -74,7 +74,7 @@ impl Flaw {
     pub const ALL: [Flaw; 38] = [
         Flaw::UnmapPrimaryOnly, Flaw::UnmapFirstMarks, Flaw::HForgotten, Flaw::VsidForgotten,
         Flaw::FullAtPrimary, Flaw::FullBeforeMatch, Flaw::MatchUpToFree, Flaw::MapStoresNothing,
-        Flaw::ProtectFirstOnly, Flaw::ProtectIgnoredBits, Flaw::TwinsByFields,
+        Flaw::ProtectFirstOnly, Flaw::ProtectIgnoredBits, Flaw::DuplicatesByFields,
         Flaw::MarksEveryMatch, Flaw::MarkIgnoredBits, Flaw::LookIgnoredBits,
         Flaw::KpForSupervisor, Flaw::ChangedByFault, Flaw::ReferencedByFault,
         Flaw::GuardedLast, Flaw::NoExecuteLate, Flaw::FetchUnprotected, Flaw::StoreFaultBit,
@@ -86,7 +86,7 @@ impl Flaw {
         Flaw::Swapped(4, 5), Flaw::Swapped(5, 1), Flaw::Swapped(2, 1),
     ];
 
-    /// Those that show after a clear, where no twin and no ignored bit ever stands in the table:
+    /// Those that show after a clear, where no duplicate and no ignored bit ever stands in the table:
     /// the finite map has to find them without the model's help.
     pub const SHOWN_TO_THE_MAP: [Flaw; 13] = [
         Flaw::UnmapPrimaryOnly,

@@ -69,7 +69,7 @@ pub fn matches(flaw: Option<Flaw>, sdr1: u32, page: Page, table: &[u8]) -> Vec<P
 /// Whether some match differs from the first in a bit other than H.
 pub fn contradict(flaw: Option<Flaw>, matches: &[Place]) -> bool {
     let ignored = match flaw {
-        Some(Flaw::TwinsByFields) => IGNORED_BITS,
+        Some(Flaw::DuplicatesByFields) => IGNORED_BITS,
         _ => 0,
     };
     let compared = |place: &Place| (place.first & !H_BIT, place.second & !ignored);

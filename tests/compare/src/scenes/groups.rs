@@ -1,4 +1,4 @@
-//! Groups of entries around one page: matches, twins, contradictions, and near misses.
+//! Groups of entries around one page: matches, duplicates, contradictions, and near misses.
 
 use model::call::Page;
 use model::entry::{Fields, CHANGED, IGNORED_BITS, REFERENCED};

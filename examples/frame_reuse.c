@@ -1,22 +1,23 @@
 /*
- * Two parishes lay out their magazines in one memory. A page of the first is unmapped and its frame is lent to the
- * second; after that no access of the first may reach the frame. The page's entry stands in the secondary group,
- * since eight other pages fill the primary one: an unmap that looked there alone would leave it behind.
+ * One frame is lent anew to another address space. A page of the first space is unmapped and its frame is mapped for
+ * the second; after that no access of the first may reach the frame. The page's entry (PTE) stands in the secondary
+ * group (PTEG), since eight other pages fill the primary one: an unmap that looked there alone would leave it behind.
  *
  * Prints each call, its answer in words and the two groups; a wrong answer makes the exit status 1.
  */
-#include "answer.h"
+#include "mmu.h"
 
+#include <stdio.h>
 #include <stdlib.h>
 
 /* Document 01's numbers: a table of 65,536 bytes, its example page and the two groups of that page. */
 #define SDR1 0x0F980000u
-#define FIRST_PARISH 0x0C701Cu
-#define SECOND_PARISH 0x0C741Cu /* Another VSID whose page 0FFA has the same two groups. */
+#define FIRST_SPACE 0x0C701Cu
+#define SECOND_SPACE 0x0C741Cu /* Another VSID whose page 0FFA has the same two groups. */
 #define PAGE 0x0FFAu
 #define FRAME 0x12345u
-#define FIRST_ADDRESS 0x00FFA01Bu  /* Segment 0, the first parish. */
-#define SECOND_ADDRESS 0x10FFA01Bu /* Segment 1, the second parish. */
+#define FIRST_ADDRESS 0x00FFA01Bu  /* Segment 0, the first space. */
+#define SECOND_ADDRESS 0x10FFA01Bu /* Segment 1, the second space. */
 #define PRIMARY 0x3E6u
 #define SECONDARY 0x019u
 
@@ -25,6 +26,7 @@ enum { TABLE_SIZE = 65536 };
 static uint8_t registers[MMU_REGISTERS_SIZE];
 static uint8_t table[TABLE_SIZE];
 static uint8_t answer[MMU_ANSWER_SIZE];
+static uint8_t access_answer[MMU_ACCESS_ANSWER_SIZE];
 static int wrong;
 
 /* ---- Wanted answers --------------------------------------------------------------------------- */
@@ -35,14 +37,6 @@ static void want(const char *what, uint32_t got, uint32_t wanted)
         printf("    WRONG: %s is %08X, wanted %08X\n", what, (unsigned)got, (unsigned)wanted);
         wrong++;
     }
-}
-
-static void want_answer(uint32_t result, uint32_t second, uint32_t third, uint32_t fourth)
-{
-    want("result word", mmu_get_word(answer, MMU_ANSWER_RESULT), result);
-    want("second answer word", mmu_get_word(answer, 4), second);
-    want("third answer word", mmu_get_word(answer, 8), third);
-    want("fourth answer word", mmu_get_word(answer, 12), fourth);
 }
 
 /* ---- The picture ------------------------------------------------------------------------------ */
@@ -76,7 +70,7 @@ static void print_page(const struct entry *entry, uint32_t group)
     if (!mmu_get_word(entry->fields, MMU_FIELD_V))
         printf("   --   |");
     else
-        printf(" %s %04X |", vsid == FIRST_PARISH ? "1" : vsid == SECOND_PARISH ? "2" : "?",
+        printf(" %s %04X |", vsid == FIRST_SPACE ? "1" : vsid == SECOND_SPACE ? "2" : "?",
                (unsigned)page_of(entry, group));
 }
 
@@ -118,14 +112,14 @@ static void print_groups(void)
 static void set_register(uint32_t number, uint32_t word)
 {
     uint32_t result = mmu_set_register(registers, sizeof registers, number, word);
-    printf("mmu_set_register(number %u, word %08X): %s\n", (unsigned)number, (unsigned)word, result_in_words(result));
+    printf("mmu_set_register(number %u, word %08X): %s\n", (unsigned)number, (unsigned)word, mmu_result_name(result));
     want("result", result, MMU_DONE);
 }
 
 static void clear(void)
 {
     uint32_t result = mmu_clear(SDR1, table, sizeof table);
-    printf("mmu_clear(SDR1 0F980000): %s\n", result_in_words(result));
+    printf("mmu_clear(SDR1 0F980000): %s\n", mmu_result_name(result));
     want("result", result, MMU_DONE);
 }
 
@@ -133,7 +127,7 @@ static void map(uint32_t vsid, uint32_t page, uint32_t frame)
 {
     uint32_t result = mmu_map(SDR1, vsid, page, frame, MMU_ATTRIBUTE_M, 2, table, sizeof table);
     printf("mmu_map(VSID %06X, page %04X, frame %05X): %s\n", (unsigned)vsid, (unsigned)page, (unsigned)frame,
-           result_in_words(result));
+           mmu_result_name(result));
     want("result", result, MMU_DONE);
 }
 
@@ -141,20 +135,41 @@ static void unmap(uint32_t vsid, uint32_t page, uint32_t second)
 {
     uint32_t result = mmu_unmap(SDR1, vsid, page, table, sizeof table, answer, sizeof answer);
     printf("mmu_unmap(VSID %06X, page %04X): %s, second word %08X\n", (unsigned)vsid, (unsigned)page,
-           result_in_words(result), (unsigned)mmu_get_word(answer, MMU_ANSWER_SECOND));
+           mmu_result_name(result), (unsigned)mmu_get_word(answer, MMU_ANSWER_SECOND));
     want("result", result, MMU_DONE);
-    want_answer(MMU_DONE, second, 0, 0);
+    want("second word", mmu_get_word(answer, MMU_ANSWER_SECOND), second);
 }
 
-/* An access of the supervisor with data translation on; what its answer is to be is given as its first three words. */
-static void access_data(uint32_t kind, uint32_t address, uint32_t result, uint32_t second, uint32_t third)
+/* An access of the supervisor with data translation on. */
+static struct mmu_answer access_data(uint32_t kind, uint32_t address)
 {
-    uint32_t got = mmu_access(registers, sizeof registers, MMU_MODE_DR, kind, address, table, sizeof table, answer,
-                              sizeof answer);
-    printf("mmu_access(%s, address %08X): ", kind == MMU_STORE ? "store" : "load", (unsigned)address);
-    print_access_answer(got, answer);
-    want("result", got, result);
-    want_answer(result, second, third, address);
+    struct mmu_answer got;
+    uint32_t result = mmu_access(registers, sizeof registers, MMU_MODE_DR, kind, address, table, sizeof table,
+                                 access_answer, sizeof access_answer);
+    got = mmu_read_answer(access_answer);
+    want("result word", got.result, result);
+    want("effective address", got.effective, address);
+    printf("mmu_access(%s, address %08X): %s, ", kind == MMU_STORE ? "store" : "load", (unsigned)address,
+           mmu_result_name(result));
+    return got;
+}
+
+static void done_access(uint32_t kind, uint32_t address, uint32_t physical)
+{
+    struct mmu_answer got = access_data(kind, address);
+    printf("physical address %08X\n", (unsigned)got.physical);
+    want("result", got.result, MMU_DONE);
+    want("physical address", got.physical, physical);
+    want("attributes", got.attributes, MMU_ATTRIBUTE_M);
+}
+
+static void faulting_access(uint32_t kind, uint32_t address, uint32_t fault)
+{
+    struct mmu_answer got = access_data(kind, address);
+    printf("%s: DSISR %08X, continue at %03X\n", mmu_cause_name(got.fault), (unsigned)got.fault, (unsigned)got.offset);
+    want("result", got.result, MMU_DATA_STORAGE_FAULT);
+    want("fault word", got.fault, fault);
+    want("interrupt offset", got.offset, MMU_OFFSET_DATA);
 }
 
 /* ---- The story -------------------------------------------------------------------------------- */
@@ -169,63 +184,62 @@ static void want_entry(uint32_t group, uint32_t number, uint32_t first, uint32_t
 static void fill_primary_group(void)
 {
     uint32_t i;
-    printf("Eight other pages of the first parish fill the primary group.\n");
+    printf("Eight other pages of the first address space fill the primary group.\n");
     for (i = 0; i < MMU_GROUP_ENTRIES; i++)
-        map(FIRST_PARISH, PAGE + 0x400 * (i + 1), 0x20000 + i);
+        map(FIRST_SPACE, PAGE + 0x400 * (i + 1), 0x20000 + i);
     print_groups();
 }
 
-static void first_parish_uses_the_frame(void)
+static void first_space_uses_the_frame(void)
 {
-    printf("The first parish's page gets frame %05X; its entry goes to the secondary group.\n", (unsigned)FRAME);
-    map(FIRST_PARISH, PAGE, FRAME);
+    printf("A page of the first space gets frame %05X; its entry goes to the secondary group.\n", (unsigned)FRAME);
+    map(FIRST_SPACE, PAGE, FRAME);
     want_entry(SECONDARY, 0, 0x86380E43u, 0x12345012u);
     print_groups();
-    printf("It prints: the store marks the entry used and changed.\n");
-    access_data(MMU_STORE, FIRST_ADDRESS, MMU_DONE, 0x1234501Bu, MMU_ATTRIBUTE_M);
+    printf("It is written to: the store sets R and C in the entry.\n");
+    done_access(MMU_STORE, FIRST_ADDRESS, 0x1234501Bu);
     want_entry(SECONDARY, 0, 0x86380E43u, 0x12345192u);
     print_groups();
 }
 
-static void frame_changes_hands(void)
+static void frame_is_lent_anew(void)
 {
-    printf("The page is unmapped; its second word comes back with its marks.\n");
-    unmap(FIRST_PARISH, PAGE, 0x12345192u);
+    printf("The page is unmapped; its second word comes back with R and C.\n");
+    unmap(FIRST_SPACE, PAGE, 0x12345192u);
     want_entry(SECONDARY, 0, 0, 0);
     print_groups();
-    printf("The frame is lent again, to the second parish.\n");
-    map(SECOND_PARISH, PAGE, FRAME);
+    printf("The frame is lent anew, to the second address space.\n");
+    map(SECOND_SPACE, PAGE, FRAME);
     want_entry(SECONDARY, 0, 0x863A0E43u, 0x12345012u);
     print_groups();
 }
 
 static void old_page_must_fault(void)
 {
-    printf("The second parish reaches its frame; the first parish's old page faults.\n");
-    access_data(MMU_LOAD, SECOND_ADDRESS, MMU_DONE, 0x1234501Bu, MMU_ATTRIBUTE_M);
-    access_data(MMU_LOAD, FIRST_ADDRESS, MMU_DATA_STORAGE_FAULT, MMU_FAULT_NO_MATCH, MMU_OFFSET_DATA);
-    access_data(MMU_STORE, FIRST_ADDRESS, MMU_DATA_STORAGE_FAULT, MMU_FAULT_NO_MATCH | MMU_FAULT_STORE,
-                MMU_OFFSET_DATA);
+    printf("The second space reaches its frame; the old page of the first faults.\n");
+    done_access(MMU_LOAD, SECOND_ADDRESS, 0x1234501Bu);
+    faulting_access(MMU_LOAD, FIRST_ADDRESS, MMU_FAULT_NO_MATCH);
+    faulting_access(MMU_STORE, FIRST_ADDRESS, MMU_FAULT_NO_MATCH | MMU_FAULT_STORE);
     want_entry(SECONDARY, 0, 0x863A0E43u, 0x12345112u);
     print_groups();
 }
 
 int main(void)
 {
-    printf("In the pictures an entry shows parish and page, below them its frame, r for used and c for changed.\n\n");
+    printf("In the pictures an entry shows address space and page, below them its frame, r for R and c for C.\n\n");
     set_register(MMU_REGISTER_SDR1, SDR1);
-    set_register(MMU_REGISTER_SEGMENT(0), FIRST_PARISH);
-    set_register(MMU_REGISTER_SEGMENT(1), SECOND_PARISH);
+    set_register(MMU_REGISTER_SEGMENT(0), FIRST_SPACE);
+    set_register(MMU_REGISTER_SEGMENT(1), SECOND_SPACE);
     clear();
     print_groups();
     fill_primary_group();
-    first_parish_uses_the_frame();
-    frame_changes_hands();
+    first_space_uses_the_frame();
+    frame_is_lent_anew();
     old_page_must_fault();
     if (wrong) {
         printf("%d wrong answers\n", wrong);
         return EXIT_FAILURE;
     }
-    printf("All answers as wanted: frame %05X belongs to the second parish alone.\n", (unsigned)FRAME);
+    printf("All answers as wanted: frame %05X belongs to the second address space alone.\n", (unsigned)FRAME);
     return EXIT_SUCCESS;
 }

@@ -62,7 +62,7 @@ static void set(struct bench *bench, uint32_t number, uint32_t word)
     require(plain_set_register(bench->registers, MMU_REGISTERS_SIZE, number, word) == MMU_DONE, "a register is refused");
 }
 
-/* An empty table, document 01's segment 0 and fifteen others, every block off, data translated. */
+/* An empty table, segment 0 of the twelve cases and fifteen others, every block off, data translated. */
 static void start(struct bench *bench, uint32_t sdr1)
 {
     uint32_t i;

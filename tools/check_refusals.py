@@ -10,7 +10,8 @@ An edit shows nothing where the wrong program or definition was never judged. So
   - where it has no log.
 An edit with a line `by: NAME`, as one that makes code and definition wrong alike has, must be refused at the declaration NAME: a row or a statement,
 and not only the tie between the two; it may change the code's shape, since a row judges the definition. So may an edit with a line `shape: WHY`. With names of crates the tool looks at their edits
-alone. --self-test shows that it tells such edits and logs from others.
+alone. --self-test shows that it tells such edits and logs from others. --list writes docs/WRONG-MACHINES.md, the edits with a line `by:`, and --current
+fails where that page is not what would be written.
 """
 import glob
 import os
@@ -171,9 +172,35 @@ def complaint(edit):
     return None if judged(log, by) else f"refused, but not at `{by}`" if by else "refused, but not about a fact"
 
 
+def edits_of(crates):
+    return sorted(edit for crate in crates for edit in glob.glob(os.path.join(ROOT, "crates", crate, "must-fail", "*.edit")))
+
+
+def listed():
+    """The page of the wrong machines."""
+    head = """# Wrong machines, and what refuses each
+
+Written by `tools/check_refusals.py --list`, and held current by the gate. Each line is a must-fail edit that makes the
+machine wrong in its definition, and in the code alike where the crate has it. It is refused at the row or statement named
+last, and not only by the tie between code and definition: the gate looks into the log. The other edits of
+`crates/*/must-fail` are wrong programs and wrong definitions that the proof between the two refuses.
+
+| wrong machine | edit | refused by |
+|---|---|---|
+"""
+    rows = []
+    for edit in edits_of(["*"]):
+        text = open(edit, encoding="utf-8").read()
+        by = read_edit(text)[1]
+        if by:
+            says = text.split("\n")[0].rstrip(".")
+            rows.append(f"| {says} | `{edit.split(os.sep)[-3]}/{os.path.basename(edit)[:-5]}` | `{by}` |")
+    return head + "\n".join(rows) + "\n"
+
+
 def main():
     crates = sys.argv[1:] or ["*"]
-    edits = sorted(edit for crate in crates for edit in glob.glob(os.path.join(ROOT, "crates", crate, "must-fail", "*.edit")))
+    edits = edits_of(crates)
     bad = 0
     for edit in edits:
         found = complaint(edit)
@@ -186,7 +213,13 @@ def main():
 
 
 if __name__ == "__main__":
+    page = os.path.join(ROOT, "docs", "WRONG-MACHINES.md")
     if sys.argv[1:] == ["--self-test"]:
         self_test()
+    elif sys.argv[1:] == ["--list"]:
+        open(page, "w", encoding="utf-8").write(listed())
+    elif sys.argv[1:] == ["--current"]:
+        if not os.path.exists(page) or open(page, encoding="utf-8").read() != listed():
+            sys.exit("docs/WRONG-MACHINES.md is not current: run tools/check_refusals.py --list")
     else:
         main()

@@ -71,7 +71,7 @@ static void give_back(struct slice *slice)
     free(slice->before);
 }
 
-/* Register page, table and answer of the given lengths: SDR1 and segment 0 are document 01's, all blocks off. */
+/* Register page, table and answer of the given lengths: SDR1 and segment 0 are those of the twelve cases, all blocks off. */
 struct lent {
     struct slice registers, table, answer;
 };

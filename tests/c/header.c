@@ -1,6 +1,6 @@
 /*
  * The header's own functions, and a call by its C name: C and C++ both, so that one text is compiled as each language
- * version. Wanted values are written out from the manual's and document 01's tables.
+ * version. Wanted values are written out from the manual's tables and docs/RULES.md.
  */
 #include "mmu.h"
 #include "mmu.h" /* Twice does no harm. */
@@ -22,7 +22,7 @@ static void expect(int right, const char *what, uint32_t number)
     }
 }
 
-/* Table 8-16 of the 32-bit manual beside the order of the register page in document 01. */
+/* Table 8-16 of the 32-bit manual beside the order of the register page in docs/RULES.md. */
 static const uint32_t sprs[17][2] = {
     { 25, 0 },   /* SDR1 */
     { 528, 17 }, /* IBAT0U */

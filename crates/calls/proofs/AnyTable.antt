@@ -35,7 +35,8 @@ use Rattle.translation.specs.declared.Searched.the-variants.{Nothing, At, Contr
 use Rattle.translation.specs.declared.Wanted.{Wanted}
 use Rattle.translation.proofs.Stated.{access-as-stated}
 use Rattle.translation.proofs.Steps.{page-by, after-nothing, after-at, outcome-searched}
-use Rattle.calls.specs.Request.{MapCall, ProtectCall, AnsweredCall, AccessCall, Request, mapPage, unmap, protect, look, access, sdr1In, fed, fedAnswered}
+use Rattle.calls.specs.Made.{fedAnswered}
+use Rattle.calls.specs.Request.{MapCall, ProtectCall, AnsweredCall, AccessCall, Request, mapPage, unmap, protect, look, access, sdr1In, fed}
 use Rattle.calls.specs.Answers.{wordAnswer, accessAnswer}
 use Rattle.calls.specs.OnBytes.{layout, Ended, ended, byMatches, entryWord, earlyOf, wantedPage, searched, markedBy, bytesDo, onBytes}
 use Rattle.calls.specs.Represents.{GoodTable}

@@ -31,7 +31,8 @@ use Rattle.protection.specs.Fault.{noFetch, protection}
 use Rattle.translation.specs.declared.Searched.{Searched}
 use Rattle.translation.specs.declared.Searched.the-variants.{Nothing, At}
 use Rattle.translation.proofs.Steps.{after-nothing, after-at, outcome-searched}
-use Rattle.calls.specs.Request.{MapCall, AccessCall, fedAnswered, Request, clear, mapPage, unmap, access, fed, sdr1In}
+use Rattle.calls.specs.Made.{fedAnswered}
+use Rattle.calls.specs.Request.{MapCall, AccessCall, Request, clear, mapPage, unmap, access, fed, sdr1In}
 use Rattle.calls.specs.Rules.{refusal}
 use Rattle.calls.specs.Answers.{wordAnswer, accessAnswer, compared}
 use Rattle.calls.specs.OnBytes.{Ended, ended, byOption, earlyOf, wantedPage}

@@ -28,7 +28,8 @@ use Rattle.translation.specs.declared.Outcome.{Outcome}
 use Rattle.translation.specs.declared.Searched.the-variants.{At}
 use Rattle.translation.specs.declared.Wanted.{Wanted}
 use Rattle.translation.proofs.Steps.{wanted-in-range}
-use Rattle.calls.specs.Request.{ClearCall, MapCall, ProtectCall, AnsweredCall, AccessCall, fedAnswered, fedAccess, Request, clear, mapPage, unmap, protect, look, access, fed}
+use Rattle.calls.specs.Made.{fedAnswered, fedAccess}
+use Rattle.calls.specs.Request.{ClearCall, MapCall, ProtectCall, AnsweredCall, AccessCall, Request, clear, mapPage, unmap, protect, look, access, fed}
 use Rattle.calls.specs.Rules.{refusal}
 use Rattle.calls.specs.Answers.{wordAnswer}
 use Rattle.calls.specs.OnBytes.{layout, Ended, entryWord, earlyOf, wantedPage, searched, markedBy, bytesDo}

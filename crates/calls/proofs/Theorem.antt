@@ -10,7 +10,8 @@ use lib.ListN.{length}
 use Rattle.placement.specs.FiniteMap.{putIn, mappedPages}
 use Rattle.register_words.specs.Sdr1.{originOf, maskOnes}
 use Rattle.groups.specs.Page.{Page, InRange}
-use Rattle.calls.specs.Request.{MapCall, AnsweredCall, fedAnswered, ProtectCall, Request, mapPage, unmap, protect, look, fed, sdr1In}
+use Rattle.calls.specs.Made.{fedAnswered}
+use Rattle.calls.specs.Request.{MapCall, AnsweredCall, ProtectCall, Request, mapPage, unmap, protect, look, fed, sdr1In}
 use Rattle.calls.specs.Rules.{refusal}
 use Rattle.calls.specs.OnBytes.{Ended, ended, byOption}
 use Rattle.calls.specs.OnMap.{PageFields, Map, arranged?, mapDoes}

@@ -1,8 +1,9 @@
--- Requests made of their values in order, for rows and proofs.
+-- Requests made of their values in order, and fed ones, for rows and proofs.
 use Prim.Native.Nat.{ℕ}
 use mathlib.Core.List.{List}
+use lib.ListN.{length}
 use Rattle.groups.specs.Page.{Page}
-use Rattle.calls.specs.Request.{Request, clear, mapPage, unmap, protect, look, access}
+use Rattle.calls.specs.Request.{AnsweredCall, AccessCall, Request, clear, mapPage, unmap, protect, look, access}
 
 abbrev pub toClear : {A : Type 0} → ℕ → Request A
 toClear sdr1 = clear (record { sdr1 = sdr1 })
@@ -21,3 +22,10 @@ toLook sdr1 page answer = look (record { sdr1 = sdr1; page = page; answer = answ
 
 abbrev pub toAccess : {A : Type 0} → List ℕ → ℕ → ℕ → ℕ → A → Request A
 toAccess registers mode kind address answer = access (record { registers = registers; mode = mode; kind = kind; address = address; answer = answer })
+
+-- what a call with an answer is fed as
+abbrev pub fedAnswered : AnsweredCall (List ℕ) → AnsweredCall ℕ
+fedAnswered c = record { sdr1 = c .sdr1; page = c .page; answer = length (c .answer) }
+
+abbrev pub fedAccess : AccessCall (List ℕ) → AccessCall ℕ
+fedAccess c = record { registers = c .registers; mode = c .mode; kind = c .kind; address = c .address; answer = length (c .answer) }

@@ -52,17 +52,11 @@ sdr1In (protect c) = c .sdr1
 sdr1In (look c) = c .sdr1
 sdr1In (access c) = sdr1Of (registerWords (c .registers))
 
--- what the finite map is fed of a call: of a lent answer its length alone
-abbrev pub fedAnswered : AnsweredCall (List ℕ) → AnsweredCall ℕ
-fedAnswered c = record { sdr1 = c .sdr1; page = c .page; answer = length (c .answer) }
-
-abbrev pub fedAccess : AccessCall (List ℕ) → AccessCall ℕ
-fedAccess c = record { registers = c .registers; mode = c .mode; kind = c .kind; address = c .address; answer = length (c .answer) }
-
+-- what the finite map is fed of a request: of a lent answer its length alone
 unfoldable pub fed : Request (List ℕ) → Request ℕ
 fed (clear c) = clear c
 fed (mapPage c) = mapPage c
-fed (unmap c) = unmap (fedAnswered c)
+fed (unmap c) = unmap (record { sdr1 = c .sdr1; page = c .page; answer = length (c .answer) })
 fed (protect c) = protect c
-fed (look c) = look (fedAnswered c)
-fed (access c) = access (fedAccess c)
+fed (look c) = look (record { sdr1 = c .sdr1; page = c .page; answer = length (c .answer) })
+fed (access c) = access (record { registers = c .registers; mode = c .mode; kind = c .kind; address = c .address; answer = length (c .answer) })

@@ -7,7 +7,7 @@ use lib.Bits.{bitXor}
 use lib.ListN.{replicate}
 use Rattle.words.specs.Rows.{Hold, eachBit}
 use Rattle.tables.specs.Matches.{Match}
-use Rattle.groups.specs.Tables.{example, full}
+use Rattle.groups.specs.Tables.{mixed, example, full}
 use Rattle.matches.specs.Search.{groupMatches, pairMatches, agree, summary, found, inSecondary, entryOf}
 use Rattle.matches.specs.declared.Summary.{Summary}
 
@@ -42,6 +42,8 @@ pub record MatchesTables : Type 0 where
   -- the first match in search order, its second word with R and C of any, a further one, and one that contradicts; equal ones do not contradict
   pub summaries : Hold (
       (summary (pairMatches 0x0C701C 3 example example), told 17 0x12345E96 0x12345F96 true true)
+      ∷ (summary (pairMatches 0x0C701C 3 (mixed 0x86380E03 0x12345112 0 0 0 0) example), told 17 0x12345112 0x12345112 true true)
+      ∷ (summary (pairMatches 0x0C701C 3 (mixed 0x86380E03 0x12345012 0 0 0 0) example), told 17 0x12345012 0x12345012 true false)
       ∷ (summary (pairMatches 0x0C701C 3 full example), told 24 0x12345012 0x12345012 false false)
       ∷ (summary (matched false 1 0x86380E03 0x12345E96 ∷ matched false 3 0x86380E03 0x12345E96 ∷ []), told 17 0x12345E96 0x12345E96 true false)
       ∷ (summary (matched false 6 0x86380E03 0x12345112 ∷ matched true 0 0x86380E43 0x12345012 ∷ []), told 22 0x12345112 0x12345112 true true)

@@ -1,4 +1,4 @@
-/* From a page to its groups and back: document 01's cases, and every entry of a table with many pages in it. */
+/* From a page to its groups and back: the twelve cases, and every entry of a table with many pages in it. */
 #include "expect.h"
 #include "mmu.h"
 

@@ -8,7 +8,7 @@
 
 static uint8_t memory[0x40000];
 
-/* Case 8 of document 01: DBAT0 80001FFE 10000002 takes 8FFFFFFF to 1FFFFFFF. */
+/* Case 8 of the twelve: DBAT0 80001FFE 10000002 takes 8FFFFFFF to 1FFFFFFF. */
 static void test_upper_word_first(void)
 {
     struct core core = { .memory = memory, .memory_size = sizeof memory, .msr = 0x10 };

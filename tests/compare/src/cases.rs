@@ -1,4 +1,4 @@
-//! The twelve cases of document 01, with the values it gives.
+//! The twelve cases (docs/RULES.md, 9), with the values stated there.
 
 use model::call::{Access, Call, Lent, Page, STORE};
 use model::words::{put_words, word_at};
@@ -25,7 +25,7 @@ pub fn run(machine: &dyn Machine) -> Result<(), Difference> {
     ];
     for (number, case) in (1..).zip(cases) {
         if !case(machine) {
-            let text = format!("case {number} of document 01 does not hold");
+            let text = format!("case {number} of the twelve does not hold");
             return Err(Difference::new(text));
         }
     }

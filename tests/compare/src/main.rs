@@ -74,7 +74,7 @@ fn compare_all() -> Result<(), Difference> {
     test_the_tests(factor)?;
     let empty = Empty::Null;
     cases::run(&Mmu { empty })?;
-    println!("{:<24}{:>9}", "cases of document 01", 12);
+    println!("{:<24}{:>9}", "the twelve cases", 12);
     let mut total = Tally::default();
     for (name, empty, section) in SECTIONS {
         let tally = section(&Mmu { empty }, factor)?;

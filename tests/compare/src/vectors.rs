@@ -9,7 +9,7 @@ use crate::bench::{Before, Bench, Difference, Lending};
 use crate::machine::Machine;
 use crate::tally::Tally;
 
-/// Each file, and how many of its lines fit document 01.
+/// Each file, and how many of its lines fit the rules.
 const FILES: [(&str, &str, usize); 2] = [
     ("qemu-750.txt", include_str!("../../vectors/qemu-750.txt"), 453),
     ("qemu-970-fetch.txt", include_str!("../../vectors/qemu-970-fetch.txt"), 64),
@@ -66,7 +66,7 @@ impl Vector {
     }
 }
 
-/// Whether document 01 refuses none of the line's inputs: the emulator performs any.
+/// Whether the rules refuse none of the line's inputs: the emulator performs any.
 fn fits(vector: &Vector) -> bool {
     let call = Call::Access(vector.access);
     let lengths = model::call::Lengths {

@@ -1,4 +1,4 @@
-//! The calls on bytes: each gives its number and rewrites what is lent, as document 01 says.
+//! The calls on bytes: each gives its number and rewrites what is lent, as the rules say.
 
 use crate::call::{Access, Call, Lengths, Lent, Page};
 use crate::entry::{Fields, CHANGED, IGNORED_BITS, REFERENCED};

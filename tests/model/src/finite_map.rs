@@ -1,4 +1,4 @@
-//! The plain finite map of document 01: fed numbers, register words and lengths, no table byte.
+//! The plain finite map (docs/RULES.md, 8): fed numbers, register words and lengths, no table byte.
 
 use std::collections::BTreeMap;
 

@@ -1,4 +1,4 @@
-//! Ways to get document 01 wrong, each of which the comparison has to find in the model.
+//! Ways to get the rules wrong, each of which the comparison has to find in the model.
 
 /// One mistake; a model without any is the one the library is held to.
 #[derive(Clone, Copy, Debug, PartialEq, Eq)]

@@ -1,10 +1,10 @@
-//! The register words and what document 01 asks of them.
+//! The register words and what the rules ask of them.
 
 use crate::words::{bits, ones_at_low_end, put_word, word_at};
 
 pub const REGISTER_PAGE: usize = 132;
 
-/// Whether SDR1 has the shape document 01 gives it.
+/// Whether SDR1 has the shape that the rules give it.
 pub fn sdr1_is_well_formed(sdr1: u32) -> bool {
     let (origin, mask) = (bits(sdr1, 0, 15), bits(sdr1, 23, 31));
     bits(sdr1, 16, 22) == 0 && ones_at_low_end(mask) && origin & mask == 0

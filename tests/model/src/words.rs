@@ -1,4 +1,4 @@
-//! Words and their bits in document 01's numbering: bit 0 is the most significant.
+//! Words and their bits in the manual's numbering: bit 0 is the most significant.
 
 /// Bits `first` to `last` of a word, as a number.
 pub fn bits(word: u32, first: u32, last: u32) -> u32 {

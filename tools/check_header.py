@@ -6,7 +6,8 @@ check_header.py --self-test   feeds wrong headers to the comparison, each of whi
 
 The version is the Makefile's VERSION: the header's MMU_VERSION_MAJOR and _MINOR, the first heading of CHANGELOG.md and
 the find_package of docs/C-GUIDE.md must have it. The comment of a call must name each of its parameters, and the
-refusals that the comparison with the model has for it (NUMBERS of tests/compare/src/tally.rs), no others.
+refusals that the comparison with the model has for it (NUMBERS of tests/compare/src/tally.rs), no others. Each number of
+the crate `numbers` stands in the header, in the code and in the definitions under one name, with one value.
 """
 import re
 import subprocess
@@ -19,6 +20,7 @@ SOURCES = ROOT / "crates" / "mmu" / "src"
 MAKEFILE = ROOT / "Makefile"
 CHANGELOG = ROOT / "CHANGELOG.md"
 GUIDE = ROOT / "docs" / "C-GUIDE.md"
+NUMBERS = ROOT / "crates" / "numbers"
 TALLY = ROOT / "tests" / "compare" / "src" / "tally.rs"
 ARCHIVE = ROOT / "target" / "staticlib" / "libmmu.a"
 
@@ -187,6 +189,26 @@ def comment_differences(header, tally):
     return lines
 
 
+def number_differences(header, code, definitions):
+    """A line for each number of the code that header or definitions do not have, under its name and with its value."""
+    macros = {name: int(value, 0) for name, value in re.findall(r"^#define MMU_(\w+) (0x[0-9A-Fa-f]+|\d+)u", header, re.M)}
+    consts = {name: int(value, 0) for name, value in re.findall(r"^pub const (\w+): \w+ = (0x[0-9A-Fa-f]+|\d+);", code, re.M)}
+    defined = {name: int(value, 0) for name, value in re.findall(r"^(\w+) = (0x[0-9A-Fa-f]+|\d+)$", definitions, re.M)}
+    lines = []
+    for name, value in consts.items():
+        first, *others = name.lower().split("_")
+        other = first + "".join(word.capitalize() for word in others)
+        if macros.get(name) != value:
+            lines.append(f"MMU_{name}: {macros.get(name, 'none')} in the header, {value} in the crate numbers")
+        if defined.pop(other, None) != value:
+            lines.append(f"{other}: not {value} in the definitions, as {name} is in the code")
+    return lines + [f"{name}: in the definitions, not in the code" for name in defined]
+
+
+SAMPLE_CODE = "pub const REFUSED_SDR1: u32 = 2;\n\npub const REFUSED_LENT_LENGTH: u32 = 11;\n"
+
+SAMPLE_DEFINITIONS = "abbrev pub refusedSdr1 : ℕ\nrefusedSdr1 = 2\n\nabbrev pub refusedLentLength : ℕ\nrefusedLentLength = 11\n"
+
 SAMPLE_TALLY = 'const NUMBERS: [(&str, &[u32]); 2] = [\n    ("look", &[0, 11, 2, 8]),\n    ("clear", &[0, 2]),\n];\n'
 
 SAMPLE_MAKEFILE = "RT ?= rt\nVERSION := 3.14.1\n"
@@ -241,6 +263,7 @@ WRONG_HEADERS = {
     "a refusal too many in the comment": ("Refusal: ", "Refusal: MMU_REFUSED_NO_MATCH, "),
     "a refusal of another name": ("Refusal: MMU_REFUSED_SDR1", "Refusal: MMU_REFUSED_SHAPE"),
     "a call without a comment": ("/* Zeroes table, as long as sdr1 says. Refusal: MMU_REFUSED_SDR1. */\n", ""),
+    "a number of another value": ("MMU_REFUSED_SDR1 2u", "MMU_REFUSED_SDR1 3u"),
     "another major version": ("MMU_VERSION_MAJOR 3", "MMU_VERSION_MAJOR 2"),
     "another minor version": ("MMU_VERSION_MINOR 14", "MMU_VERSION_MINOR 1"),
     "no minor version": ("#define MMU_VERSION_MINOR 14\n", ""),
@@ -249,7 +272,8 @@ WRONG_HEADERS = {
 
 def sample_differences(header, symbols):
     return (differences(header, SAMPLE_SOURCE, symbols) + comment_differences(header, SAMPLE_TALLY)
-            + version_differences(header, SAMPLE_MAKEFILE, SAMPLE_CHANGELOG, SAMPLE_GUIDE))
+            + version_differences(header, SAMPLE_MAKEFILE, SAMPLE_CHANGELOG, SAMPLE_GUIDE)
+            + number_differences(header, SAMPLE_CODE, SAMPLE_DEFINITIONS))
 
 
 def self_test():
@@ -262,13 +286,15 @@ def self_test():
         failed.append("not refused: another version in CHANGELOG.md")
     if not version_differences(SAMPLE_HEADER, SAMPLE_MAKEFILE, SAMPLE_CHANGELOG, SAMPLE_GUIDE.replace("3.14", "3.13")):
         failed.append("not refused: another version in the guide")
+    if not number_differences(SAMPLE_HEADER, SAMPLE_CODE, SAMPLE_DEFINITIONS.replace("= 11", "= 12")):
+        failed.append("not refused: another number in the definitions")
     for lost in sorted(symbols):
         if not differences(SAMPLE_HEADER, SAMPLE_SOURCE, symbols - {lost}):
             failed.append(f"not refused: {lost} is not in the archive")
     if not differences(SAMPLE_HEADER, SAMPLE_SOURCE, symbols | {"mmu_extra"}):
         failed.append("not refused: mmu_extra is in the archive alone")
     print("\n".join(failed) or f"self test: the right header passes, {len(WRONG_HEADERS)} wrong ones, 3 wrong archives,"
-          " a wrong CHANGELOG.md and a wrong guide are refused")
+          " a wrong CHANGELOG.md, a wrong guide and a wrong definition are refused")
     return 1 if failed else 0
 
 
@@ -282,6 +308,7 @@ def main(arguments):
         lines = differences(HEADER.read_text(), source, symbols)
         lines += version_differences(HEADER.read_text(), MAKEFILE.read_text(), CHANGELOG.read_text(), GUIDE.read_text())
         lines += comment_differences(HEADER.read_text(), TALLY.read_text())
+        lines += number_differences(HEADER.read_text(), (NUMBERS / "src" / "lib.rt").read_text(), (NUMBERS / "specs" / "Numbers.antt").read_text())
     except (Unreadable, OSError) as error:
         lines = [str(error)]
     if lines:
@@ -289,7 +316,7 @@ def main(arguments):
         print("\n".join("  " + line for line in lines))
         return 1
     print(f"include/mmu.h: {len(symbols)} calls, as in the archive and in the Rattle source; parameters and refusals are told;"
-          " the version is the Makefile's")
+          " numbers are those of code and definitions; the version is the Makefile's")
     return 0
 
 

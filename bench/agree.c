@@ -12,13 +12,13 @@
 #include <string.h>
 
 enum { CHECK, SET_REGISTER, CLEAR, MAP, UNMAP, PROTECT, LOOK, ACCESS, PACK, UNPACK, CALLS };
-enum { LARGEST_TABLE = 1 << 19, ROUND = 400, VSIDS = 8, PAGES = 4 };
+enum { LARGEST_TABLE = 1 << 19, ROUND = 400, VSIDS = 8, PAGES = 6 };
 
 static const char *const names[CALLS] = { "check", "set_register", "clear", "map", "unmap",
                                           "protect", "look", "access", "pack", "unpack" };
 
 /* The results that each call can give; a 255 ends a list. */
-static const uint8_t possible[CALLS][12] = {
+static const uint8_t possible[CALLS][13] = {
     { 0, 2, 3, 4, 5, 11, 255 },
     { 0, 2, 3, 4, 5, 6, 11, 255 },
     { 0, 1, 2, 255 },
@@ -26,7 +26,7 @@ static const uint8_t possible[CALLS][12] = {
     { 0, 1, 2, 6, 8, 11, 255 },
     { 0, 1, 2, 6, 8, 255 },
     { 0, 1, 2, 6, 8, 10, 11, 255 },
-    { 0, 1, 2, 3, 4, 5, 6, 10, 11, 64, 65, 255 },
+    { 0, 1, 2, 3, 4, 5, 6, 10, 11, 12, 64, 65, 255 },
     { 0, 6, 11, 255 },
     { 0, 11, 255 },
 };
@@ -34,13 +34,13 @@ static const uint8_t possible[CALLS][12] = {
 /* What is lent, one byte longer than any call takes, so that a length can be one too many. */
 struct lent {
     uint8_t registers[MMU_REGISTERS_SIZE + 1];
-    uint8_t answer[MMU_FIELDS_SIZE + 1];
+    uint8_t answer[MMU_ACCESS_ANSWER_SIZE + 1];
     uint8_t table[LARGEST_TABLE + 1];
 };
 
 struct request {
     int call;
-    uint32_t sdr1, vsid, page_index, rpn, wimg, pp, mode, kind, address, number, word;
+    uint32_t sdr1, vsid, page_index, rpn, wimg, pp, mode, kind, address, length, number, word;
     uint32_t v, h, api, r, c;
     size_t registers_len, table_len, answer_len;
 };
@@ -49,6 +49,12 @@ static struct lent lent[2];
 static uint64_t state;
 static uint32_t odds = 40;
 static unsigned long seen[CALLS][66];
+
+/* Accesses over a page edge: how many were done, and how many faulted in the second page. */
+static unsigned long edges_done, edges_faulted;
+
+/* Accesses that were done or faulted, by the rule shown. */
+static unsigned long rules[MMU_RULE_DONE + 1];
 
 /* ---- Random numbers --------------------------------------------------------------------------- */
 
@@ -107,10 +113,10 @@ static uint32_t random_vsid(void)
     return 0x2701C ^ below(VSIDS) << 19;
 }
 
-/* Page indices that differ in API and in the group. */
+/* Page indices that differ in API and in the group, neighbours among them; a 0 follows FFFF in the next segment. */
 static uint32_t random_page(void)
 {
-    static const uint32_t pages[PAGES] = { 0x0FFA, 0x13FA, 0x0FFB, 0xF005 };
+    static const uint32_t pages[PAGES] = { 0x0FFA, 0x13FA, 0x0FFB, 0xF005, 0xFFFF, 0x0000 };
     return pages[below(PAGES)];
 }
 
@@ -162,7 +168,7 @@ static void plant_entry(uint32_t sdr1)
     uint32_t h = below(2);
     uint32_t group = ((vsid ^ page) & mask) ^ (h ? mask : 0);
     uint32_t first = MMU_FIRST_V | vsid << MMU_FIRST_VSID_SHIFT | h << 6 | page >> 10;
-    size_t at = (size_t)group * MMU_GROUP_SIZE + below(8) * MMU_ENTRY_SIZE;
+    size_t at = MMU_ENTRY_OFFSET(group, below(8));
     if (below(4) == 0)
         first ^= 1u << below(32);
     mmu_put_word(lent[0].table, at, first);
@@ -171,6 +177,30 @@ static void plant_entry(uint32_t sdr1)
 }
 
 /* ---- Calls ------------------------------------------------------------------------------------ */
+
+/* The answer's length by the call; the register calls, clear, map and protect have none and do not look at it. */
+static size_t answer_size(int call)
+{
+    switch (call) {
+    case ACCESS:
+        return MMU_ACCESS_ANSWER_SIZE;
+    case PACK:
+        return MMU_ENTRY_SIZE;
+    case UNPACK:
+        return MMU_FIELDS_SIZE;
+    default:
+        return MMU_ANSWER_SIZE;
+    }
+}
+
+/* An operand of 1 to 128 bytes, every other one over or up to the end of one of the pages; rarely of another length. */
+static void choose_operand(struct request *q)
+{
+    q->length = rarely() ? argument(MMU_LONGEST_OPERAND + 2) : 1 + below(MMU_LONGEST_OPERAND);
+    q->address = below(3) ? below(16) << 28 | random_page() << 12 | below(4096) : 0x80000000u | any();
+    if (below(2) && q->length >= 1 && q->length <= MMU_LONGEST_OPERAND)
+        q->address = (q->address | 0xFFFu) - below(q->length);
+}
 
 /* An access more often than the rest, a clear seldom, so that the table fills. */
 static int random_call(void)
@@ -183,7 +213,6 @@ static int random_call(void)
 
 static struct request random_request(uint32_t sdr1)
 {
-    static const uint32_t answers[3] = { MMU_ANSWER_SIZE, MMU_ENTRY_SIZE, MMU_FIELDS_SIZE };
     struct request q;
     odds = below(12) ? 40 : 2;
     q.call = random_call();
@@ -195,7 +224,7 @@ static struct request random_request(uint32_t sdr1)
     q.pp = argument(4);
     q.mode = argument(8);
     q.kind = argument(3);
-    q.address = below(3) ? below(16) << 28 | random_page() << 12 | below(4096) : 0x80000000u | any();
+    choose_operand(&q);
     q.number = argument(33);
     q.word = any();
     q.v = argument(2);
@@ -205,7 +234,7 @@ static struct request random_request(uint32_t sdr1)
     q.c = argument(2);
     q.registers_len = length(MMU_REGISTERS_SIZE);
     q.table_len = length(MMU_TABLE_SIZE(sdr1));
-    q.answer_len = length(answers[q.call == PACK ? 1 : q.call == UNPACK ? 2 : 0]);
+    q.answer_len = length(answer_size(q.call));
     return q;
 }
 
@@ -245,8 +274,8 @@ static uint32_t perform(const struct calls *calls, struct lent *l, const struct 
     case LOOK:
         return calls->look(q->sdr1, q->vsid, q->page_index, table, q->table_len, answer, q->answer_len);
     case ACCESS:
-        return calls->access(registers, q->registers_len, q->mode, q->kind, q->address, table, q->table_len, answer,
-                             q->answer_len);
+        return calls->access(registers, q->registers_len, q->mode, q->kind, q->address, q->length, table, q->table_len,
+                             answer, q->answer_len);
     case PACK:
         return calls->pack(q->v, q->vsid, q->h, q->api, q->rpn, q->r, q->c, q->wimg, q->pp, answer, q->answer_len);
     default:
@@ -259,6 +288,18 @@ static int same_bytes(size_t table_size)
     return memcmp(lent[0].registers, lent[1].registers, sizeof lent[0].registers) == 0
         && memcmp(lent[0].answer, lent[1].answer, sizeof lent[0].answer) == 0
         && memcmp(lent[0].table, lent[1].table, table_size + 1) == 0;
+}
+
+/* Counts an access by its parts and by its rule. */
+static void note_answer(const struct request *q, uint32_t number)
+{
+    struct mmu_answer answer = mmu_read_answer(lent[0].answer);
+    if (number == MMU_DONE)
+        edges_done += answer.second_bytes != 0;
+    if (number >= MMU_DATA_STORAGE_FAULT)
+        edges_faulted += answer.effective != q->address;
+    if (number == MMU_DONE || number >= MMU_DATA_STORAGE_FAULT)
+        rules[answer.rule]++;
 }
 
 static void step(uint32_t sdr1)
@@ -274,6 +315,8 @@ static void step(uint32_t sdr1)
         exit(1);
     }
     seen[q.call][numbers[0] < 66 ? numbers[0] : 0]++;
+    if (q.call == ACCESS)
+        note_answer(&q, numbers[0]);
 }
 
 /* A round: one SDR1, one register page, some entries of others, then many calls. */
@@ -303,6 +346,14 @@ static int report(int small)
         }
         printf("\n");
     }
+    printf("over a page edge: %lu done, %lu faults of the second page\n", edges_done, edges_faulted);
+    missed += (edges_done == 0) + (edges_faulted == 0);
+    printf("by rule:");
+    for (i = 0; i <= (int)MMU_RULE_DONE; i++) {
+        printf(" %d:%lu", i, rules[i]);
+        missed += rules[i] == 0;
+    }
+    printf("\n");
     if (missed && !small)
         fprintf(stderr, "agree: %d results were never met\n", missed);
     return missed && !small;

@@ -13,7 +13,8 @@ struct calls {
     uint32_t (*unmap)(uint32_t, uint32_t, uint32_t, uint8_t *, size_t, uint8_t *, size_t);
     uint32_t (*protect)(uint32_t, uint32_t, uint32_t, uint32_t, uint8_t *, size_t);
     uint32_t (*look)(uint32_t, uint32_t, uint32_t, const uint8_t *, size_t, uint8_t *, size_t);
-    uint32_t (*access)(const uint8_t *, size_t, uint32_t, uint32_t, uint32_t, uint8_t *, size_t, uint8_t *, size_t);
+    uint32_t (*access)(const uint8_t *, size_t, uint32_t, uint32_t, uint32_t, uint32_t, uint8_t *, size_t, uint8_t *,
+                       size_t);
     uint32_t (*pack)(uint32_t, uint32_t, uint32_t, uint32_t, uint32_t, uint32_t, uint32_t, uint32_t, uint32_t,
                      uint8_t *, size_t);
     uint32_t (*unpack)(uint32_t, uint32_t, uint8_t *, size_t);

@@ -1,5 +1,5 @@
 /*
- * Document 01's calls in portable C, written for speed: the contender of the benchmarks.
+ * The ten calls of docs/RULES.md in portable C, written for speed: the contender of the benchmarks.
  * It makes the library's checks in the library's order and shares no code with it.
  */
 #include "plain.h"
@@ -14,7 +14,8 @@
 #endif
 
 enum { FETCH, LOAD, STORE };
-enum { REGISTERS = 132, SEGMENTS = 4, INSTRUCTION_PAIRS = 68, DATA_PAIRS = 100, PAIRS = 4 };
+enum { RULE_REAL, RULE_BLOCK, RULE_NO_EXECUTE, RULE_NO_MATCH, RULE_GUARDED, RULE_PROTECTION, RULE_DONE };
+enum { REGISTERS = 132, SEGMENTS = 4, INSTRUCTION_PAIRS = 68, DATA_PAIRS = 100, PAIRS = 4, RECORD = 32 };
 
 #define NO_MATCH 0x40000000u
 #define NO_EXECUTE 0x10000000u
@@ -420,6 +421,26 @@ INLINE int allowed(uint32_t kind, uint32_t key, uint32_t pp)
     return rights >> (4 * key + pp) & 1;
 }
 
+/*
+ * A part of an operand, within one page, writes the four words of its answer and the four of its record, and gives its
+ * result; `entry` is where the entry that did it is handed back, to be marked when the whole operand is done.
+ */
+struct part {
+    uint8_t *answer, *record, *entry;
+};
+
+/* A rule that shows no entry. */
+INLINE void show(uint8_t *record, uint32_t rule, uint32_t detail)
+{
+    answer_words(record, rule, detail, 0, 0);
+}
+
+/* The record of a refusal. */
+INLINE void show_none(uint8_t *record)
+{
+    memset(record, 0, 16);
+}
+
 INLINE uint32_t fault(uint8_t *answer, uint32_t kind, uint32_t cause, uint32_t address)
 {
     if (kind == FETCH)
@@ -437,65 +458,137 @@ INLINE uint32_t by_block(const uint8_t *pair, uint32_t kind, uint32_t address, u
     return answer_words(answer, 0, (lower & ~inner) | (address & inner), lower >> 3 & 15, address);
 }
 
-INLINE uint32_t by_page(const uint8_t *registers, uint32_t mode, uint32_t kind, uint32_t address, uint8_t *table,
-                        uint8_t *answer)
+/* What the entry of the first match says: steps 5 to 7. */
+INLINE uint32_t by_entry(struct part *part, const uint8_t *table, struct group *group, uint32_t place, uint32_t kind,
+                         uint32_t key, uint32_t second, uint32_t address)
+{
+    uint32_t number = (uint32_t)(group - (const struct group *)table), detail = 4 * key + (second & 3);
+    if (kind == FETCH && second & 8) {
+        answer_words(part->record, RULE_GUARDED, 0, number, place % 8);
+        return fault(part->answer, kind, NO_EXECUTE, address);
+    }
+    if (!allowed(kind, key, second & 3)) {
+        answer_words(part->record, RULE_PROTECTION, detail, number, place % 8);
+        return fault(part->answer, kind, PROTECTION, address);
+    }
+    answer_words(part->record, RULE_DONE, detail, number, place % 8);
+    part->entry = group->entry[place % 8];
+    return answer_words(part->answer, 0, (second & 0xFFFFF000) | (address & 0xFFF), second >> 3 & 15, address);
+}
+
+INLINE uint32_t by_page(struct part *part, const uint8_t *registers, uint32_t mode, uint32_t kind, uint32_t address,
+                        uint8_t *table)
 {
     uint32_t segment = word_at(registers + SEGMENTS + 4 * (address >> 28));
     uint32_t key = (mode & 4 ? segment >> 29 : segment >> 30) & 1;
     struct pair pair = pair_of(word_at(registers), segment & 0xFFFFFF, address >> 12 & 0xFFFF, table);
     struct matches matches;
-    uint8_t *entry;
-    uint32_t second;
-    if (kind == FETCH && segment & 0x10000000)
-        return fault(answer, kind, NO_EXECUTE, address);
+    if (kind == FETCH && segment & 0x10000000) {
+        show(part->record, RULE_NO_EXECUTE, 0);
+        return fault(part->answer, kind, NO_EXECUTE, address);
+    }
     matches = search(pair);
-    if (matches.contradict)
-        return refuse(answer, 10);
-    if (matches.place == NONE)
-        return fault(answer, kind, NO_MATCH, address);
-    second = raw_of(matches.second);
-    if (kind == FETCH && second & 8)
-        return fault(answer, kind, NO_EXECUTE, address);
-    if (!allowed(kind, key, second & 3))
-        return fault(answer, kind, PROTECTION, address);
-    entry = (matches.place < 8 ? pair.primary : pair.secondary)->entry[matches.place % 8];
+    if (matches.contradict) {
+        show_none(part->record);
+        return refuse(part->answer, 10);
+    }
+    if (matches.place == NONE) {
+        show(part->record, RULE_NO_MATCH, 0);
+        return fault(part->answer, kind, NO_MATCH, address);
+    }
+    return by_entry(part, table, matches.place < 8 ? pair.primary : pair.secondary, matches.place, kind, key,
+                    raw_of(matches.second), address);
+}
+
+/* The steps of a part whose registers and table length are right. */
+INLINE uint32_t translate(struct part *part, const uint8_t *registers, uint32_t mode, uint32_t kind, uint32_t address,
+                          uint8_t *table)
+{
+    const uint8_t *pairs = registers + (kind == FETCH ? INSTRUCTION_PAIRS : DATA_PAIRS);
+    uint32_t valid = mode & 4 ? 1 : 2, i;
+    part->entry = NULL;
+    if (!(mode & (kind == FETCH ? 2 : 1))) {
+        show(part->record, RULE_REAL, 0);
+        return answer_words(part->answer, 0, address, 3, address);
+    }
+    for (i = 0; i < PAIRS; i++) {
+        uint32_t upper = word_at(pairs + 8 * i);
+        if (upper & valid && (upper ^ address) <= inner_bits(upper)) {
+            show(part->record, RULE_BLOCK, i);
+            return by_block(pairs + 8 * i, kind, address, part->answer);
+        }
+    }
+    return by_page(part, registers, mode, kind, address, table);
+}
+
+INLINE void mark(uint8_t *entry, uint32_t kind)
+{
+    if (entry == NULL)
+        return;
     entry[6] |= 1;
     if (kind == STORE)
         entry[7] |= 0x80;
-    return answer_words(answer, 0, (second & 0xFFFFF000) | (address & 0xFFF), second >> 3 & 15, address);
 }
 
-/* The steps of an access whose registers and table length are right. */
-INLINE uint32_t translate(const uint8_t *registers, uint32_t mode, uint32_t kind, uint32_t address, uint8_t *table,
-                          uint8_t *answer)
+/* Words 4 to 7 of an answer without a second part. */
+INLINE uint32_t no_second(uint8_t *answer, uint32_t result, uint32_t bytes)
 {
-    const uint8_t *pairs = registers + (kind == FETCH ? INSTRUCTION_PAIRS : DATA_PAIRS);
-    uint32_t valid = mode & 4 ? 1 : 2;
-    int i;
-    if (!(mode & (kind == FETCH ? 2 : 1)))
-        return answer_words(answer, 0, address, 3, address);
-    for (i = 0; i < PAIRS; i++) {
-        uint32_t upper = word_at(pairs + 8 * i);
-        if (upper & valid && (upper ^ address) <= inner_bits(upper))
-            return by_block(pairs + 8 * i, kind, address, answer);
+    memset(answer + 16, 0, 16);
+    if (result == 0)
+        put_word(answer + 24, bytes);
+    return result;
+}
+
+INLINE uint32_t refuse_access(uint8_t *answer, uint32_t number)
+{
+    refuse(answer, number);
+    show_none(answer + RECORD);
+    return no_second(answer, number, 0);
+}
+
+/* An operand with so many bytes before a page edge; a function of its own, since few operands come here. */
+static uint32_t over_edge(const uint8_t *registers, uint32_t mode, uint32_t kind, uint32_t address, uint32_t length,
+                          uint32_t bytes, uint8_t *table, uint8_t *answer)
+{
+    uint8_t words[32];
+    struct part first = { answer, answer + RECORD, NULL }, second = { words, words + 16, NULL };
+    uint32_t result = translate(&first, registers, mode, kind, address, table);
+    if (result != 0)
+        return no_second(answer, result, 0);
+    result = translate(&second, registers, mode, kind, address + bytes, table);
+    if (result != 0) {
+        memcpy(answer, second.answer, 16);
+        memcpy(answer + RECORD, second.record, 16);
+        return no_second(answer, result, 0);
     }
-    return by_page(registers, mode, kind, address, table, answer);
+    mark(first.entry, kind);
+    mark(second.entry, kind);
+    memcpy(answer + 16, second.answer + 4, 8);
+    put_words(answer + 24, bytes, length - bytes);
+    return 0;
 }
 
-uint32_t PLAIN(access)(const uint8_t *registers, size_t registers_len, uint32_t mode, uint32_t kind,
-                       uint32_t address, uint8_t *table, size_t table_len, uint8_t *answer, size_t answer_len)
+uint32_t PLAIN(access)(const uint8_t *registers, size_t registers_len, uint32_t mode, uint32_t kind, uint32_t address,
+                       uint32_t length, uint8_t *table, size_t table_len, uint8_t *answer, size_t answer_len)
 {
-    uint32_t result;
-    if (registers_len != REGISTERS || answer_len != 16)
+    uint32_t result, bytes = 0x1000 - (address & 0xFFF);
+    struct part part = { answer, answer + RECORD, NULL };
+    if (registers_len != REGISTERS || answer_len != 48)
         return 11;
     if (mode > 7 || kind > STORE)
-        return refuse(answer, 6);
+        return refuse_access(answer, 6);
+    if (length - 1 > 127)
+        return refuse_access(answer, 12);
     result = check_page(registers);
     if (result == 0 && table_len != table_size(word_at(registers)))
         result = 1;
     if (result != 0)
-        return refuse(answer, result);
-    return translate(registers, mode, kind, address, table, answer);
+        return refuse_access(answer, result);
+    if (length > bytes)
+        return over_edge(registers, mode, kind, address, length, bytes, table, answer);
+    result = translate(&part, registers, mode, kind, address, table);
+    mark(part.entry, kind);
+    return no_second(answer, result, length);
 }
 
 /* ---- Packing ---------------------------------------------------------------------------------- */

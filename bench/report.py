@@ -111,7 +111,8 @@ def document(directory, rows):
         f"timing both are held against each other: {agreed}.",
         "Instructions are those of one call, counted by callgrind inside the call alone; they repeat exactly. Nanoseconds are the "
         "least of 200 rounds in which the two take turns. In all access rows but those marked \"blocks off\" the eight block pairs "
-        "are on, on each side of 256 MB, 16 MB, 1 MB and 128 KB. An access checks the whole register page each time.",
+        "are on, on each side of 256 MB, 16 MB, 1 MB and 128 KB. An access checks the whole register page each time. It is to one "
+        "byte, and over a page edge to eight, four in each page.",
         markdown_table(rows),
         "![The library beside plain C](benchmarks.svg)",
         over_limit(rows),

@@ -29,13 +29,15 @@ enum { ACCESSES = 4096, LARGEST_TABLE = 1 << 19 };
 struct bench {
     uint8_t registers[MMU_REGISTERS_SIZE];
     uint8_t answer[MMU_ANSWER_SIZE];
+    uint8_t access_answer[MMU_ACCESS_ANSWER_SIZE];
     uint8_t fields[MMU_FIELDS_SIZE];
     uint8_t packed[MMU_ENTRY_SIZE];
-    uint8_t unmarked[MMU_ENTRY_SIZE];
     uint8_t *table;
     size_t table_len;
-    uint8_t *entry;
-    uint32_t sdr1, mode, kind, address;
+    uint8_t *entries[2];
+    uint8_t unmarked[2][MMU_ENTRY_SIZE];
+    uint32_t pages;
+    uint32_t sdr1, mode, kind, address, length;
     uint32_t addresses[ACCESSES];
 };
 
@@ -55,6 +57,12 @@ static void require(int right, const char *what)
     }
 }
 
+static inline uint32_t access_at(struct bench *bench, const struct calls *calls, uint32_t address)
+{
+    return calls->access(bench->registers, MMU_REGISTERS_SIZE, bench->mode, bench->kind, address, bench->length,
+                         bench->table, bench->table_len, bench->access_answer, MMU_ACCESS_ANSWER_SIZE);
+}
+
 /* ---- Preparing -------------------------------------------------------------------------------- */
 
 static void set(struct bench *bench, uint32_t number, uint32_t word)
@@ -72,6 +80,8 @@ static void start(struct bench *bench, uint32_t sdr1)
     bench->mode = MMU_MODE_DR;
     bench->kind = MMU_LOAD;
     bench->address = PAGE_ADDRESS;
+    bench->length = 1;
+    bench->pages = 0;
     set(bench, MMU_REGISTER_SDR1, sdr1);
     for (i = 0; i < 16; i++)
         set(bench, MMU_REGISTER_SEGMENT(i), VSID + 0x111 * i);
@@ -92,34 +102,40 @@ static void blocks_on(struct bench *bench)
     }
 }
 
-/* Maps other pages of the same two groups, numbered from `first` on. */
-static void fill(struct bench *bench, uint32_t first, uint32_t count)
+/* Maps other pages of a page's two groups, numbered from `first` on. */
+static void fill(struct bench *bench, uint32_t page_index, uint32_t first, uint32_t count)
 {
     uint32_t i;
     for (i = first; i < first + count; i++)
-        require(plain_map(bench->sdr1, VSID ^ ((i + 1) << 19), PAGE_INDEX, i, 2, 2, bench->table, bench->table_len)
+        require(plain_map(bench->sdr1, VSID ^ ((i + 1) << 19), page_index, i, 2, 2, bench->table, bench->table_len)
                     == MMU_DONE, "a filling page is refused");
 }
 
-static void map_page(struct bench *bench)
+static void map_page(struct bench *bench, uint32_t page_index)
 {
-    require(plain_map(bench->sdr1, VSID, PAGE_INDEX, 0x12345, 2, 2, bench->table, bench->table_len) == MMU_DONE,
+    require(plain_map(bench->sdr1, VSID, page_index, 0x12345, 2, 2, bench->table, bench->table_len) == MMU_DONE,
             "the page is refused");
 }
 
-/* The page at the given place of its search order, the other fifteen entries in use. */
+/* A page at the given place of its search order, the other fifteen entries in use; the unmarked entry is kept. */
+static void put_page(struct bench *bench, uint32_t page_index, uint32_t place)
+{
+    uint32_t hash = (VSID ^ page_index) & 0x3FF;
+    uint32_t group = place < 8 ? hash : hash ^ 0x3FF;
+    uint8_t *entry = bench->table + MMU_ENTRY_OFFSET(group, place % 8);
+    fill(bench, page_index, 0, place);
+    map_page(bench, page_index);
+    fill(bench, page_index, place, 15 - place);
+    memcpy(bench->unmarked[bench->pages], entry, MMU_ENTRY_SIZE);
+    bench->entries[bench->pages++] = entry;
+    require(mmu_get_word(entry, MMU_ENTRY_SECOND) == 0x12345012u, "the page is not in its place");
+}
+
 static void page_at(struct bench *bench, uint32_t place)
 {
-    uint32_t hash = (VSID ^ PAGE_INDEX) & 0x3FF;
-    uint32_t group = place < 8 ? hash : hash ^ 0x3FF;
     start(bench, SMALL_SDR1);
     blocks_on(bench);
-    fill(bench, 0, place);
-    map_page(bench);
-    fill(bench, place, 15 - place);
-    bench->entry = bench->table + group * MMU_GROUP_SIZE + place % 8 * MMU_ENTRY_SIZE;
-    memcpy(bench->unmarked, bench->entry, MMU_ENTRY_SIZE);
-    require(mmu_get_word(bench->entry, MMU_ENTRY_SECOND) == 0x12345012u, "the page is not in its place");
+    put_page(bench, PAGE_INDEX, place);
 }
 
 static void primary_0(struct bench *bench) { page_at(bench, 0); }
@@ -131,7 +147,7 @@ static void no_match(struct bench *bench)
 {
     start(bench, SMALL_SDR1);
     blocks_on(bench);
-    fill(bench, 0, 16);
+    fill(bench, PAGE_INDEX, 0, 16);
 }
 
 static void real_mode(struct bench *bench)
@@ -143,8 +159,8 @@ static void real_mode(struct bench *bench)
 static void blocks_off(struct bench *bench)
 {
     start(bench, SMALL_SDR1);
-    map_page(bench);
-    fill(bench, 0, 15);
+    map_page(bench, PAGE_INDEX);
+    fill(bench, PAGE_INDEX, 0, 15);
 }
 
 static void real_mode_blocks_off(struct bench *bench)
@@ -157,14 +173,31 @@ static void block_hit(struct bench *bench)
 {
     page_at(bench, 0);
     bench->address = BLOCK_ADDRESS;
-    plain_access(bench->registers, MMU_REGISTERS_SIZE, bench->mode, bench->kind, bench->address, bench->table,
-                 bench->table_len, bench->answer, MMU_ANSWER_SIZE);
-    require(mmu_get_word(bench->answer, MMU_ANSWER_PHYSICAL) == 0x30012345u, "the fourth block is not hit");
+    access_at(bench, &contender, bench->address);
+    require(mmu_get_word(bench->access_answer, MMU_ANSWER_PHYSICAL) == 0x30012345u
+                && mmu_get_word(bench->access_answer, MMU_ANSWER_DETAIL) == 3, "the fourth block is not hit");
 }
 
 static void storing(struct bench *bench)
 {
     page_at(bench, 0);
+    bench->kind = MMU_STORE;
+}
+
+/* Four bytes at the end of the page and four in the next. */
+static void over_edge(struct bench *bench)
+{
+    page_at(bench, 0);
+    put_page(bench, PAGE_INDEX + 1, 0);
+    bench->address = (PAGE_ADDRESS | 0xFFF) - 3;
+    bench->length = 8;
+    access_at(bench, &contender, bench->address);
+    require(mmu_get_word(bench->access_answer, MMU_ANSWER_SECOND_BYTES) == 4, "the operand is not over the edge");
+}
+
+static void storing_over_edge(struct bench *bench)
+{
+    over_edge(bench);
     bench->kind = MMU_STORE;
 }
 
@@ -176,7 +209,7 @@ static void empty_groups(struct bench *bench)
 static void last_place_free(struct bench *bench)
 {
     start(bench, SMALL_SDR1);
-    fill(bench, 0, 15);
+    fill(bench, PAGE_INDEX, 0, 15);
 }
 
 static uint32_t next_random(uint32_t *state)
@@ -213,12 +246,6 @@ static void working_set_large(struct bench *bench) { working_set(bench, LARGE_SD
 
 /* ---- Running: each gives the sum of its result numbers ------------------------------------------ */
 
-static inline uint32_t access_at(struct bench *bench, const struct calls *calls, uint32_t address)
-{
-    return calls->access(bench->registers, MMU_REGISTERS_SIZE, bench->mode, bench->kind, address, bench->table,
-                         bench->table_len, bench->answer, MMU_ANSWER_SIZE);
-}
-
 static uint32_t run_access(struct bench *bench, const struct calls *calls, uint32_t count)
 {
     uint32_t sum = 0;
@@ -227,12 +254,13 @@ static uint32_t run_access(struct bench *bench, const struct calls *calls, uint3
     return sum;
 }
 
-/* The entry is written back unmarked before each store, so that each sets C anew. */
+/* The entries are written back unmarked before each store, so that each sets C anew. */
 static uint32_t run_store(struct bench *bench, const struct calls *calls, uint32_t count)
 {
-    uint32_t sum = 0;
+    uint32_t sum = 0, i;
     while (count-- > 0) {
-        memcpy(bench->entry, bench->unmarked, MMU_ENTRY_SIZE);
+        for (i = 0; i < bench->pages; i++)
+            memcpy(bench->entries[i], bench->unmarked[i], MMU_ENTRY_SIZE);
         sum += access_at(bench, calls, bench->address);
     }
     return sum;
@@ -325,6 +353,8 @@ static const struct row rows[] = {
     { "access, page hit, primary entry 0, blocks off", blocks_off, run_access, MMU_DONE, 16 },
     { "access, no match", no_match, run_access, MMU_DATA_STORAGE_FAULT, 16 },
     { "access, a store that sets C", storing, run_store, MMU_DONE, 16 },
+    { "access over a page edge, both by pages", over_edge, run_access, MMU_DONE, 16 },
+    { "access over a page edge, a store that sets C twice", storing_over_edge, run_store, MMU_DONE, 16 },
     { "access, random pages, 64 KB table", working_set_small, run_working_set, MMU_DONE, ACCESSES },
     { "access, random pages, 512 KB table", working_set_large, run_working_set, MMU_DONE, ACCESSES },
     { "map and unmap, empty groups", empty_groups, run_map_unmap, MMU_DONE, 16 },

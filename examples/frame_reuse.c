@@ -49,7 +49,7 @@ struct entry {
 static struct entry entry_at(uint32_t group, uint32_t number)
 {
     struct entry entry;
-    size_t at = (size_t)group * MMU_GROUP_SIZE + number * MMU_ENTRY_SIZE;
+    size_t at = MMU_ENTRY_OFFSET(group, number);
     uint32_t first = mmu_get_word(table, at + MMU_ENTRY_FIRST);
     uint32_t second = mmu_get_word(table, at + MMU_ENTRY_SECOND);
     want("unpack", mmu_unpack(first, second, entry.fields, sizeof entry.fields), MMU_DONE);
@@ -140,11 +140,11 @@ static void unmap(uint32_t vsid, uint32_t page, uint32_t second)
     want("second word", mmu_get_word(answer, MMU_ANSWER_SECOND), second);
 }
 
-/* An access of the supervisor with data translation on. */
+/* An access of the supervisor to one byte with data translation on. */
 static struct mmu_answer access_data(uint32_t kind, uint32_t address)
 {
     struct mmu_answer got;
-    uint32_t result = mmu_access(registers, sizeof registers, MMU_MODE_DR, kind, address, table, sizeof table,
+    uint32_t result = mmu_access(registers, sizeof registers, MMU_MODE_DR, kind, address, 1, table, sizeof table,
                                  access_answer, sizeof access_answer);
     got = mmu_read_answer(access_answer);
     want("result word", got.result, result);
@@ -154,29 +154,36 @@ static struct mmu_answer access_data(uint32_t kind, uint32_t address)
     return got;
 }
 
+/* Done by the first entry of the secondary group, with key 0 and PP 2. */
 static void done_access(uint32_t kind, uint32_t address, uint32_t physical)
 {
     struct mmu_answer got = access_data(kind, address);
-    printf("physical address %08X\n", (unsigned)got.physical);
+    printf("physical address %08X by entry %u of group %03X\n", (unsigned)got.physical, (unsigned)got.entry,
+           (unsigned)got.group);
     want("result", got.result, MMU_DONE);
     want("physical address", got.physical, physical);
     want("attributes", got.attributes, MMU_ATTRIBUTE_M);
+    want("rule", got.rule, MMU_RULE_DONE);
+    want("key and PP", got.detail, 2);
+    want("group", got.group, SECONDARY);
+    want("entry", got.entry, 0);
 }
 
 static void faulting_access(uint32_t kind, uint32_t address, uint32_t fault)
 {
     struct mmu_answer got = access_data(kind, address);
-    printf("%s: DSISR %08X, continue at %03X\n", mmu_cause_name(got.fault), (unsigned)got.fault, (unsigned)got.offset);
+    printf("%s: DSISR %08X, continue at %03X\n", mmu_rule_name(got.rule), (unsigned)got.fault, (unsigned)got.offset);
     want("result", got.result, MMU_DATA_STORAGE_FAULT);
     want("fault word", got.fault, fault);
     want("interrupt offset", got.offset, MMU_OFFSET_DATA);
+    want("rule", got.rule, MMU_RULE_NO_MATCH);
 }
 
 /* ---- The story -------------------------------------------------------------------------------- */
 
 static void want_entry(uint32_t group, uint32_t number, uint32_t first, uint32_t second)
 {
-    size_t at = (size_t)group * MMU_GROUP_SIZE + number * MMU_ENTRY_SIZE;
+    size_t at = MMU_ENTRY_OFFSET(group, number);
     want("first entry word", mmu_get_word(table, at + MMU_ENTRY_FIRST), first);
     want("second entry word", mmu_get_word(table, at + MMU_ENTRY_SECOND), second);
 }

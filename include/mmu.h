@@ -20,7 +20,7 @@ extern "C" {
 
 /* The version; CHANGELOG.md says what a caller must change from one to the next. */
 #define MMU_VERSION_MAJOR 0
-#define MMU_VERSION_MINOR 2
+#define MMU_VERSION_MINOR 4
 
 /* ---- Results ---------------------------------------------------------------------------------- */
 
@@ -40,6 +40,7 @@ extern "C" {
 #define MMU_REFUSED_FULL 9u           /* Map: all 16 entries of the page's two groups have V = 1. */
 #define MMU_REFUSED_CONTRADICTION 10u /* Contradicting matches: they differ in more than H (access, look). */
 #define MMU_REFUSED_LENT_LENGTH 11u   /* Registers, answer, entry or fields of another length; nothing is written. */
+#define MMU_REFUSED_OPERAND_LENGTH 12u /* Access: an operand of 0 or over MMU_LONGEST_OPERAND bytes. */
 
 /* ---- An access -------------------------------------------------------------------------------- */
 
@@ -60,7 +61,10 @@ extern "C" {
 #define MMU_ATTRIBUTE_G 1u    /* G: guarded. */
 #define MMU_ATTRIBUTES_REAL 3u /* Attributes of every access in real mode: M and G. */
 
-/* Fault word, for DSISR (data) or SRR1 (fetch): a sum by cause; only the first cause met counts. */
+/*
+ * Fault word, for DSISR (data) or SRR1 (fetch): a sum by cause; only the first cause met counts. The rule of the answer
+ * tells N from G, and a block's PP from a page's.
+ */
 #define MMU_FAULT_NO_MATCH 0x40000000u   /* No match: the page is not in the table. */
 #define MMU_FAULT_NO_EXECUTE 0x10000000u /* N or G: a fetch from a no-execute segment or a guarded page. */
 #define MMU_FAULT_PROTECTION 0x08000000u /* Protection: PP, with the key where it is a page, does not allow it. */
@@ -70,17 +74,45 @@ extern "C" {
 #define MMU_OFFSET_DATA 0x300u        /* Interrupt offset of a data storage fault. */
 #define MMU_OFFSET_INSTRUCTION 0x400u /* Interrupt offset of an instruction storage fault. */
 
-/* ---- Answer: four words ----------------------------------------------------------------------- */
+/* The operand: the bytes that one access names. Those that lie in a page, 4 KB of effective addresses, are a part. */
+#define MMU_PAGE_SIZE 4096u      /* Bytes of a page. */
+#define MMU_LONGEST_OPERAND 128u /* The most bytes of an operand, so that it has one part or, over a page edge, two. */
+
+/* Rule: the step that decided an access, the first whose condition holds; 0 to 6, in the order of the steps. */
+#define MMU_RULE_REAL 0u       /* Real mode: done without translation. */
+#define MMU_RULE_BLOCK 1u      /* Block (BAT): done by it, or a protection fault by its PP. */
+#define MMU_RULE_NO_EXECUTE 2u /* No-execute: a fetch from a segment with N, a fault. */
+#define MMU_RULE_NO_MATCH 3u   /* No match: no entry (PTE) in either group, a fault. */
+#define MMU_RULE_GUARDED 4u    /* Guarded: a fetch from a page with G, a fault. */
+#define MMU_RULE_PROTECTION 5u /* Page protection: key and PP of a page do not allow it, a fault. */
+#define MMU_RULE_DONE 6u       /* Page done: done by a page. */
+
+/* ---- Answer: four words of unmap and look, twelve of an access -------------------------------- */
 
 #define MMU_ANSWER_SIZE 16u        /* Length of the answer of unmap and look in bytes. */
-#define MMU_ACCESS_ANSWER_SIZE 16u /* Length of the answer of an access; it grows with a later version. */
+#define MMU_ACCESS_ANSWER_SIZE 48u /* Length of the answer of an access in bytes. */
 #define MMU_ANSWER_RESULT 0u      /* Byte offset of the result number. */
-#define MMU_ANSWER_PHYSICAL 4u    /* Physical address, after an access that is done. */
+#define MMU_ANSWER_PHYSICAL 4u    /* Physical address of the operand's first byte, after an access that is done. */
 #define MMU_ANSWER_FAULT 4u       /* Fault word, after a fault. */
 #define MMU_ANSWER_SECOND 4u      /* Second entry word, after a look or an unmap that is done. */
 #define MMU_ANSWER_ATTRIBUTES 8u  /* Attributes, after an access that is done. */
 #define MMU_ANSWER_OFFSET 8u      /* Interrupt offset, after a fault. */
-#define MMU_ANSWER_EFFECTIVE 12u  /* Effective address (DAR), after an access that is done or a fault. */
+#define MMU_ANSWER_EFFECTIVE 12u  /* Effective address: the operand's, or (DAR) of the part that faults. */
+
+/* Of an access that is done; all four are zero after a fault, the three of a second part also where there is none. */
+#define MMU_ANSWER_SECOND_PHYSICAL 16u   /* Physical address of the second part's first byte. */
+#define MMU_ANSWER_SECOND_ATTRIBUTES 20u /* Attributes of the second part. */
+#define MMU_ANSWER_BYTES 24u             /* Bytes in the first part: all of an operand within one page. */
+#define MMU_ANSWER_SECOND_BYTES 28u      /* Bytes in the second part. */
+
+/*
+ * The record of the rule that decided: of the first part where the access is done, of the part that faults after a
+ * fault. All four are zero after a refusal, whose record looks like that of real mode: ask the result first.
+ */
+#define MMU_ANSWER_RULE 32u   /* Rule, MMU_RULE_REAL to MMU_RULE_DONE. */
+#define MMU_ANSWER_DETAIL 36u /* Rule 1: number of the block pair on its side, 0 to 3; 5 and 6: key * 4 + PP; else 0. */
+#define MMU_ANSWER_GROUP 40u  /* Rules 4 to 6: number of the group (PTEG) where the entry used stands; else 0. */
+#define MMU_ANSWER_ENTRY 44u  /* Rules 4 to 6: number of that entry in the group, 0 to 7; else 0. */
 
 /* ---- Register page: 33 words ------------------------------------------------------------------ */
 
@@ -127,6 +159,8 @@ extern "C" {
 #define MMU_ENTRY_SIZE 8u     /* Length of an entry in bytes. */
 #define MMU_ENTRY_FIRST 0u    /* Byte offset of an entry's first word. */
 #define MMU_ENTRY_SECOND 4u   /* Byte offset of an entry's second word. */
+/* Byte offset of an entry in the table, by the group's number and its own in the group, 0 to 7. */
+#define MMU_ENTRY_OFFSET(group, entry) ((size_t)MMU_GROUP_SIZE * (group) + MMU_ENTRY_SIZE * (entry))
 
 #define MMU_FIRST_V 0x80000000u    /* First word, V: the entry is valid. */
 #define MMU_FIRST_VSID_SHIFT 7u    /* First word, VSID: its place, bits 1 to 24. */
@@ -226,19 +260,24 @@ uint32_t mmu_look(uint32_t sdr1, uint32_t vsid, uint32_t page_index, const uint8
                   uint8_t *answer, size_t answer_len);
 
 /*
- * Access: translates one address; done by a page, it sets R there, and C on a store.
+ * Access: translates an operand of 1 to MMU_LONGEST_OPERAND bytes. Over a page edge it has two parts, each translated
+ * by itself; the address after FFFFFFFF is 00000000. The first part that faults or is refused answers alone. Only where
+ * every part is done are entries marked: each part that a page did sets R in its entry, and C too on a store. The
+ * answer also has the rule that decided, with the block or the entry that it went by.
  *   registers  the register page, MMU_REGISTERS_SIZE bytes
  *   mode       sum of MMU_MODE_PR, MMU_MODE_IR, MMU_MODE_DR
  *   kind       MMU_FETCH, MMU_LOAD or MMU_STORE
- *   address    the effective address of an operand within one page
+ *   address    the effective address of the operand's first byte
+ *   length     how many bytes it has, for every kind of access; no alignment is asked for
  *   table      the table, MMU_TABLE_SIZE(SDR1 of the page) bytes, in real mode too
  *   answer     MMU_ACCESS_ANSWER_SIZE bytes, written; mmu_read_answer reads it
  * Faults: MMU_DATA_STORAGE_FAULT of a load or store, MMU_INSTRUCTION_STORAGE_FAULT of a fetch.
- * Refusals: MMU_REFUSED_LENT_LENGTH, MMU_REFUSED_ARGUMENT (mode, kind), MMU_REFUSED_SDR1, MMU_REFUSED_BLOCK,
- *   MMU_REFUSED_BLOCKS_SHARE, MMU_REFUSED_SEGMENT, MMU_REFUSED_TABLE_LENGTH, MMU_REFUSED_CONTRADICTION.
+ * Refusals: MMU_REFUSED_LENT_LENGTH, MMU_REFUSED_ARGUMENT (mode, kind), MMU_REFUSED_OPERAND_LENGTH, MMU_REFUSED_SDR1,
+ *   MMU_REFUSED_BLOCK, MMU_REFUSED_BLOCKS_SHARE, MMU_REFUSED_SEGMENT, MMU_REFUSED_TABLE_LENGTH,
+ *   MMU_REFUSED_CONTRADICTION.
  */
 uint32_t mmu_access(const uint8_t *registers, size_t registers_len, uint32_t mode, uint32_t kind, uint32_t address,
-                    uint8_t *table, size_t table_len, uint8_t *answer, size_t answer_len);
+                    uint32_t length, uint8_t *table, size_t table_len, uint8_t *answer, size_t answer_len);
 
 /*
  * Packs nine fields into the two words of an entry; two zero words after MMU_REFUSED_ARGUMENT.
@@ -278,14 +317,25 @@ static inline void mmu_put_word(uint8_t *bytes, size_t offset, uint32_t word)
     bytes[offset + 3] = (uint8_t)word;
 }
 
-/* The answer of an access as numbers; what its result does not have is 0. */
+/*
+ * The answer of an access as numbers; what its result does not have is 0. The last four say which rule decided: the
+ * first part's where it is done, that of the part that faults after a fault, and nothing after a refusal.
+ */
 struct mmu_answer {
-    uint32_t result;     /* The result number. */
-    uint32_t physical;   /* Physical address, of an access that is done. */
-    uint32_t attributes; /* WIMG, of an access that is done. */
-    uint32_t fault;      /* Fault word, for DSISR or SRR1, of a fault. */
-    uint32_t offset;     /* Interrupt offset, of a fault. */
-    uint32_t effective;  /* Effective address, of an access that is done or a fault. */
+    uint32_t result;            /* The result number. */
+    uint32_t physical;          /* Physical address, of an access that is done. */
+    uint32_t attributes;        /* WIMG, of an access that is done. */
+    uint32_t fault;             /* Fault word, for DSISR or SRR1, of a fault. */
+    uint32_t offset;            /* Interrupt offset, of a fault. */
+    uint32_t effective;         /* Effective address, of an access that is done or a fault. */
+    uint32_t bytes;             /* Bytes of the operand that lie from `physical` on, of an access that is done. */
+    uint32_t second_physical;   /* Physical address of the bytes after the page edge, where there is one. */
+    uint32_t second_attributes; /* WIMG of those bytes. */
+    uint32_t second_bytes;      /* How many they are; 0 where the operand lies within one page. */
+    uint32_t rule;              /* MMU_RULE_.., of an access that is done or a fault. */
+    uint32_t detail;            /* Rule 1: number of the block pair; rules 5 and 6: mmu_detail_key and mmu_detail_pp. */
+    uint32_t group;             /* Rules 4 to 6: group of the entry used; it is at MMU_ENTRY_OFFSET(group, entry). */
+    uint32_t entry;             /* Rules 4 to 6: its number in the group. */
 };
 
 /* Reads the MMU_ACCESS_ANSWER_SIZE bytes that an access wrote; after MMU_REFUSED_LENT_LENGTH it wrote none. */
@@ -300,7 +350,27 @@ static inline struct mmu_answer mmu_read_answer(const uint8_t *answer)
     read.fault = done ? 0u : mmu_get_word(answer, MMU_ANSWER_FAULT);
     read.offset = done ? 0u : mmu_get_word(answer, MMU_ANSWER_OFFSET);
     read.effective = mmu_get_word(answer, MMU_ANSWER_EFFECTIVE);
+    read.bytes = mmu_get_word(answer, MMU_ANSWER_BYTES);
+    read.second_physical = mmu_get_word(answer, MMU_ANSWER_SECOND_PHYSICAL);
+    read.second_attributes = mmu_get_word(answer, MMU_ANSWER_SECOND_ATTRIBUTES);
+    read.second_bytes = mmu_get_word(answer, MMU_ANSWER_SECOND_BYTES);
+    read.rule = mmu_get_word(answer, MMU_ANSWER_RULE);
+    read.detail = mmu_get_word(answer, MMU_ANSWER_DETAIL);
+    read.group = mmu_get_word(answer, MMU_ANSWER_GROUP);
+    read.entry = mmu_get_word(answer, MMU_ANSWER_ENTRY);
     return read;
+}
+
+/* The key in the detail of MMU_RULE_PROTECTION and MMU_RULE_DONE: Ks for the supervisor, Kp for the user. */
+static inline uint32_t mmu_detail_key(uint32_t detail)
+{
+    return detail >> 2;
+}
+
+/* The page's PP in the same detail. */
+static inline uint32_t mmu_detail_pp(uint32_t detail)
+{
+    return detail & 3u;
 }
 
 /* A result number in words. */
@@ -321,6 +391,7 @@ static inline const char *mmu_result_name(uint32_t result)
     case MMU_REFUSED_FULL: return "refused: both groups are full";
     case MMU_REFUSED_CONTRADICTION: return "refused: contradicting matches";
     case MMU_REFUSED_LENT_LENGTH: return "refused: lent length wrong";
+    case MMU_REFUSED_OPERAND_LENGTH: return "refused: operand of 0 or over 128 bytes";
     default: return "unknown result";
     }
 }
@@ -333,6 +404,21 @@ static inline const char *mmu_cause_name(uint32_t fault)
     case MMU_FAULT_NO_EXECUTE: return "no execute or guarded";
     case MMU_FAULT_PROTECTION: return "protection";
     default: return "unknown cause";
+    }
+}
+
+/* A rule in words; of an access that was refused there is none to name. */
+static inline const char *mmu_rule_name(uint32_t rule)
+{
+    switch (rule) {
+    case MMU_RULE_REAL: return "real mode";
+    case MMU_RULE_BLOCK: return "block";
+    case MMU_RULE_NO_EXECUTE: return "no-execute";
+    case MMU_RULE_NO_MATCH: return "no match";
+    case MMU_RULE_GUARDED: return "guarded";
+    case MMU_RULE_PROTECTION: return "page protection";
+    case MMU_RULE_DONE: return "page done";
+    default: return "unknown rule";
     }
 }
 

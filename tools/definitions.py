@@ -29,14 +29,14 @@ START = [
     ("calls", "WithoutTable", ["checkCall", "setRegisterCall", "packCall", "unpackCall"]),
     ("calls", "Demands", ["Demands"]),
 ]
-ROWS = {"Tables", "PageRows", "FourGroups", "Rows", "Cases"}
+ROWS = {"Tables", "PageRows", "OperandRows", "FourGroups", "Rows", "Cases"}
 STATEMENTS = "Statements"
 ORDER = [
     ("Numbers", ["numbers/Numbers"]),
     ("Words", ["words/Bits", "words/Ones", "words/Below", "words/Words"]),
     ("Entries", ["entry/Entry"]),
     ("Registers", ["register_words/Sdr1", "register_words/Segment", "register_words/Block", "registers/Rules", "registers/Set"]),
-    ("Access", ["protection/Access", "protection/Protection", "protection/Fault", "translation/Steps"]),
+    ("Access", ["protection/Access", "protection/Protection", "protection/Fault", "translation/Steps", "translation/Decision", "translation/Operand"]),
     ("Groups and matches", ["groups/Page", "groups/Hash", "groups/Group", "tables/Matches", "tables/Layout", "matches/Search"]),
     ("Calls on bytes", ["calls/Request", "calls/Rules", "calls/Answers", "calls/OnBytes", "calls/Lent", "calls/WithoutTable"]),
     ("The finite map", ["placement/Lists", "placement/FiniteMap", "placement/Placement", "calls/OnMap", "tables/Runs", "calls/Histories"]),

@@ -71,17 +71,21 @@ static void give_back(struct slice *slice)
     free(slice->before);
 }
 
-/* Register page, table and answer of the given lengths: SDR1 and segment 0 are those of the twelve cases, all blocks off. */
+/*
+ * Register page, table and two answers, one of unmap and look and one of an access, of the given lengths: SDR1 and
+ * segment 0 are those of the twelve cases, all blocks off.
+ */
 struct lent {
-    struct slice registers, table, answer;
+    struct slice registers, table, answer, access_answer;
 };
 
-static struct lent lend_all(size_t registers_len, size_t table_len, size_t answer_len)
+static struct lent lend_all(size_t registers_len, size_t table_len, size_t answer_len, size_t access_answer_len)
 {
     struct lent lent;
     lent.registers = lend(registers_len, 0);
     lent.table = lend(table_len, 0);
     lent.answer = lend(answer_len, 0xA5);
+    lent.access_answer = lend(access_answer_len, 0xA5);
     if (registers_len == MMU_REGISTERS_SIZE) {
         mmu_put_word(lent.registers.bytes, MMU_REGISTER_OFFSET(MMU_REGISTER_SDR1), SDR1);
         mmu_put_word(lent.registers.bytes, MMU_REGISTER_OFFSET(MMU_REGISTER_SEGMENT(0)), VSID);
@@ -92,7 +96,7 @@ static struct lent lend_all(size_t registers_len, size_t table_len, size_t answe
 
 static struct lent lend_right(void)
 {
-    return lend_all(MMU_REGISTERS_SIZE, TABLE, MMU_ANSWER_SIZE);
+    return lend_all(MMU_REGISTERS_SIZE, TABLE, MMU_ANSWER_SIZE, MMU_ACCESS_ANSWER_SIZE);
 }
 
 static void give_back_all(struct lent *lent)
@@ -100,6 +104,7 @@ static void give_back_all(struct lent *lent)
     give_back(&lent->registers);
     give_back(&lent->table);
     give_back(&lent->answer);
+    give_back(&lent->access_answer);
 }
 
 static int answer_is(const struct slice *answer, uint32_t first, uint32_t second, uint32_t third, uint32_t fourth)
@@ -108,16 +113,53 @@ static int answer_is(const struct slice *answer, uint32_t first, uint32_t second
         && mmu_get_word(answer->bytes, 8) == third && mmu_get_word(answer->bytes, 12) == fourth;
 }
 
-/* After a refusal: table and registers as they were; a lent answer untouched at 11, else the number and zeros. */
-static int refused(const struct lent *lent, uint32_t got, uint32_t number, int answers)
+/* Words 4 to 7 of an access's answer. */
+static int second_is(const struct lent *lent, uint32_t physical, uint32_t attributes, uint32_t bytes,
+                     uint32_t second_bytes)
 {
-    if (got != number || !unchanged(&lent->registers) || !unchanged(&lent->table))
-        return 0;
-    if (!answers)
-        return 1;
+    const uint8_t *answer = lent->access_answer.bytes;
+    return mmu_get_word(answer, 16) == physical && mmu_get_word(answer, 20) == attributes
+        && mmu_get_word(answer, 24) == bytes && mmu_get_word(answer, 28) == second_bytes;
+}
+
+/* Words 8 to 11: the rule that decided. */
+static int rule_is(const struct lent *lent, uint32_t rule, uint32_t detail, uint32_t group, uint32_t entry)
+{
+    const uint8_t *answer = lent->access_answer.bytes;
+    return mmu_get_word(answer, 32) == rule && mmu_get_word(answer, 36) == detail && mmu_get_word(answer, 40) == group
+        && mmu_get_word(answer, 44) == entry;
+}
+
+/* A done access to one byte, and one that faulted. */
+static int done_is(const struct lent *lent, uint32_t physical, uint32_t attributes, uint32_t address)
+{
+    return answer_is(&lent->access_answer, 0, physical, attributes, address) && second_is(lent, 0, 0, 1, 0);
+}
+
+static int fault_is(const struct lent *lent, uint32_t result, uint32_t fault, uint32_t offset, uint32_t address)
+{
+    return answer_is(&lent->access_answer, result, fault, offset, address) && second_is(lent, 0, 0, 0, 0);
+}
+
+/* After a refusal: the number, table and registers as they were. */
+static int left(const struct lent *lent, uint32_t got, uint32_t number)
+{
+    return got == number && unchanged(&lent->registers) && unchanged(&lent->table);
+}
+
+/* The same of a call that answers: the answer untouched at 11, else the number and zeros. */
+static int refused(const struct lent *lent, uint32_t got, uint32_t number)
+{
     if (number == MMU_REFUSED_LENT_LENGTH)
-        return unchanged(&lent->answer);
-    return answer_is(&lent->answer, number, 0, 0, 0);
+        return left(lent, got, number) && unchanged(&lent->answer);
+    return left(lent, got, number) && answer_is(&lent->answer, number, 0, 0, 0);
+}
+
+static int access_refused(const struct lent *lent, uint32_t got, uint32_t number)
+{
+    if (number == MMU_REFUSED_LENT_LENGTH)
+        return left(lent, got, number) && unchanged(&lent->access_answer);
+    return left(lent, got, number) && fault_is(lent, number, 0, 0, 0) && rule_is(lent, 0, 0, 0, 0);
 }
 
 /* ---- The calls on what is lent ----------------------------------------------------------------- */
@@ -142,10 +184,15 @@ static uint32_t protect(struct lent *l, uint32_t sdr1, uint32_t vsid, uint32_t p
     return mmu_protect(sdr1, vsid, page, pp, l->table.bytes, l->table.len);
 }
 
+static uint32_t access_operand(struct lent *l, uint32_t mode, uint32_t kind, uint32_t address, uint32_t length)
+{
+    return mmu_access(l->registers.bytes, l->registers.len, mode, kind, address, length, l->table.bytes, l->table.len,
+                      l->access_answer.bytes, l->access_answer.len);
+}
+
 static uint32_t access_at(struct lent *l, uint32_t mode, uint32_t kind, uint32_t address)
 {
-    return mmu_access(l->registers.bytes, l->registers.len, mode, kind, address, l->table.bytes, l->table.len,
-                      l->answer.bytes, l->answer.len);
+    return access_operand(l, mode, kind, address, 1);
 }
 
 /* ---- Lengths ---------------------------------------------------------------------------------- */
@@ -155,29 +202,36 @@ static void test_wrong_register_lengths(void)
     static const size_t lengths[] = { 0, 1, 4, 131, 133, 196, 264 };
     size_t i;
     for (i = 0; i < sizeof lengths / sizeof lengths[0]; i++) {
-        struct lent l = lend_all(lengths[i], TABLE, MMU_ANSWER_SIZE);
+        struct lent l = lend_all(lengths[i], TABLE, MMU_ANSWER_SIZE, MMU_ACCESS_ANSWER_SIZE);
         uint32_t got = mmu_check(l.registers.bytes, l.registers.len);
-        expect(refused(&l, got, 11, 0), "check with another length", got);
+        expect(left(&l, got, 11), "check with another length", got);
         got = mmu_set_register(l.registers.bytes, l.registers.len, 99, 0xFFFFFFFFu);
-        expect(refused(&l, got, 11, 0), "set_register with another length, before 6", got);
+        expect(left(&l, got, 11), "set_register with another length, before 6", got);
         got = access_at(&l, 99, 99, ADDRESS);
-        expect(refused(&l, got, 11, 1), "access with a register page of another length, before 6", got);
+        expect(access_refused(&l, got, 11), "access with a register page of another length, before 6", got);
         give_back_all(&l);
     }
 }
 
+/* Every length up to twice the right one, 0 as NULL. */
 static void test_wrong_answer_lengths(void)
 {
-    static const size_t lengths[] = { 0, 1, 4, 15, 17, 32 };
-    size_t i;
-    for (i = 0; i < sizeof lengths / sizeof lengths[0]; i++) {
-        struct lent l = lend_all(MMU_REGISTERS_SIZE, TABLE, lengths[i]);
-        uint32_t got = unmap(&l, 0xFFFFFFFFu, 0xFFFFFFFFu, 0xFFFFFFFFu);
-        expect(refused(&l, got, 11, 1), "unmap with another answer length, before 6 and 2", got);
-        got = look(&l, 0xFFFFFFFFu, 0xFFFFFFFFu, 0xFFFFFFFFu);
-        expect(refused(&l, got, 11, 1), "look with another answer length, before 6 and 2", got);
-        got = access_at(&l, 8, 3, ADDRESS);
-        expect(refused(&l, got, 11, 1), "access with another answer length, before 6", got);
+    size_t len;
+    for (len = 0; len <= 2 * MMU_ACCESS_ANSWER_SIZE; len++) {
+        struct lent l = lend_all(MMU_REGISTERS_SIZE, TABLE, len, len);
+        uint32_t got;
+        if (len != MMU_ANSWER_SIZE) {
+            got = unmap(&l, 0xFFFFFFFFu, 0xFFFFFFFFu, 0xFFFFFFFFu);
+            expect(refused(&l, got, 11), "unmap with another answer length, before 6 and 2", got);
+            got = look(&l, 0xFFFFFFFFu, 0xFFFFFFFFu, 0xFFFFFFFFu);
+            expect(refused(&l, got, 11), "look with another answer length, before 6 and 2", got);
+        }
+        if (len != MMU_ACCESS_ANSWER_SIZE) {
+            got = access_operand(&l, 8, 3, ADDRESS, 0);
+            expect(access_refused(&l, got, 11), "access with another answer length, before 6 and 12", got);
+            got = access_at(&l, 0, MMU_LOAD, ADDRESS);
+            expect(access_refused(&l, got, 11), "access with another answer length alone", got);
+        }
         give_back_all(&l);
     }
 }
@@ -187,19 +241,19 @@ static void test_wrong_table_lengths(void)
     static const size_t lengths[] = { 0, 1, 64, 65535, 65537, 131072 };
     size_t i;
     for (i = 0; i < sizeof lengths / sizeof lengths[0]; i++) {
-        struct lent l = lend_all(MMU_REGISTERS_SIZE, lengths[i], MMU_ANSWER_SIZE);
+        struct lent l = lend_all(MMU_REGISTERS_SIZE, lengths[i], MMU_ANSWER_SIZE, MMU_ACCESS_ANSWER_SIZE);
         uint32_t got = mmu_clear(SDR1, l.table.bytes, l.table.len);
-        expect(refused(&l, got, 1, 0), "clear with another table length", got);
+        expect(left(&l, got, 1), "clear with another table length", got);
         got = map(&l, SDR1, VSID, PAGE, 1, 2, 2);
-        expect(refused(&l, got, 1, 0), "map with another table length", got);
+        expect(left(&l, got, 1), "map with another table length", got);
         got = protect(&l, SDR1, VSID, PAGE, 2);
-        expect(refused(&l, got, 1, 0), "protect with another table length", got);
+        expect(left(&l, got, 1), "protect with another table length", got);
         got = unmap(&l, SDR1, VSID, PAGE);
-        expect(refused(&l, got, 1, 1), "unmap with another table length", got);
+        expect(refused(&l, got, 1), "unmap with another table length", got);
         got = look(&l, SDR1, VSID, PAGE);
-        expect(refused(&l, got, 1, 1), "look with another table length", got);
+        expect(refused(&l, got, 1), "look with another table length", got);
         got = access_at(&l, 0, MMU_LOAD, ADDRESS);
-        expect(refused(&l, got, 1, 1), "access in real mode with another table length", got);
+        expect(access_refused(&l, got, 1), "access in real mode with another table length", got);
         give_back_all(&l);
     }
 }
@@ -233,16 +287,16 @@ static void test_page_numbers(void)
     for (i = 0; i < 4; i++) {
         struct lent l = lend_right();
         uint32_t vsid = beyond(1u << 24, i), page = beyond(1u << 16, i);
-        expect(refused(&l, map(&l, 5, vsid, PAGE, 1, 2, 2), 6, 0), "map with a large VSID, before 2", vsid);
-        expect(refused(&l, map(&l, SDR1, VSID, page, 1, 2, 2), 6, 0), "map with a large page index", page);
-        expect(refused(&l, map(&l, SDR1, VSID, PAGE, beyond(1u << 20, i), 2, 2), 6, 0), "map with a large RPN", 0);
-        expect(refused(&l, map(&l, SDR1, VSID, PAGE, 1, beyond(16, i), 2), 6, 0), "map with a large WIMG", 0);
-        expect(refused(&l, map(&l, SDR1, VSID, PAGE, 1, 12 + (uint32_t)i, 2), 6, 0), "map with W and I", 0);
-        expect(refused(&l, map(&l, SDR1, VSID, PAGE, 1, 2, beyond(4, i)), 6, 0), "map with a large PP", 0);
-        expect(refused(&l, protect(&l, SDR1, VSID, PAGE, beyond(4, i)), 6, 0), "protect with a large PP", 0);
-        expect(refused(&l, protect(&l, 5, vsid, PAGE, 2), 6, 0), "protect with a large VSID, before 2", vsid);
-        expect(refused(&l, unmap(&l, 5, VSID, page), 6, 1), "unmap with a large page index, before 2", page);
-        expect(refused(&l, look(&l, 5, vsid, PAGE), 6, 1), "look with a large VSID, before 2", vsid);
+        expect(left(&l, map(&l, 5, vsid, PAGE, 1, 2, 2), 6), "map with a large VSID, before 2", vsid);
+        expect(left(&l, map(&l, SDR1, VSID, page, 1, 2, 2), 6), "map with a large page index", page);
+        expect(left(&l, map(&l, SDR1, VSID, PAGE, beyond(1u << 20, i), 2, 2), 6), "map with a large RPN", 0);
+        expect(left(&l, map(&l, SDR1, VSID, PAGE, 1, beyond(16, i), 2), 6), "map with a large WIMG", 0);
+        expect(left(&l, map(&l, SDR1, VSID, PAGE, 1, 12 + (uint32_t)i, 2), 6), "map with W and I", 0);
+        expect(left(&l, map(&l, SDR1, VSID, PAGE, 1, 2, beyond(4, i)), 6), "map with a large PP", 0);
+        expect(left(&l, protect(&l, SDR1, VSID, PAGE, beyond(4, i)), 6), "protect with a large PP", 0);
+        expect(left(&l, protect(&l, 5, vsid, PAGE, 2), 6), "protect with a large VSID, before 2", vsid);
+        expect(refused(&l, unmap(&l, 5, VSID, page), 6), "unmap with a large page index, before 2", page);
+        expect(refused(&l, look(&l, 5, vsid, PAGE), 6), "look with a large VSID, before 2", vsid);
         give_back_all(&l);
     }
 }
@@ -253,12 +307,41 @@ static void test_access_and_register_numbers(void)
     for (i = 0; i < 4; i++) {
         struct lent l = lend_right();
         uint32_t got;
-        expect(refused(&l, access_at(&l, beyond(8, i), MMU_LOAD, ADDRESS), 6, 1), "access with a large mode", 6);
-        expect(refused(&l, access_at(&l, 0, beyond(3, i), ADDRESS), 6, 1), "access with a large kind", 6);
+        expect(access_refused(&l, access_at(&l, beyond(8, i), MMU_LOAD, ADDRESS), 6), "access with a large mode", 6);
+        expect(access_refused(&l, access_at(&l, 0, beyond(3, i), ADDRESS), 6), "access with a large kind", 6);
         got = mmu_set_register(l.registers.bytes, l.registers.len, beyond(33, i), 0);
         expect(got == 6 && unchanged(&l.registers), "set_register with a large number", got);
         give_back_all(&l);
     }
+}
+
+/* 12 for no byte and for too many, all 32 bits of the length counted, in real mode too. */
+static void test_operand_lengths(void)
+{
+    static const uint32_t lengths[] = { 0, 129, 130, 255, 256, 257, 384, 0x10001, 0x80000001u, 0xFFFFFFFFu };
+    struct lent l = lend_right();
+    size_t i;
+    for (i = 0; i < sizeof lengths / sizeof lengths[0]; i++) {
+        uint32_t got = access_operand(&l, 0, MMU_LOAD, ADDRESS, lengths[i]);
+        expect(access_refused(&l, got, 12), "access in real mode with another operand length", got);
+        got = access_operand(&l, 7, MMU_FETCH, ADDRESS, lengths[i]);
+        expect(access_refused(&l, got, 12), "access with another operand length, before a fault", got);
+        got = access_operand(&l, 8, MMU_LOAD, ADDRESS, lengths[i]);
+        expect(access_refused(&l, got, 6), "access: 6 before 12", got);
+        mmu_put_word(l.registers.bytes, 0, 5);
+        remember(&l.registers);
+        got = access_operand(&l, 0, MMU_STORE, ADDRESS, lengths[i]);
+        expect(access_refused(&l, got, 12), "access: 12 before 2", got);
+        mmu_put_word(l.registers.bytes, 0, SDR1);
+        remember(&l.registers);
+    }
+    for (i = 1; i <= MMU_LONGEST_OPERAND; i++) {
+        uint32_t got = access_operand(&l, 0, MMU_LOAD, 0xFFFFFFC0u, (uint32_t)i), first = i < 64 ? (uint32_t)i : 64;
+        expect(got == 0 && answer_is(&l.access_answer, 0, 0xFFFFFFC0u, 3, 0xFFFFFFC0u)
+                   && second_is(&l, 0, i > 64 ? 3 : 0, first, (uint32_t)i - first) && rule_is(&l, 0, 0, 0, 0),
+               "access over FFFFFFFF", got);
+    }
+    give_back_all(&l);
 }
 
 static void test_pack_numbers(void)
@@ -308,9 +391,9 @@ static void test_register_words(void)
         expect(got == cases[i].result && unchanged(&l.registers), "check", got);
         got = access_at(&l, 0, MMU_FETCH, 0x12345678u);
         if (cases[i].result)
-            expect(refused(&l, got, cases[i].result, 1), "access with a register word that breaks a rule", got);
+            expect(access_refused(&l, got, cases[i].result), "access with a register word that breaks a rule", got);
         else
-            expect(got == 0 && answer_is(&l.answer, 0, 0x12345678u, 3, 0x12345678u), "access in real mode", got);
+            expect(got == 0 && done_is(&l, 0x12345678u, 3, 0x12345678u) && rule_is(&l, 0, 0, 0, 0), "real mode", got);
         give_back_all(&l);
     }
 }
@@ -322,24 +405,24 @@ static void test_order(void)
         { 0, 5, 2 }, { 17, 0x0000000Au, 3 }, { 25, 0x80000002u, 4 }, { 27, 0x80000002u, 4 }, { 4, 0x80000000u, 5 },
     };
     static const uint32_t mended[] = { SDR1, 0, 0, 0, 0 };
-    struct lent l = lend_all(MMU_REGISTERS_SIZE, 1, MMU_ANSWER_SIZE);
+    struct lent l = lend_all(MMU_REGISTERS_SIZE, 1, MMU_ANSWER_SIZE, MMU_ACCESS_ANSWER_SIZE);
     uint32_t got;
     size_t i;
     for (i = 0; i < 5; i++)
         mmu_put_word(l.registers.bytes, MMU_REGISTER_OFFSET(broken[i].number), broken[i].word);
     remember(&l.registers);
-    expect(refused(&l, access_at(&l, 8, 0, 0), 6, 1), "access: 6 before 2", 6);
+    expect(access_refused(&l, access_at(&l, 8, 0, 0), 6), "access: 6 before 2", 6);
     for (i = 0; i < 5; i++) {
         got = access_at(&l, 7, MMU_STORE, 0);
         if (i != 3)
-            expect(refused(&l, got, broken[i].result, 1), "access: the first broken rule", got);
+            expect(access_refused(&l, got, broken[i].result), "access: the first broken rule", got);
         mmu_put_word(l.registers.bytes, MMU_REGISTER_OFFSET(broken[i].number), mended[i]);
         remember(&l.registers);
     }
     got = access_at(&l, 7, MMU_STORE, 0);
-    expect(refused(&l, got, 1, 1), "access: 1 after the registers", got);
-    expect(refused(&l, mmu_clear(5, l.table.bytes, l.table.len), 2, 0), "clear: 2 before 1", 2);
-    expect(refused(&l, map(&l, 5, VSID, PAGE, 1, 2, 2), 2, 0), "map: 2 before 1", 2);
+    expect(access_refused(&l, got, 1), "access: 1 after the registers", got);
+    expect(left(&l, mmu_clear(5, l.table.bytes, l.table.len), 2), "clear: 2 before 1", 2);
+    expect(left(&l, map(&l, 5, VSID, PAGE, 1, 2, 2), 2), "map: 2 before 1", 2);
     give_back_all(&l);
 }
 
@@ -353,22 +436,135 @@ static void test_page_story(void)
     expect(map(&l, SDR1, VSID, PAGE, 0x12345, 2, 2) == 0 && mmu_get_word(entry, 0) == 0x86380E03u
                && mmu_get_word(entry, 4) == 0x12345012u, "map writes the entry", 0);
     expect(map(&l, SDR1, VSID, PAGE, 0x12345, 2, 2) == 7, "map of a mapped page", 7);
-    expect(access_at(&l, MMU_MODE_DR, MMU_STORE, ADDRESS) == 0 && answer_is(&l.answer, 0, 0x1234501Bu, 2, ADDRESS)
+    expect(access_at(&l, MMU_MODE_DR, MMU_STORE, ADDRESS) == 0 && done_is(&l, 0x1234501Bu, 2, ADDRESS)
                && mmu_get_word(entry, 4) == 0x12345192u, "store", 0);
     expect(look(&l, SDR1, VSID, PAGE) == 0 && answer_is(&l.answer, 0, 0x12345192u, 0, 0), "look", 0);
     expect(protect(&l, SDR1, VSID, PAGE, 3) == 0 && mmu_get_word(entry, 4) == 0x12345193u, "protect", 0);
     expect(access_at(&l, MMU_MODE_DR, MMU_STORE, ADDRESS) == 64
-               && answer_is(&l.answer, 64, 0x0A000000u, 0x300, ADDRESS), "store to a read-only page", 64);
+               && fault_is(&l, 64, 0x0A000000u, 0x300, ADDRESS), "store to a read-only page", 64);
     expect(unmap(&l, SDR1, VSID, PAGE) == 0 && answer_is(&l.answer, 0, 0x12345193u, 0, 0)
                && mmu_get_word(entry, 0) == 0 && mmu_get_word(entry, 4) == 0, "unmap", 0);
     expect(access_at(&l, MMU_MODE_DR, MMU_STORE, ADDRESS) == 64
-               && answer_is(&l.answer, 64, 0x42000000u, 0x300, ADDRESS), "store to an unmapped page", 64);
+               && fault_is(&l, 64, 0x42000000u, 0x300, ADDRESS), "store to an unmapped page", 64);
     expect(access_at(&l, MMU_MODE_IR, MMU_FETCH, ADDRESS) == 65
-               && answer_is(&l.answer, 65, 0x40000000u, 0x400, ADDRESS), "fetch from an unmapped page", 65);
+               && fault_is(&l, 65, 0x40000000u, 0x400, ADDRESS), "fetch from an unmapped page", 65);
     remember(&l.table);
-    expect(refused(&l, unmap(&l, SDR1, VSID, PAGE), 8, 1), "unmap of an unmapped page", 8);
-    expect(refused(&l, protect(&l, SDR1, VSID, PAGE, 1), 8, 0), "protect of an unmapped page", 8);
-    expect(refused(&l, look(&l, SDR1, VSID, PAGE), 8, 1), "look at an unmapped page", 8);
+    expect(refused(&l, unmap(&l, SDR1, VSID, PAGE), 8), "unmap of an unmapped page", 8);
+    expect(left(&l, protect(&l, SDR1, VSID, PAGE, 1), 8), "protect of an unmapped page", 8);
+    expect(refused(&l, look(&l, SDR1, VSID, PAGE), 8), "look at an unmapped page", 8);
+    give_back_all(&l);
+}
+
+/* ---- The rule that decided --------------------------------------------------------------------- */
+
+/* An access, and what it must answer: its result and the record. */
+struct rule_case {
+    uint32_t mode, kind, address, length, result, rule, detail, group, entry;
+};
+
+static void put_entry(struct lent *l, uint32_t group, uint32_t entry, uint32_t first, uint32_t second)
+{
+    mmu_put_word(l->table.bytes, MMU_ENTRY_OFFSET(group, entry), first);
+    mmu_put_word(l->table.bytes, MMU_ENTRY_OFFSET(group, entry) + MMU_ENTRY_SECOND, second);
+}
+
+/*
+ * Segment 0 with Kp, segment 1 with N; two instruction blocks and three data blocks, one of the supervisor's and one of
+ * the user's at the same address; page 0FFA of PP 1 in its primary group, 0FFB guarded in its secondary one, 0FFC of
+ * PP 0 in both.
+ */
+static struct lent lend_rules(void)
+{
+    static const uint32_t words[][2] = {
+        { 1, 0x200C701Cu }, { 2, 0x100C701Cu }, { 19, 0xA0000003u }, { 20, 0x10000000u }, { 23, 0xA0020003u },
+        { 24, 0x20000002u }, { 25, 0xB0000002u }, { 26, 0x30000001u }, { 29, 0xB0020003u }, { 30, 0x40000002u },
+        { 31, 0xB0000001u }, { 32, 0x50000000u },
+    };
+    struct lent l = lend_right();
+    size_t i;
+    for (i = 0; i < sizeof words / sizeof words[0]; i++)
+        mmu_put_word(l.registers.bytes, MMU_REGISTER_OFFSET(words[i][0]), words[i][1]);
+    remember(&l.registers);
+    put_entry(&l, 0x3E6, 5, 0x86380E03u, 0x12345011u);
+    put_entry(&l, 0x018, 7, 0x86380E43u, 0x6789A00Au);
+    put_entry(&l, 0x3E0, 2, 0x86380E03u, 0x0BCDE010u);
+    put_entry(&l, 0x01F, 0, 0x86380E43u, 0x0BCDE010u);
+    return l;
+}
+
+/* In this order: the load of page 0FFC marks the first of its two entries, which then contradict. */
+static const struct rule_case rule_cases[] = {
+    { 0, MMU_STORE, 0x00FFD000u, 128, 0, 0, 0, 0, 0 },
+    { 5, MMU_FETCH, 0xA0000000u, 1, 0, 0, 0, 0, 0 },
+    { 3, MMU_FETCH, 0xA0000000u, 1, 65, 1, 1, 0, 0 },
+    { 3, MMU_FETCH, 0xA003FFFFu, 1, 0, 1, 3, 0, 0 },
+    { 3, MMU_LOAD, 0xB0000000u, 1, 0, 1, 0, 0, 0 },
+    { 3, MMU_STORE, 0xB0000000u, 1, 64, 1, 0, 0, 0 },
+    { 7, MMU_LOAD, 0xB0000000u, 1, 64, 1, 3, 0, 0 },
+    { 7, MMU_STORE, 0xB0020000u, 1, 0, 1, 2, 0, 0 },
+    { 3, MMU_LOAD, 0xB001FFFFu, 2, 0, 1, 0, 0, 0 },
+    { 3, MMU_FETCH, 0xA001FFFFu, 2, 65, 1, 1, 0, 0 },
+    { 3, MMU_FETCH, 0x10FFA000u, 4, 65, 2, 0, 0, 0 },
+    { 3, MMU_LOAD, 0x00FFD000u, 4, 64, 3, 0, 0, 0 },
+    { 3, MMU_FETCH, 0x00FFB000u, 4, 65, 4, 0, 0x018, 7 },
+    { 3, MMU_LOAD, 0x00FFB000u, 4, 0, 6, 2, 0x018, 7 },
+    { 7, MMU_STORE, 0x00FFA01Bu, 4, 64, 5, 5, 0x3E6, 5 },
+    { 7, MMU_LOAD, 0x00FFA01Bu, 4, 0, 6, 5, 0x3E6, 5 },
+    { 3, MMU_STORE, 0x00FFA01Bu, 4, 0, 6, 1, 0x3E6, 5 },
+    { 7, MMU_LOAD, 0x00FFC000u, 4, 64, 5, 4, 0x3E0, 2 },
+    { 3, MMU_LOAD, 0x00FFAFFEu, 8, 0, 6, 1, 0x3E6, 5 },
+    { 3, MMU_FETCH, 0x00FFAFFEu, 8, 65, 4, 0, 0x018, 7 },
+    { 7, MMU_LOAD, 0x00FFBFFEu, 8, 64, 5, 4, 0x3E0, 2 },
+    { 3, MMU_STORE, 0x00FFCFFEu, 8, 64, 3, 0, 0, 0 },
+    { 3, MMU_LOAD, 0x00FFC000u, 4, 0, 6, 0, 0x3E0, 2 },
+    { 3, MMU_LOAD, 0x00FFC000u, 4, 10, 0, 0, 0, 0 },
+    { 3, MMU_LOAD, 0x00FFBFFEu, 8, 10, 0, 0, 0, 0 },
+    { 3, MMU_LOAD, 0x00FFC000u, 0, 12, 0, 0, 0, 0 },
+    { 8, MMU_LOAD, 0x00FFC000u, 4, 6, 0, 0, 0, 0 },
+};
+
+static void test_rules(void)
+{
+    struct lent l = lend_rules();
+    size_t i;
+    for (i = 0; i < sizeof rule_cases / sizeof rule_cases[0]; i++) {
+        const struct rule_case *c = &rule_cases[i];
+        uint32_t got;
+        memset(l.access_answer.bytes, 0xA5, l.access_answer.len);
+        got = access_operand(&l, c->mode, c->kind, c->address, c->length);
+        expect(got == c->result && mmu_get_word(l.access_answer.bytes, 0) == got, "result of an access", got);
+        expect(rule_is(&l, c->rule, c->detail, c->group, c->entry), "the rule that decided", (uint32_t)i);
+    }
+    give_back_all(&l);
+}
+
+/* A store of two bytes before a page edge and six after it: both pages are marked, or none where one of them faults. */
+static void test_page_edge(void)
+{
+    struct lent l = lend_right();
+    uint8_t *first = l.table.bytes + 0x3E6 * MMU_GROUP_SIZE, *second = l.table.bytes + 0x3E7 * MMU_GROUP_SIZE;
+    uint32_t edge = 0x00FFB000u, got;
+    expect(map(&l, SDR1, VSID, PAGE, 0x12345, 2, 2) == 0, "map before the edge", 0);
+    remember(&l.table);
+    got = access_operand(&l, MMU_MODE_DR, MMU_STORE, edge - 2, 8);
+    expect(got == 64 && fault_is(&l, 64, 0x42000000u, 0x300, edge) && unchanged(&l.table), "no match after it", got);
+    expect(map(&l, SDR1, VSID, PAGE + 1, 0x6789A, 5, 3) == 0, "map after the edge", 0);
+    remember(&l.table);
+    got = access_operand(&l, MMU_MODE_DR, MMU_STORE, edge - 2, 8);
+    expect(got == 64 && fault_is(&l, 64, 0x0A000000u, 0x300, edge) && unchanged(&l.table), "read-only after it", got);
+    expect(protect(&l, SDR1, VSID, PAGE + 1, 2) == 0, "protect", 0);
+    got = access_operand(&l, MMU_MODE_DR, MMU_STORE, edge - 2, 8);
+    expect(got == 0 && answer_is(&l.access_answer, 0, 0x12345FFEu, 2, edge - 2)
+               && second_is(&l, 0x6789A000u, 5, 2, 6), "store over the edge", got);
+    expect(mmu_get_word(first, 4) == 0x12345192u && mmu_get_word(second, 4) == 0x6789A1AAu, "both are marked", got);
+    mmu_put_word(second, 8, mmu_get_word(second, 0));
+    mmu_put_word(second, 12, 0x6789A12Au);
+    remember(&l.table);
+    got = access_operand(&l, MMU_MODE_DR, MMU_LOAD, edge - 2, 8);
+    expect(access_refused(&l, got, 10), "contradicting matches after the edge", got);
+    got = access_operand(&l, MMU_MODE_IR, MMU_FETCH, edge - 0x1002u, 8);
+    expect(got == 65 && fault_is(&l, 65, 0x40000000u, 0x400, edge - 0x1002u), "no match before an edge", got);
+    expect(unchanged(&l.table), "a fault before an edge", got);
     give_back_all(&l);
 }
 
@@ -380,8 +576,8 @@ static void test_full_groups(void)
     for (i = 0; i < 16; i++)
         expect(map(&l, 0, 0x400 * i, 0, i, 2, 2) == 0, "map into two groups", i);
     remember(&l.table);
-    expect(refused(&l, map(&l, 0, 0x4000, 0, 1, 2, 2), 9, 0), "map into full groups", 9);
-    expect(refused(&l, map(&l, 0, 0, 0x3FF, 1, 2, 2), 9, 0), "map into full groups from the other side", 9);
+    expect(left(&l, map(&l, 0, 0x4000, 0, 1, 2, 2), 9), "map into full groups", 9);
+    expect(left(&l, map(&l, 0, 0, 0x3FF, 1, 2, 2), 9), "map into full groups from the other side", 9);
     expect(unmap(&l, 0, 0x3C00, 0) == 0, "unmap from the secondary group", 0);
     expect(map(&l, 0, 0, 0x3FF, 1, 2, 2) == 0, "map after an unmap", 0);
     expect(mmu_clear(0, l.table.bytes, l.table.len) == 0, "clear", 0);
@@ -402,8 +598,8 @@ static void test_contradiction(void)
     expect(look(&l, SDR1, VSID, PAGE) == 0 && answer_is(&l.answer, 0, 0x12345012u, 0, 0), "look at duplicates", 0);
     mmu_put_word(secondary, 60, 0x12345092u);
     remember(&l.table);
-    expect(refused(&l, look(&l, SDR1, VSID, PAGE), 10, 1), "look at contradicting matches", 10);
-    expect(refused(&l, access_at(&l, MMU_MODE_DR, MMU_LOAD, ADDRESS), 10, 1), "access to contradicting matches", 10);
+    expect(refused(&l, look(&l, SDR1, VSID, PAGE), 10), "look at contradicting matches", 10);
+    expect(access_refused(&l, access_at(&l, MMU_MODE_DR, MMU_LOAD, ADDRESS), 10), "access to contradicting matches", 10);
     expect(unmap(&l, SDR1, VSID, PAGE) == 0 && answer_is(&l.answer, 0, 0x12345092u, 0, 0), "unmap of both", 0);
     memset(l.table.before, 0, l.table.len);
     expect(unchanged(&l.table), "unmap zeroes both matches", 0);
@@ -459,7 +655,7 @@ static uint32_t random_call(struct lent *l, uint32_t call, uint32_t sdr1)
     case 6:
         return look(l, sdr1, some(1u << 24), some(1u << 16));
     default:
-        return access_at(l, some(8), some(3), any());
+        return access_operand(l, some(8), some(3), any() | (any() % 2 ? 0xFF0u : 0), some(MMU_LONGEST_OPERAND + 1));
     }
 }
 
@@ -479,12 +675,15 @@ static void test_random_numbers(long count)
         remember(&l.registers);
         remember(&l.table);
         memset(l.answer.bytes, 0xA5, l.answer.len);
+        memset(l.access_answer.bytes, 0xA5, l.access_answer.len);
         got = random_call(&l, call, any() % 2 ? SDR1 : any());
-        expect(got <= 11 || ((got == 64 || got == 65) && call == 7), "a result of the list", got);
+        expect(got <= 11 || ((got == 12 || got == 64 || got == 65) && call == 7), "a result of the list", got);
         if (got != 0)
             expect(unchanged(&l.registers) && unchanged(&l.table), "a refusal or a fault leaves table and registers", got);
-        if (call >= 5 && got >= 1 && got <= 10)
+        if ((call == 5 || call == 6) && got >= 1 && got <= 10)
             expect(answer_is(&l.answer, got, 0, 0, 0), "a refusal's answer", got);
+        if (call == 7 && got >= 1 && got <= 12 && got != 11)
+            expect(fault_is(&l, got, 0, 0, 0) && rule_is(&l, 0, 0, 0, 0), "an access's refusal", got);
     }
     give_back_all(&l);
 }
@@ -497,10 +696,13 @@ int main(int argc, char **argv)
     test_wrong_entry_lengths();
     test_page_numbers();
     test_access_and_register_numbers();
+    test_operand_lengths();
     test_pack_numbers();
     test_register_words();
     test_order();
     test_page_story();
+    test_rules();
+    test_page_edge();
     test_full_groups();
     test_contradiction();
     test_packing();

@@ -8,7 +8,7 @@
 #include <stdio.h>
 #include <string.h>
 
-#if MMU_VERSION_MAJOR * 1000 + MMU_VERSION_MINOR < 2
+#if MMU_VERSION_MAJOR * 1000 + MMU_VERSION_MINOR < 4
 #error "the version cannot be compared by the preprocessor"
 #endif
 
@@ -69,12 +69,13 @@ static void test_register_numbers(void)
     expect(MMU_REGISTER_DATA_LOWER(3u) == mmu_register_of_spr(MMU_SPR_DBAT3L), "DBAT3L", 0);
     expect(MMU_REGISTER_OFFSET(MMU_REGISTER_COUNT) == MMU_REGISTERS_SIZE, "length of the register page", 0);
     expect(MMU_TABLE_SIZE(0x0F980007u) == 524288, "length of a table", 0);
+    expect(MMU_ENTRY_OFFSET(0u, 1u) == 8 && MMU_ENTRY_OFFSET(0x3E6u, 7u) == 63928, "place of an entry", 0);
 }
 
-/* Results 0 to 11, 64 and 65 have a name each, every other number the same one. */
+/* Results 0 to 12, 64 and 65 have a name each, every other number the same one. */
 static int is_result(uint32_t number)
 {
-    return number <= 11 || number == 64 || number == 65;
+    return number <= 12 || number == 64 || number == 65;
 }
 
 static void test_result_names(void)
@@ -83,7 +84,7 @@ static void test_result_names(void)
     for (a = 0; a < 80; a++) {
         const char *name = mmu_result_name(a);
         int refused = strncmp(name, "refused: ", 9) == 0;
-        expect(refused == (a >= 1 && a <= 11), "refusals are called so", a);
+        expect(refused == (a >= 1 && a <= 12), "refusals are called so", a);
         expect((strcmp(name, mmu_result_name(1000)) == 0) == !is_result(a), "an unknown result", a);
         for (b = 0; b < a && is_result(a); b++)
             expect(strcmp(name, mmu_result_name(b)) != 0, "results of one name", a);
@@ -105,26 +106,107 @@ static void test_cause_names(void)
     expect(strcmp(mmu_cause_name(0x48000000u), "unknown cause") == 0, "two causes", 7);
 }
 
-static struct mmu_answer answer_of(uint32_t first, uint32_t second, uint32_t third, uint32_t fourth)
+/* Request 2's seven rules have a name each, every other number the same one. */
+static void test_rule_names(void)
+{
+    static const char *const names[7] = { "real mode", "block", "no-execute", "no match", "guarded", "page protection",
+                                          "page done" };
+    uint32_t rule;
+    for (rule = 0; rule < 16; rule++)
+        expect(strcmp(mmu_rule_name(rule), rule < 7 ? names[rule] : "unknown rule") == 0, "the name of a rule", rule);
+}
+
+/* Key * 4 + PP taken apart. */
+static void test_details(void)
+{
+    uint32_t key, pp;
+    for (key = 0; key < 2; key++)
+        for (pp = 0; pp < 4; pp++)
+            expect(mmu_detail_key(key * 4 + pp) == key && mmu_detail_pp(key * 4 + pp) == pp, "key and PP", pp);
+}
+
+/* What an access wrote, all twelve words. */
+static struct mmu_answer answer_of(const uint32_t words[12])
 {
     uint8_t bytes[MMU_ACCESS_ANSWER_SIZE];
-    mmu_put_word(bytes, 0, first);
-    mmu_put_word(bytes, 4, second);
-    mmu_put_word(bytes, 8, third);
-    mmu_put_word(bytes, 12, fourth);
+    uint32_t i;
+    for (i = 0; i < 12; i++)
+        mmu_put_word(bytes, 4 * i, words[i]);
     return mmu_read_answer(bytes);
 }
 
-static void test_answers(void)
+static int rule_is(const struct mmu_answer *a, uint32_t rule, uint32_t detail, uint32_t group, uint32_t entry)
 {
-    struct mmu_answer a = answer_of(0, 0x1234501Bu, 2, 0x00FFA01Bu);
+    return a->rule == rule && a->detail == detail && a->group == group && a->entry == entry;
+}
+
+static int no_second(const struct mmu_answer *a)
+{
+    return a->second_physical == 0 && a->second_attributes == 0 && a->second_bytes == 0;
+}
+
+static void test_done_answers(void)
+{
+    static const uint32_t within[12] = { 0, 0x1234501Bu, 2, 0x00FFA01Bu, 0, 0, 4, 0, 6, 5, 0x3E6, 7 };
+    static const uint32_t over[12] = { 0, 0x12345FFEu, 2, 0x00FFAFFEu, 0x6789A000u, 5, 2, 6, 1, 3, 0, 0 };
+    struct mmu_answer a = answer_of(within);
     expect(a.result == 0 && a.physical == 0x1234501Bu && a.attributes == 2 && a.effective == 0x00FFA01Bu, "done", 0);
+    expect(a.bytes == 4 && no_second(&a), "done within one page", 0);
     expect(a.fault == 0 && a.offset == 0, "done has no fault", 0);
-    a = answer_of(64, 0x42000000u, 0x300, 0x00FFA01Bu);
-    expect(a.result == 64 && a.fault == 0x42000000u && a.offset == 0x300 && a.effective == 0x00FFA01Bu, "a fault", 64);
-    expect(a.physical == 0 && a.attributes == 0, "a fault has no physical address", 64);
-    a = answer_of(10, 0, 0, 0);
+    expect(rule_is(&a, MMU_RULE_DONE, 5, 0x3E6, 7), "the rule of a page that is done", 6);
+    a = answer_of(over);
+    expect(a.physical == 0x12345FFEu && a.attributes == 2 && a.effective == 0x00FFAFFEu, "first part", 0);
+    expect(a.bytes == 2, "bytes of the first part", 0);
+    expect(a.second_physical == 0x6789A000u && a.second_attributes == 5 && a.second_bytes == 6, "second part", 0);
+    expect(rule_is(&a, MMU_RULE_BLOCK, 3, 0, 0), "the rule of a block", 1);
+}
+
+static void test_other_answers(void)
+{
+    static const uint32_t fault[12] = { 65, 0x10000000u, 0x400, 0x00FFB000u, 0, 0, 0, 0, 4, 0, 0x018, 1 };
+    static const uint32_t refusal[12] = { 10, 0, 0, 0, 0, 0, 0, 0, 0, 0, 0, 0 };
+    struct mmu_answer a = answer_of(fault);
+    expect(a.result == 65 && a.fault == 0x10000000u && a.offset == 0x400 && a.effective == 0x00FFB000u, "a fault", 65);
+    expect(a.physical == 0 && a.attributes == 0 && a.bytes == 0 && no_second(&a), "a fault has no address", 65);
+    expect(rule_is(&a, MMU_RULE_GUARDED, 0, 0x018, 1), "the rule of a guarded page", 4);
+    a = answer_of(refusal);
     expect(a.result == 10 && !a.physical && !a.attributes && !a.fault && !a.offset && !a.effective, "a refusal", 10);
+    expect(a.bytes == 0 && no_second(&a) && rule_is(&a, 0, 0, 0, 0), "a refusal has no bytes and no rule", 10);
+}
+
+/* The answer's names beside an access over the last address: real mode, one byte before it and two after. */
+static void test_access(void)
+{
+    static uint8_t table[65536];
+    uint8_t registers[MMU_REGISTERS_SIZE], bytes[MMU_ACCESS_ANSWER_SIZE];
+    struct mmu_answer a;
+    memset(registers, 0, sizeof registers);
+    expect(mmu_access(registers, sizeof registers, 0, MMU_LOAD, 0xFFFFFFFFu, 3, table, sizeof table, bytes,
+                      sizeof bytes) == MMU_DONE, "access", 0);
+    a = mmu_read_answer(bytes);
+    expect(a.physical == 0xFFFFFFFFu && a.attributes == MMU_ATTRIBUTES_REAL && a.bytes == 1, "first part", 1);
+    expect(a.second_physical == 0 && a.second_attributes == MMU_ATTRIBUTES_REAL, "second part", 2);
+    expect(a.second_bytes == 2 && a.effective == 0xFFFFFFFFu, "bytes of the second part", 2);
+    expect(rule_is(&a, MMU_RULE_REAL, 0, 0, 0), "the rule of real mode", 0);
+    expect(mmu_access(registers, sizeof registers, 0, MMU_LOAD, 0, MMU_LONGEST_OPERAND + 1, table, sizeof table, bytes,
+                      sizeof bytes) == MMU_REFUSED_OPERAND_LENGTH, "access to too many bytes", 129);
+}
+
+/* The names of the record beside a store of the supervisor, whose key is 0, to a page of PP 3. */
+static void test_access_by_page(void)
+{
+    static uint8_t table[65536];
+    uint8_t registers[MMU_REGISTERS_SIZE], bytes[MMU_ACCESS_ANSWER_SIZE];
+    struct mmu_answer a;
+    memset(registers, 0, sizeof registers);
+    mmu_put_word(registers, MMU_REGISTER_OFFSET(MMU_REGISTER_SDR1), 0x0F980000u);
+    mmu_put_word(registers, MMU_REGISTER_OFFSET(MMU_REGISTER_SEGMENT(0u)), MMU_SEGMENT_KP | 0x0C701Cu);
+    expect(mmu_map(0x0F980000u, 0x0C701Cu, 0x0FFA, 0x12345, 2, 3, table, sizeof table) == MMU_DONE, "map", 0);
+    expect(mmu_access(registers, sizeof registers, MMU_MODE_DR, MMU_STORE, 0x00FFA01Bu, 4, table, sizeof table, bytes,
+                      sizeof bytes) == MMU_DATA_STORAGE_FAULT, "access", 64);
+    a = mmu_read_answer(bytes);
+    expect(rule_is(&a, MMU_RULE_PROTECTION, 3, 0x3E6, 0), "the rule of page protection", 5);
+    expect(mmu_get_word(table, MMU_ENTRY_OFFSET(a.group, a.entry)) == 0x86380E03u, "the entry used", 5);
 }
 
 int main(void)
@@ -136,6 +218,11 @@ int main(void)
     test_register_numbers();
     test_result_names();
     test_cause_names();
-    test_answers();
+    test_rule_names();
+    test_details();
+    test_done_answers();
+    test_other_answers();
+    test_access();
+    test_access_by_page();
     return failures ? 1 : 0;
 }

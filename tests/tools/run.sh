@@ -87,3 +87,4 @@ missing_rt
 prover_lines
 two_at_once
 numbers
+python3 tools/moved.py --self-test

@@ -12,6 +12,7 @@ use Rattle.registers.specs.Rules.{firstBroken}
 use Rattle.register_words.specs.Sdr1.{sdr1Shape, tableLength, maskOnes}
 use Rattle.registers.specs.Set.{sdr1Of, segmentsShape, sideShape, sideApart, registerRules, checkWords, registerWords}
 use Rattle.registers.proofs.Set.{checked}
+use Rattle.groups.specs.Page.{InRange}
 use Rattle.groups.specs.Hash.{groupNumber}
 use Rattle.groups.specs.Group.{firstOf, putAt}
 use Rattle.matches.specs.Search as search
@@ -22,79 +23,93 @@ use Rattle.tables.specs.Layout.{matchesOf, overwrite}
 use Rattle.tables.proofs.Groups.{MatchOf, members-of}
 use Rattle.protection.specs.Access.{fetching, storing}
 use Rattle.protection.specs.Fault.{noMatch, noFetch, protection, faultOf}
-use Rattle.translation.specs.Steps.{afterSearch, outcomeOf, answerOf, refusedAnswer}
+use Rattle.translation.specs.Steps.{beforeSearch, afterSearch, outcomeOf, answerOf, refusedAnswer}
+use Rattle.translation.specs.Decision.{decided, decisionOf}
+use Rattle.translation.specs.Operand.{overEdge, stopped}
 use Rattle.translation.specs.declared.Early.{Early}
 use Rattle.translation.specs.declared.Early.the-variants.{Decided, Search}
 use Rattle.translation.specs.declared.Outcome.{Outcome}
-use Rattle.translation.specs.declared.Outcome.the-variants.{Done}
+use Rattle.translation.specs.declared.Outcome.the-variants.{Real, Block, BlockProtection, NoExecute, NoMatch, Guarded, Protection, Done, Refused}
+use Rattle.translation.specs.declared.decision.Used.{Used}
 use Rattle.translation.specs.declared.Searched.{Searched}
 use Rattle.translation.specs.declared.Searched.the-variants.{Nothing, At, Contradicting}
 use Rattle.translation.specs.declared.Wanted.{Wanted}
-use Rattle.translation.proofs.Steps.{page-by, done-passes}
+use Rattle.translation.proofs.Steps.{page-by, done-passes, wanted-in-range}
 use Rattle.calls.specs.Request.{AccessCall, access, sdr1In, fed}
-use Rattle.calls.specs.Rules.{rules, refusal}
+use Rattle.calls.specs.Rules.{operandInRange, rules, refusal}
 use Rattle.calls.specs.Answers.{refusedBytes, accessAnswer, answerRefused}
-use Rattle.calls.specs.OnBytes.{layout, ended, byMatches, earlyOf, wantedPage, searched, markedBy, bytesDo, onBytes}
+use Rattle.calls.specs.OnBytes.{layout, ended, byMatches, startOf, earlyOf, usedBy, eachPart, wantedPage, searched, firstPlaceIn, markedBy, bytesDo, onBytes}
 use Rattle.calls.proofs.OnBytes.{taken, refused}
 
 -- ---- the rules after 11
 
 -- the rules of an access after 11, given the words of its register page
-abbrev pub rulesThen : List ℕ → ℕ → ℕ → ℕ → List (Bool × ℕ)
-rulesThen words mode kind lent =
-    (not (ltb mode 8 && ltb kind 3), 6) ∷ registerRules 4 11 words ++ ((not (eqb lent (tableLength (sdr1Of words))), 1) ∷ [])
+abbrev pub rulesThen : List ℕ → ℕ → ℕ → ℕ → ℕ → List (Bool × ℕ)
+rulesThen words mode kind operand lent =
+    (not (ltb mode 8 && ltb kind 3), 6) ∷ (not (operandInRange operand), 12) ∷ registerRules 4 11 words ++ ((not (eqb lent (tableLength (sdr1Of words))), 1) ∷ [])
 
-module _ (words : List ℕ) (mode kind lent : ℕ) where
-  -- they are 6, then the check of the set, then the table's length; none is 11
-  rules-are : (firstBroken (rulesThen words mode kind lent)
+module _ (words : List ℕ) (mode kind operand lent : ℕ) where
+  -- they are 6, then 12, then the check of the set, then the table's length; none is 11
+  rules-are : (firstBroken (rulesThen words mode kind operand lent)
       ≡ cond (ltb mode 8 && ltb kind 3)
+      (cond (operandInRange operand)
       (cond (eqb (checkWords 4 11 words) 0) (cond (eqb lent (tableLength (sdr1Of words))) 0 1) (checkWords 4 11 words))
-      6) × (eqb (firstBroken (rulesThen words mode kind lent)) 11 ≡ false)
+      12)
+      6) × (eqb (firstBroken (rulesThen words mode kind operand lent)) 11 ≡ false)
   unfolding checkWords
   rules-are =
-      go (ltb mode 8 && ltb kind 3) (sdr1Shape (sdr1Of words)) (sideShape 4 11 words false && sideShape 4 11 words true)
+      go (ltb mode 8 && ltb kind 3) (operandInRange operand) (sdr1Shape (sdr1Of words)) (sideShape 4 11 words false && sideShape 4 11 words true)
       (sideApart 4 11 words false && sideApart 4 11 words true) (segmentsShape words) (eqb lent (tableLength (sdr1Of words)))
     where
-      go : (range sdr1 shape apart segments long : Bool)
+      go : (range bytes sdr1 shape apart segments long : Bool)
           → let set : List (Bool × ℕ) = (not sdr1, 2) ∷ (not shape, 3) ∷ (not apart, 4) ∷ (not segments, 5) ∷ [] in
-          let all : List (Bool × ℕ) = (not range, 6) ∷ set ++ ((not long, 1) ∷ []) in
-          (firstBroken all ≡ cond range (cond (eqb (firstBroken set) 0) (cond long 0 1) (firstBroken set)) 6) × (eqb (firstBroken all) 11 ≡ false)
-      go false sdr1 shape apart segments long = (refl, refl)
-      go true false shape apart segments long = (refl, refl)
-      go true true false apart segments long = (refl, refl)
-      go true true true false segments long = (refl, refl)
-      go true true true true false long = (refl, refl)
-      go true true true true true false = (refl, refl)
-      go true true true true true true = (refl, refl)
+          let all : List (Bool × ℕ) = (not range, 6) ∷ (not bytes, 12) ∷ set ++ ((not long, 1) ∷ []) in
+          (firstBroken all ≡ cond range (cond bytes (cond (eqb (firstBroken set) 0) (cond long 0 1) (firstBroken set)) 12) 6) × (eqb (firstBroken all) 11 ≡ false)
+      go false bytes sdr1 shape apart segments long = (refl, refl)
+      go true false sdr1 shape apart segments long = (refl, refl)
+      go true true false shape apart segments long = (refl, refl)
+      go true true true false apart segments long = (refl, refl)
+      go true true true true false segments long = (refl, refl)
+      go true true true true true false long = (refl, refl)
+      go true true true true true true false = (refl, refl)
+      go true true true true true true true = (refl, refl)
 
-  pub then-range : (ltb mode 8 && ltb kind 3) ≡ false → firstBroken (rulesThen words mode kind lent) ≡ 6
+  pub then-range : (ltb mode 8 && ltb kind 3) ≡ false → firstBroken (rulesThen words mode kind operand lent) ≡ 6
   then-range out = rw out
 
   module _ (range : (ltb mode 8 && ltb kind 3) ≡ true) where
-    pub then-check : (checkWords 4 11 words ≡ 0 → ⊥) → firstBroken (rulesThen words mode kind lent) ≡ checkWords 4 11 words
-    then-check broken = rw (rules-are .0, range, ne-eqb (checkWords 4 11 words) 0 broken)
+    pub then-operand : operandInRange operand ≡ false → firstBroken (rulesThen words mode kind operand lent) ≡ 12
+    then-operand out = rw (rules-are .0, range, out)
 
-    module _ (passed : checkWords 4 11 words ≡ 0) where
-      pub then-length : (lent ≡ tableLength (sdr1Of words) → ⊥) → firstBroken (rulesThen words mode kind lent) ≡ 1
-      then-length wrong = rw (rules-are .0, range, eq-eqb (checkWords 4 11 words) 0 passed, ne-eqb lent (tableLength (sdr1Of words)) wrong)
+    module _ (bytes : operandInRange operand ≡ true) where
+      pub then-check : (checkWords 4 11 words ≡ 0 → ⊥) → firstBroken (rulesThen words mode kind operand lent) ≡ checkWords 4 11 words
+      then-check broken = rw (rules-are .0, range, bytes, ne-eqb (checkWords 4 11 words) 0 broken)
 
-      pub then-none : lent ≡ tableLength (sdr1Of words) → firstBroken (rulesThen words mode kind lent) ≡ 0
-      then-none right = rw (rules-are .0, range, eq-eqb (checkWords 4 11 words) 0 passed, eq-eqb lent (tableLength (sdr1Of words)) right)
+      module _ (passed : checkWords 4 11 words ≡ 0) where
+        pub then-length : (lent ≡ tableLength (sdr1Of words) → ⊥) → firstBroken (rulesThen words mode kind operand lent) ≡ 1
+        then-length wrong = rw (rules-are .0, range, bytes, eq-eqb (checkWords 4 11 words) 0 passed, ne-eqb lent (tableLength (sdr1Of words)) wrong)
 
-  pub then-not-11 : eqb (firstBroken (rulesThen words mode kind lent)) 11 ≡ false
+        pub then-none : lent ≡ tableLength (sdr1Of words) → firstBroken (rulesThen words mode kind operand lent) ≡ 0
+        then-none right = rw (rules-are .0, range, bytes, eq-eqb (checkWords 4 11 words) 0 passed, eq-eqb lent (tableLength (sdr1Of words)) right)
+
+  pub then-not-11 : eqb (firstBroken (rulesThen words mode kind operand lent)) 11 ≡ false
   then-not-11 = rules-are .1
 
-  -- an access that none of them refuses has a table of its SDR1
-  pub then-kept : firstBroken (rulesThen words mode kind lent) ≡ 0 → (sdr1Shape (sdr1Of words) ≡ true) × (lent ≡ tableLength (sdr1Of words))
+  -- an access that none of them refuses has an operand in range and a table of its SDR1
+  pub then-kept : firstBroken (rulesThen words mode kind operand lent) ≡ 0
+      → (operandInRange operand ≡ true) × (sdr1Shape (sdr1Of words) ≡ true) × (lent ≡ tableLength (sdr1Of words))
   then-kept e =
-      go (ltb mode 8 && ltb kind 3) (eqb (checkWords 4 11 words) 0) (eqb lent (tableLength (sdr1Of words))) refl refl (sym (rules-are .0) ∙ e)
+      go (ltb mode 8 && ltb kind 3) (operandInRange operand) (eqb (checkWords 4 11 words) 0) (eqb lent (tableLength (sdr1Of words))) refl refl refl
+      (sym (rules-are .0) ∙ e)
     where
-      go : (range passed long : Bool) → eqb (checkWords 4 11 words) 0 ≡ passed → eqb lent (tableLength (sdr1Of words)) ≡ long
-          → cond range (cond passed (cond long 0 1) (checkWords 4 11 words)) 6 ≡ 0 → (sdr1Shape (sdr1Of words) ≡ true) × (lent ≡ tableLength (sdr1Of words))
-      go true true true p l z = (checked 4 11 words (eqb-true _ 0 p) .sdr1, eqb-true lent (tableLength (sdr1Of words)) l)
-      go true true false p l z = absurd (omega arith)
-      go true false long p l z = absurd (true≢false (sym (eq-eqb _ 0 z) ∙ p))
-      go false passed long p l z = absurd (omega arith)
+      go : (range bytes passed long : Bool) → operandInRange operand ≡ bytes → eqb (checkWords 4 11 words) 0 ≡ passed → eqb lent (tableLength (sdr1Of words)) ≡ long
+          → cond range (cond bytes (cond passed (cond long 0 1) (checkWords 4 11 words)) 12) 6 ≡ 0
+          → (operandInRange operand ≡ true) × (sdr1Shape (sdr1Of words) ≡ true) × (lent ≡ tableLength (sdr1Of words))
+      go true true true true b p l z = (b, checked 4 11 words (eqb-true _ 0 p) .sdr1, eqb-true lent (tableLength (sdr1Of words)) l)
+      go true true true false b p l z = absurd (omega arith)
+      go true true false long b p l z = absurd (true≢false (sym (eq-eqb _ 0 z) ∙ p))
+      go true false passed long b p l z = absurd (omega arith)
+      go false bytes passed long b p l z = absurd (omega arith)
 
 -- ---- what one pass over the matches says
 
@@ -136,6 +151,25 @@ module _ (s : Summary) where
         go true true f g a = let other = sym (searched-contradicting f g) ∙ a in absurd (true≢false (cc))
         go false d f g a = let other = sym (searched-nothing f) ∙ a in absurd (true≢false (cc))
 
+-- ---- by cases
+
+pub by-test : {X : Type 0} (t : Bool) → (t ≡ true → X) → (t ≡ false → X) → X
+by-test true holds fails = holds refl
+by-test false holds fails = fails refl
+
+pub by-early : {X : Type 0} (early : Early) → ((outcome : Outcome) → early ≡ Decided outcome → X) → ((wanted : Wanted) → early ≡ Search wanted → X) → X
+by-early (Decided outcome) decided search = decided outcome refl
+by-early (Search wanted) decided search = search wanted refl
+
+-- the page that a part wants is in range
+pub part-valid : (words : List ℕ) (mode kind address : ℕ) (wanted : Wanted) → beforeSearch 4 11 words mode kind address ≡ Search wanted → InRange (wantedPage wanted)
+part-valid words mode kind address wanted e =
+    let range = wanted-in-range 4 11 words mode kind address wanted e in
+    record { vsid-lt = range .0; index-lt = range .1 }
+
+pub wanted-valid : {A : Type 0} (c : AccessCall A) (second : Bool) (wanted : Wanted) → earlyOf c second ≡ Search wanted → InRange (wantedPage wanted)
+wanted-valid c second = part-valid (registerWords (c .registers)) (c .mode) (c .kind) (startOf c second)
+
 -- ---- the mark
 
 -- a fault's number is not 0
@@ -146,6 +180,30 @@ fault-number cause kind = by (fetching kind)
     by : (t : Bool) → cond {A = ℕ} t 65 64 ≡ 0 → ⊥
     by true e = omega arith
     by false e = omega arith
+
+-- and it is 64 or 65
+not-fault : (cause kind : ℕ) → (faultOf cause kind .result ≡ 64 → ⊥) → (faultOf cause kind .result ≡ 65 → ⊥) → ⊥
+unfolding faultOf
+not-fault cause kind = by (fetching kind)
+  where
+    by : (t : Bool) → (cond {A = ℕ} t 65 64 ≡ 64 → ⊥) → (cond {A = ℕ} t 65 64 ≡ 65 → ⊥) → ⊥
+    by true d i = i refl
+    by false d i = d refl
+
+-- an outcome that is neither done nor a fault is a refusal, which answers its number and zero words and shows no rule
+pub refused-words : (kind address : ℕ) (used : Used) (outcome : Outcome) → let number = answerOf kind address outcome .result in
+    (number ≡ 0 → ⊥) → (number ≡ 64 → ⊥) → (number ≡ 65 → ⊥)
+    → (answerOf kind address outcome ≡ refusedAnswer number) × (decisionOf used outcome ≡ decided 0 0)
+unfolding answerOf decisionOf
+refused-words kind address used Real z d i = absurd (z refl)
+refused-words kind address used (Block j physical attributes) z d i = absurd (z refl)
+refused-words kind address used (BlockProtection j) z d i = absurd (not-fault protection kind d i)
+refused-words kind address used NoExecute z d i = absurd (not-fault noFetch kind d i)
+refused-words kind address used NoMatch z d i = absurd (not-fault noMatch kind d i)
+refused-words kind address used Guarded z d i = absurd (not-fault noFetch kind d i)
+refused-words kind address used (Protection second) z d i = absurd (not-fault protection kind d i)
+refused-words kind address used (Done second) z d i = absurd (z refl)
+refused-words kind address used (Refused number) z d i = (refl, refl)
 
 -- of the outcomes of a search only that of a done access answers 0
 pub late-done : (kind : ℕ) (key : Bool) (address : ℕ) (found : Searched) → answerOf kind address (afterSearch kind key found) .result ≡ 0
@@ -162,6 +220,15 @@ pub unmarked : (k kind : ℕ) (early : Early) (result : ℕ) (t : List ℕ) → 
 unfolding markedBy
 unmarked k kind (Decided outcome) result t n = refl
 unmarked k kind (Search wanted) result t n = rw (ne-eqb result 0 n)
+
+pub parts-unmarked : {A : Type 0} (k : ℕ) (c : AccessCall A) (result : ℕ) (t : List ℕ) → (result ≡ 0 → ⊥)
+    → eachPart c (λ second. markedBy k (c .kind) (earlyOf c second) result) t ≡ t
+parts-unmarked k c result t n =
+    rw (unmarked k (c .kind) (earlyOf c false) result t n, unmarked k (c .kind) (earlyOf c true) result t n) (go (overEdge (c .address) (c .length)))
+  where
+    go : (over : Bool) → cond over t t ≡ t
+    go true = refl
+    go false = refl
 
 pub unmarked-decided : (k kind : ℕ) (outcome : Outcome) (result : ℕ) (t : List ℕ) → markedBy k kind (Decided outcome) result t ≡ t
 unfolding markedBy
@@ -190,33 +257,53 @@ module _ (k : ℕ) (wanted : Wanted) (t : List ℕ) (s : Summary) (e : s ≡ sea
           let g = groupNumber (10 + k) b (wantedPage wanted) in
           putAt t g i (firstOf t g i) (withMarks true (storing kind) (s .second))
 
+  -- what decided the part, told by the place that the search noted
+  pub decision-noted : (kind : ℕ) → let outcome = afterSearch kind (wanted .key) (searched (matchesOf (layout k) t (wantedPage wanted))) in
+      decisionOf (record { key = wanted .key; group = groupNumber (10 + k) (search.inSecondary s) (wantedPage wanted); entry = search.entryOf s }) outcome
+      ≡ decisionOf (usedBy (firstPlaceIn k t) (Search wanted)) outcome
+  unfolding decisionOf searched afterSearch
+  decision-noted kind =
+      by-list s (λ l. ((x : Match) → List·Memᴰ x l → MatchOf (layout k) t (wantedPage wanted) x)
+      → decisionOf noted (afterSearch kind (wanted .key) (searched l)) ≡ decisionOf (at (placed l)) (afterSearch kind (wanted .key) (searched l)))
+      (matchesOf (layout k) t (wantedPage wanted)) e
+      (λ z h. refl)
+      (λ x xs m h.
+      let own = h x (List·Memᴰ·head refl) in
+      rw (place-secondary s x (m .place) (own .in-range), place-entry s x (m .place) (own .in-range)))
+      (members-of (layout k) t (wantedPage wanted))
+    where
+      noted : Used
+      noted = record { key = wanted .key; group = groupNumber (10 + k) (search.inSecondary s) (wantedPage wanted); entry = search.entryOf s }
+
+      placed : List Match → ℕ × ℕ
+      placed l = byMatches l (0, 0) (λ x xs. (groupNumber (10 + k) (x .secondary) (wantedPage wanted), x .entry))
+
+      at : ℕ × ℕ → Used
+      at place = record { key = wanted .key; group = place .0; entry = place .1 }
+
 -- ---- the call
 
 module _ (c : AccessCall (List ℕ)) (t : List ℕ) where
-  pub access-wrong-length : (eqb (length (c .registers)) 132 && eqb (length (c .answer)) 16) ≡ false → onBytes (access c) t ≡ ended 11 t (c .answer)
+  pub access-wrong-length : (eqb (length (c .registers)) 132 && eqb (length (c .answer)) 48) ≡ false → onBytes (access c) t ≡ ended 11 t (c .answer)
   unfolding refusal rules fed answerRefused refusedBytes
   access-wrong-length w = refused (access c) t 11 (rw w) (λ z. omega arith)
 
-  module _ (registers-length : length (c .registers) ≡ 132) (answer-length : length (c .answer) ≡ 16) where
+  module _ (registers-length : length (c .registers) ≡ 132) (answer-length : length (c .answer) ≡ 48) where
     abbrev rulesLeft : List (Bool × ℕ)
-    rulesLeft = rulesThen (registerWords (c .registers)) (c .mode) (c .kind) (length t)
+    rulesLeft = rulesThen (registerWords (c .registers)) (c .mode) (c .kind) (c .length) (length t)
 
     after-11 : refusal (fed (access c)) (length t) ≡ firstBroken rulesLeft
     unfolding refusal rules fed
     after-11 = rw (registers-length, answer-length)
 
     pub access-refused : (number : ℕ) → number ≡ firstBroken rulesLeft → (number ≡ 0 → ⊥)
-        → onBytes (access c) t ≡ ended number t (accessAnswer (refusedAnswer number))
+        → onBytes (access c) t ≡ ended number t (accessAnswer (stopped (refusedAnswer number) (decided 0 0)))
     unfolding answerRefused refusedBytes accessAnswer
     access-refused number e n =
         refused (access c) t number (after-11 ∙ sym e) n
-        ∙ (rw (ap (λ (k : ℕ). eqb k 11) e ∙ then-not-11 (registerWords (c .registers)) (c .mode) (c .kind) (length t)))
+        ∙ (rw (ap (λ (k : ℕ). eqb k 11) e ∙ then-not-11 (registerWords (c .registers)) (c .mode) (c .kind) (c .length) (length t)))
 
-    pub access-taken : firstBroken rulesLeft ≡ 0 → (outcome : Outcome)
-        → let k = maskOnes (sdr1Of (registerWords (c .registers))) in
-        outcome ≡ outcomeOf (c .kind) (λ wanted. searched (matchesOf (layout k) t (wantedPage wanted))) (earlyOf c)
-        → onBytes (access c) t
-        ≡ ended (answerOf (c .kind) (c .address) outcome .result) (markedBy k (c .kind) (earlyOf c) (answerOf (c .kind) (c .address) outcome .result) t)
-        (accessAnswer (answerOf (c .kind) (c .address) outcome))
-    unfolding bytesDo sdr1In
-    access-taken z outcome e = taken (access c) t (after-11 ∙ z) ∙ (rw e)
+    pub access-taken : firstBroken rulesLeft ≡ 0
+        → onBytes (access c) t ≡ bytesDo (maskOnes (sdr1Of (registerWords (c .registers)))) (access c) t
+    unfolding sdr1In
+    access-taken z = taken (access c) t (after-11 ∙ z)

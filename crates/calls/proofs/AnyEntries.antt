@@ -74,6 +74,13 @@ module _ (k : ℕ) where
     pub no-match : own ≡ [] → SomeMatch k t page → ⊥
     no-match e (b, i, m) = List·Memᴰ·not-nil (subst (List·Memᴰ (asMatch b i)) e (matching-member b i m))
 
+    -- the head of the list is the first match
+    pub first-of : (x : Match) (xs : List Match) → own ≡ x ∷ xs → FirstMatch k t page (x .secondary) (x .entry)
+    first-of x xs e = record {
+      matching = member-matching x (head-member x xs e);
+      first = λ c j m. first-match-least (layout k) t page x xs e c j (m .0) (m .1);
+    }
+
     -- the first match is the head of the list
     pub record HeadIs (b : Bool) (i : ℕ) : Type 0 where
       pub x : Match

@@ -42,33 +42,14 @@ use Rattle.calls.specs.OnBytes.{layout, Ended, ended, byMatches, entryWo
 use Rattle.calls.specs.Represents.{GoodTable}
 use Rattle.calls.specs.AnyTable.{groupAt, firstHere, secondHere, Matching, SomeMatch, SomeMatchHas, Disagreeing, FirstMatch, Free, FirstFree, Marked, Taken}
 use Rattle.calls.specs.AnyTable.{MapOnAny, UnmapOnAny, ProtectOnAny, LookOnAny, SearchOnAny, AccessOnAny, CallsOnAnyTable, AccessStated}
-use Rattle.calls.proofs.OnBytes.{taken}
+use Rattle.calls.proofs.TakenCalls.{good-table, does, number-of, state-of, answer-of, bit-set, r-is, c-is}
 use Rattle.calls.proofs.Rules.{fitting, map-kept, unmap-kept, look-kept, protect-kept}
 use Rattle.calls.proofs.Histories.{sdr1-fed}
 use Rattle.calls.proofs.TableLaws.{Word, layout-laws}
 use Rattle.calls.proofs.Step.{own-fits}
-use Rattle.calls.proofs.Access.{fault-number, unmarked, unmarked-decided}
+use Rattle.calls.proofs.AnyAccess.{access-on-any}
 use Rattle.calls.proofs.AnyEntries.{by-matches, own, member-matching, member-second, asMatch, matching-member, some-match, no-match, head-is}
 use Rattle.calls.proofs.AnyEntries.{disagree, contradicts, disagreeing-some, place-free, free-is, none-free, match-edited, others-kept, entry-put, all-but-kept}
-
--- a taken call's table has its length
-good-table : (request : Request (List ℕ)) (t : List ℕ) → Taken request t → GoodTable (maskOnes (sdr1In request)) t
-good-table request t a =
-    let fit = fitting (fed request) (length t) (a .not-refused) in
-    record { long = fit .long ∙ length-is (sdr1In (fed request)) (fit .shape) ∙ ap (λ (s : ℕ). 65536 * 2 ^ maskOnes s) (sdr1-fed request); bytes = a .bytes }
-
--- what a call leaves, and its number
-does : (request : Request (List ℕ)) (t : List ℕ) → Taken request t → onBytes request t ≡ bytesDo (maskOnes (sdr1In request)) request t
-does request t a = taken request t (a .not-refused)
-
-number-of : {e d : Ended (List ℕ)} → e ≡ d → e .number ≡ d .number
-number-of q = ap (λ (x : Ended (List ℕ)). x .number) q
-
-state-of : {e d : Ended (List ℕ)} → e ≡ d → e .state ≡ d .state
-state-of q = ap (λ (x : Ended (List ℕ)). x .state) q
-
-answer-of : {e d : Ended (List ℕ)} → e ≡ d → e .answer ≡ d .answer
-answer-of q = ap (λ (x : Ended (List ℕ)). x .answer) q
 
 -- by an option, keeping the equation
 by-place : {A X : Type 0} (o : Option A) → (o ≡ none → X) → ((a : A) → o ≡ some a → X) → X
@@ -163,17 +144,6 @@ module _ (k : ℕ) (t : List ℕ) (page : Page) (number : ℕ) (missing : own k 
   )
 
 -- the bit that a test reads
-bit-set : (n : ℕ) (test : ℕ → Bool) → ((w : ℕ) → test w ≡ eqb (bits n n w) 1) → (w : ℕ) → (bits n n w ≡ 1) ↔ (test w ≡ true)
-bit-set n test is w = (λ e. is w ∙ eq-eqb (bits n n w) 1 e, λ e. eqb-true (bits n n w) 1 (sym (is w) ∙ e))
-
-r-is : (w : ℕ) → referenced w ≡ eqb (bits 23 23 w) 1
-unfolding referenced
-r-is w = refl
-
-c-is : (w : ℕ) → changed w ≡ eqb (bits 24 24 w) 1
-unfolding changed
-c-is w = refl
-
 -- some match of the list passes a test exactly where some matching entry's second word has the bit
 any-has : (k : ℕ) (t : List ℕ) (page : Page) (n : ℕ) (test : ℕ → Bool) → ((w : ℕ) → test w ≡ eqb (bits n n w) 1)
     → (anyMatch (λ (m : Match). test (m .second)) (own k t page) ≡ true) ↔ SomeMatchHas k t page n
@@ -352,168 +322,7 @@ module _ (c : AnsweredCall (List ℕ)) (t : List ℕ) (a : Taken (look c) t) whe
     left = look-by (λ e. state-of (look-none e)) (λ x xs e d. state-of (look-ten x xs e d)) (λ x xs e d. state-of (look-one x xs e d));
   }
 
--- ---- access
-
--- a fault or a done access is not refused 10
-not-ten : (cause kind : ℕ) → faultOf cause kind .result ≡ 10 → ⊥
-unfolding faultOf
-not-ten cause kind = go (fetching kind)
-  where
-    go : (t : Bool) → cond {A = ℕ} t 65 64 ≡ 10 → ⊥
-    go true e = omega arith
-    go false e = omega arith
-
-module _ (kind : ℕ) (key : Bool) (address : ℕ) where
-  found-not-ten : (word : ℕ) → answerOf kind address (afterSearch kind key (At word)) .result ≡ 10 → ⊥
-  unfolding answerOf afterSearch
-  found-not-ten word =
-      page-by kind key word (λ (outcome : Outcome). answerOf kind address outcome .result ≡ 10 → ⊥)
-      (λ g e. not-ten noFetch kind e) (λ g p e. not-ten protection kind e) (λ g p e. omega arith)
-
-  missing-not-ten : answerOf kind address (afterSearch kind key Nothing) .result ≡ 10 → ⊥
-  unfolding answerOf afterSearch
-  missing-not-ten e = not-ten noMatch kind e
-
-  missing-not-done : answerOf kind address (afterSearch kind key Nothing) .result ≡ 0 → ⊥
-  unfolding answerOf afterSearch
-  missing-not-done e = fault-number noMatch kind e
-
-  contradicting-ten : answerOf kind address (afterSearch kind key Contradicting) .result ≡ 10
-  unfolding answerOf afterSearch
-  contradicting-ten = refl
-
-storing-store : (kind : ℕ) → kind ≡ 2 → storing kind ≡ true
-unfolding storing
-storing-store kind e = eq-eqb kind 2 e
-
-storing-other : (kind : ℕ) → (kind ≡ 2 → ⊥) → storing kind ≡ false
-unfolding storing
-storing-other kind n = ne-eqb kind 2 n
-
--- R alone leaves C
-only-r : (w : ℕ) → bits 24 24 (withMarks true false w) ≡ bits 24 24 w
-unfolding withMarks
-only-r w = omega arith
-
--- step 7 sets R, and C on a store, and leaves every other bit
-marked-word : (kind w : ℕ) → Marked kind w (withMarks true (storing kind) w)
-marked-word kind w = record {
-  referenced = bit-set 23 referenced r-is (withMarks true (storing kind) w) .1 (marks-referenced true (storing kind) w);
-  changed = λ e. bit-set 24 changed c-is (withMarks true (storing kind) w) .1 (marks-changed true (storing kind) w ∙ (rw (storing-store kind e)));
-  not-changed = λ n. rw (storing-other kind n) (only-r w);
-  above = marks-above true (storing kind) w 0 22 (lit< tt);
-  below = marks-below true (storing kind) w 25 31 (lit< tt) (lit≤ tt) (lit< tt);
-}
-
-module _ (c : AccessCall (List ℕ)) (t : List ℕ) (a : Taken (access c) t) where
-  abbrev ak : ℕ
-  ak = maskOnes (sdr1In (access c))
-
-  access-good : GoodTable ak t
-  access-good = good-table (access c) t a
-
-  -- what the steps before the search, and the matches, come to
-  abbrev outcome : Outcome
-  outcome = outcomeOf (c .kind) (λ wanted. searched (matchesOf (layout ak) t (wantedPage wanted))) (earlyOf c)
-
-  access-does : onBytes (access c) t
-      ≡ ended (answerOf (c .kind) (c .address) outcome .result) (markedBy ak (c .kind) (earlyOf c) (answerOf (c .kind) (c .address) outcome .result) t)
-      (accessAnswer (answerOf (c .kind) (c .address) outcome))
-  unfolding bytesDo
-  access-does = does (access c) t a
-
-  module _ (wanted : Wanted) (searches : earlyOf c ≡ Search wanted) where
-    abbrev page : Page
-    page = wantedPage wanted
-
-    abbrev toldBy : Searched → Ended (List ℕ)
-    toldBy found =
-        let words = answerOf (c .kind) (c .address) (afterSearch (c .kind) (wanted .key) found) in
-        ended (words .result) (markedBy ak (c .kind) (Search wanted) (words .result) t) (accessAnswer words)
-
-    search-does : onBytes (access c) t ≡ toldBy (searched (own ak t page))
-    unfolding outcomeOf
-    search-does = access-does ∙ (rw searches)
-
-    by-none : own ak t page ≡ [] → onBytes (access c) t ≡ toldBy Nothing
-    unfolding searched
-    by-none e = search-does ∙ ap (λ (ms : List Match). toldBy (searched ms)) e
-
-    by-ten : (x : Match) (xs : List Match) → own ak t page ≡ x ∷ xs → contradict x xs ≡ true → onBytes (access c) t ≡ toldBy Contradicting
-    unfolding searched
-    by-ten x xs e d = search-does ∙ ap (λ (ms : List Match). toldBy (searched ms)) e ∙ ap (λ (z : Bool). toldBy (cond z Contradicting (At (x .second)))) d
-
-    by-one : (x : Match) (xs : List Match) → own ak t page ≡ x ∷ xs → contradict x xs ≡ false → onBytes (access c) t ≡ toldBy (At (x .second))
-    unfolding searched
-    by-one x xs e d = search-does ∙ ap (λ (ms : List Match). toldBy (searched ms)) e ∙ ap (λ (z : Bool). toldBy (cond z Contradicting (At (x .second)))) d
-
-    -- a done access is done by the first match, where the matches do not contradict
-    search-by : {X : Type 0} → (own ak t page ≡ [] → X) → ((x : Match) (xs : List Match) → own ak t page ≡ x ∷ xs → contradict x xs ≡ true → X)
-        → ((x : Match) (xs : List Match) → own ak t page ≡ x ∷ xs → contradict x xs ≡ false → X) → X
-    search-by {X} missing ten one = by-matches (own ak t page) missing (λ x xs e. go x xs e (contradict x xs) refl)
-      where
-        go : (x : Match) (xs : List Match) → own ak t page ≡ x ∷ xs → (d : Bool) → contradict x xs ≡ d → X
-        go x xs e true d = ten x xs e d
-        go x xs e false d = one x xs e d
-
-    refused-ten : (onBytes (access c) t .number ≡ 10) ↔ Disagreeing ak t page
-    refused-ten = (
-      λ z.
-          search-by (λ e. absurd (missing-not-ten (c .kind) (wanted .key) (c .address) (sym (number-of (by-none e)) ∙ z)))
-          (λ x xs e d. disagree ak t page x xs e d)
-          (λ x xs e d. absurd (found-not-ten (c .kind) (wanted .key) (c .address) (x .second) (sym (number-of (by-one x xs e d)) ∙ z))),
-      λ dis.
-          search-by (λ e. absurd (no-match ak t page e (disagreeing-some ak t page dis)))
-          (λ x xs e d. number-of (by-ten x xs e d) ∙ contradicting-ten (c .kind) (wanted .key) (c .address))
-          (λ x xs e d. absurd (true≢false (sym (contradicts ak t page x xs e dis) ∙ d))),
-    )
-
-    -- done, the table has the first match marked
-    marked-at : onBytes (access c) t .number ≡ 0 → (b : Bool) (i : ℕ) → FirstMatch ak t page b i
-        → onBytes (access c) t .state
-        ≡ layout ak .put t (groupAt ak page b) i (firstHere ak t page b i) (withMarks true (storing (c .kind)) (secondHere ak t page b i))
-    unfolding markedBy overwrite
-    marked-at z b i f =
-        let h = head-is ak t page b i f in
-        let mark : Match → List ℕ = λ (m : Match). layout ak .put t (groupAt ak page (m .secondary)) (m .entry) (m .first) (withMarks true (storing (c .kind)) (m .second)) in
-        state-of search-does
-        ∙ ap (λ (r : ℕ). markedBy ak (c .kind) (Search wanted) r t) (sym (number-of search-does) ∙ z)
-        ∙ ap (λ (ms : List Match). byMatches ms t (λ x xs. mark x)) (h .are)
-        ∙ ap₂ (λ (s : Bool) (j : ℕ). layout ak .put t (groupAt ak page s) j (h .x .first) (withMarks true (storing (c .kind)) (h .x .second))) (h .side) (h .at)
-        ∙ ap₂ (λ (u v : ℕ). layout ak .put t (groupAt ak page b) i u (withMarks true (storing (c .kind)) v)) (h .first-is) (h .second-is)
-
-    search-on-any : SearchOnAny c t ak wanted
-    search-on-any = record {
-      refused-10 = refused-ten;
-      no-match = λ out.
-          by-matches (own ak t page)
-          (λ e. answer-of (by-none e) ∙ ap (λ (o : Outcome). accessAnswer (answerOf (c .kind) (c .address) o)) (after-nothing (c .kind) (wanted .key)))
-          (λ x xs e. absurd (out (some-match ak t page x xs e)));
-      by-first = λ agreed b i f.
-          let h = head-is ak t page b i f in
-          search-by (λ e. absurd (no-match ak t page e (b, i, f .matching))) (λ x xs e d. absurd (agreed (disagree ak t page x xs e d)))
-          (λ x xs e d.
-          let same : x ∷ xs ≡ h .x ∷ h .xs = sym e ∙ h .are in
-          let is : x ≡ h .x = cc in
-          answer-of (by-one x xs e d)
-          ∙ ap (λ (w : ℕ). accessAnswer (answerOf (c .kind) (c .address) (afterSearch (c .kind) (wanted .key) (At w)))) (ap (λ (m : Match). m .second) is ∙ h .second-is));
-      marks = λ z b i f.
-          let (fits, other) = words-fit t (groupAt ak page b) i (a .bytes) in
-          let r = entry-put ak t page access-good b i (firstHere ak t page b i) (withMarks true (storing (c .kind)) (secondHere ak t page b i)) (f .matching .0) fits
-          (marks-lt true (storing (c .kind)) (secondHere ak t page b i) other) in
-          rw (marked-at z b i f) (r .0, subst (Marked (c .kind) (secondHere ak t page b i)) (sym (r .1)) (marked-word (c .kind) (secondHere ak t page b i)));
-      others = λ z b i f. rw (marked-at z b i f) (all-but-kept ak t page access-good b i _ _ (f .matching .0));
-    }
-
-  access-on-any : AccessOnAny c t ak
-  access-on-any = record {
-    not-done = λ n. state-of access-does ∙ unmarked ak (c .kind) (earlyOf c) (answerOf (c .kind) (c .address) outcome .result) t (λ z. n (number-of access-does ∙ z));
-    not-by-page = λ o e.
-        state-of access-does
-        ∙ ap (λ (x : Early). markedBy ak (c .kind) x (answerOf (c .kind) (c .address) outcome .result) t) e
-        ∙ unmarked-decided ak (c .kind) o (answerOf (c .kind) (c .address) outcome .result) t;
-    by-page = search-on-any;
-  }
+-- ---- every call
 
 pub calls-on-any-table : CallsOnAnyTable
 calls-on-any-table = record { maps = map-on-any; unmaps = unmap-on-any; protects = protect-on-any; looks = look-on-any; accesses = access-on-any }

@@ -1,4 +1,4 @@
--- What a call does to the finite map: it leaves it, empties it, puts a page in, takes one out, or revises one page's marks or protection.
+-- What a call does to the finite map: it leaves it, empties it, puts a page in, takes one out, or revises pages' marks or protection.
 use Prim.Native.Nat.{ℕ}
 use mathlib.Core.Path.{_≡_, refl, sym, subst}
 use mathlib.Core.Bool.{Bool, true, false, cond}
@@ -11,14 +11,13 @@ use Rattle.placement.specs.FiniteMap.{fieldsAt, putIn, takeOut, revise, mappedP
 use Rattle.register_words.specs.Sdr1.{maskOnes}
 use Rattle.groups.specs.Page.{Page, samePage}
 use Rattle.protection.specs.Access.{storing}
-use Rattle.translation.specs.Steps.{outcomeOf, answerOf}
+use Rattle.translation.specs.Operand.{overEdge}
 use Rattle.translation.specs.declared.Early.{Early}
 use Rattle.translation.specs.declared.Early.the-variants.{Decided, Search}
-use Rattle.translation.specs.declared.Outcome.{Outcome}
 use Rattle.calls.specs.Request.{Request, clear, mapPage, unmap, protect, look, access, sdr1In}
 use Rattle.calls.specs.Rules.{refusal}
-use Rattle.calls.specs.Answers.{wordAnswer, accessAnswer}
-use Rattle.calls.specs.OnBytes.{Ended, ended, byOption, earlyOf, wantedPage}
+use Rattle.calls.specs.Answers.{wordAnswer}
+use Rattle.calls.specs.OnBytes.{Ended, ended, byOption, earlyOf, wholeAnswer, wantedPage}
 use Rattle.calls.specs.OnMap.{PageFields, Map, fieldsWord, markFields, protectFields, Arranged, arranged?, foundIn, mapMarked, mapDoes, onMap}
 use Rattle.calls.specs.Histories.{Maps, by-map, TakesOut, by-clear, by-unmap}
 use Rattle.calls.proofs.Histories.{map-taken, map-refused}
@@ -28,12 +27,17 @@ pub record KeepsFrame (u : PageFields → PageFields) : Type 0 where
   pub frame : (f : PageFields) → u f .frame ≡ f .frame
   pub attributes : (f : PageFields) → u f .attributes ≡ f .attributes
 
+-- a map of which pages' marks or protection were revised, one after the other
+pub data Revisions (m : Map) : Map → Type 0 where
+  kept : {n : Map} → n ≡ m → Revisions m n
+  revising : {n : Map} (o : Map) → Revisions m o → (page : Page) (u : PageFields → PageFields) → KeepsFrame u → n ≡ revise samePage page u o → Revisions m n
+
 pub data Changed (request : Request ℕ) (m : Map) (d : Ended Map) : Type 0 where
   left : d .state ≡ m → Changed request m d
   emptied : ((page : Page) → TakesOut page request) → d .number ≡ 0 → d .state ≡ [] → Changed request m d
   put : (page : Page) (f : PageFields) → Maps page request → d .number ≡ 0 → fieldsAt samePage page m ≡ none → d .state ≡ putIn page f m → Changed request m d
   took : (page : Page) (f : PageFields) → TakesOut page request → d .number ≡ 0 → fieldsAt samePage page m ≡ some f → d .state ≡ takeOut samePage page m → Changed request m d
-  revised : (page : Page) (u : PageFields → PageFields) → KeepsFrame u → d .state ≡ revise samePage page u m → Changed request m d
+  revised : Revisions m (d .state) → Changed request m d
 
 mark-keeps : (store : Bool) → KeepsFrame (markFields store)
 mark-keeps store = record { frame = λ f. refl; attributes = λ f. refl }
@@ -41,10 +45,20 @@ mark-keeps store = record { frame = λ f. refl; attributes = λ f. refl }
 protect-keeps : (pp : ℕ) → KeepsFrame (protectFields pp)
 protect-keeps pp = record { frame = λ f. refl; attributes = λ f. refl }
 
+-- the mark of a part
+mark-revises : (kind : ℕ) (early : Early) (result : ℕ) (m n : Map) → Revisions m n → Revisions m (mapMarked kind early result n)
+unfolding mapMarked
+mark-revises kind (Decided outcome) result m n so = so
+mark-revises kind (Search wanted) result m n so = go (eqb result 0)
+  where
+    go : (t : Bool) → Revisions m (cond t (revise samePage (wantedPage wanted) (markFields (storing kind)) n) n)
+    go true = revising n so (wantedPage wanted) (markFields (storing kind)) (mark-keeps (storing kind)) refl
+    go false = so
+
 module _ (k : ℕ) (m : Map) where
   -- a call that its arguments do not refuse
   does : (request : Request ℕ) → Changed request m (mapDoes k request m)
-  unfolding mapDoes mapMarked
+  unfolding mapDoes
   does (clear c) = emptied (λ page. by-clear c) refl refl
   does (mapPage c) = go (fieldsAt samePage (c .page) m) refl
     where
@@ -78,31 +92,26 @@ module _ (k : ℕ) (m : Map) where
     where
       go : (o : Option PageFields) → Changed (protect c) m (byOption o (ended 8 m []) (λ f. ended 0 (revise samePage (c .page) (protectFields (c .pp)) m) []))
       go none = left refl
-      go (some f) = revised (c .page) (protectFields (c .pp)) (protect-keeps (c .pp)) refl
+      go (some f) = revised (revising m (kept refl) (c .page) (protectFields (c .pp)) (protect-keeps (c .pp)) refl)
   does (look c) = go (fieldsAt samePage (c .page) m)
     where
       go : (o : Option PageFields) → Changed (look c) m (byOption o (ended 8 m (wordAnswer 8 0)) (λ f. ended 0 m (wordAnswer 0 (fieldsWord f))))
       go none = left refl
       go (some f) = left refl
-  does (access c) = go (earlyOf c)
+  does (access c) = revised (go (overEdge (c .address) (c .length)))
     where
-      kind : ℕ
-      kind = c .kind
+      result : ℕ
+      result = wholeAnswer c (λ wanted. foundIn m (wantedPage wanted)) (λ wanted. (0, 0)) .part .result
 
-      plain : Early → Outcome
-      plain early = outcomeOf kind (λ wanted. foundIn m (wantedPage wanted)) early
+      step : Bool → Map → Map
+      step second = mapMarked (c .kind) (earlyOf c second) result
 
-      by : (number : ℕ) (bytes : List ℕ) (page : Page) (marked : Bool)
-          → Changed (access c) m (ended number (cond marked (revise samePage page (markFields (storing kind)) m) m) bytes)
-      by number bytes page true = revised page (markFields (storing kind)) (mark-keeps (storing kind)) refl
-      by number bytes page false = left refl
+      marks : (n : Map) → Revisions m n → (second : Bool) → Revisions m (step second n)
+      marks n so second = mark-revises (c .kind) (earlyOf c second) result m n so
 
-      go : (early : Early)
-          → Changed (access c) m
-          (ended (answerOf kind (c .address) (plain early) .result) (mapMarked kind early (answerOf kind (c .address) (plain early) .result) m)
-          (accessAnswer (answerOf kind (c .address) (plain early))))
-      go (Decided outcome) = left refl
-      go (Search wanted) = by _ _ (wantedPage wanted) (eqb (answerOf kind (c .address) (plain (Search wanted)) .result) 0)
+      go : (over : Bool) → Revisions m (cond over (step true (step false m)) (step false m))
+      go true = marks _ (marks m (kept refl) false) true
+      go false = marks m (kept refl) false
 
 -- any call
 pub changed : (request : Request ℕ) (lent : ℕ) (m : Map) → Changed request m (onMap request lent m)

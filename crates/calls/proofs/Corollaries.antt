@@ -1,6 +1,6 @@
 -- What the theorem means for one page: after a done unmap or clear it is found no more until it is mapped again, and an access that is done by it
 -- gives the frame and the attributes of its last done map. Both are shown on the finite map, call by call, and carried to the bytes by the theorem.
-use Prim.Native.Nat.{ℕ, _+_}
+use Prim.Native.Nat.{ℕ, _+_, _^_, _<_}
 use mathlib.Core.Path.{_≡_, refl, sym, ap, ap₂, _∙_, subst}
 use mathlib.Core.Bool.{Bool, true, false, cond, _&&_}
 use mathlib.Core.Logic.{ite, if-pos, if-neg}
@@ -12,12 +12,14 @@ use native.Mathlib.Omega.{arith}
 use lib.Dec.{eqb}
 use lib.ListN.{length}
 use Rattle.words.specs.Bits.{bits, placed}
+use Rattle.words.specs.Words.{wordBytes, wordAt, bytesOf}
+use Rattle.words.proofs.Words.{own-bytes}
 use Rattle.placement.specs.Lists.{oneIf}
 use Rattle.placement.specs.FiniteMap.{fieldsAt, putIn, takeOut, revise, mappedPages}
 use Rattle.placement.proofs.FiniteMap.{fieldsAt-putIn-same, fieldsAt-putIn-other, fieldsAt-takeOut-same, fieldsAt-takeOut-other, fieldsAt-revise}
 use Rattle.entry.specs.Entry.{wimgOf, ppOf, physicalAddress}
 use Rattle.entry.proofs.Packing.{SecondFields, second-packed}
-use Rattle.entry.proofs.Addresses.{physical-fields}
+use Rattle.entry.proofs.Addresses.{physical-lt, physical-fields}
 use Rattle.groups.specs.Page.{Page, samePage}
 use Rattle.groups.proofs.Hash.{samePage-refl, samePage-eq}
 use Rattle.tables.specs.Runs.{after, Each}
@@ -25,27 +27,35 @@ use Rattle.tables.proofs.Runs.{each-append}
 use Rattle.protection.specs.Access.{fetching}
 use Rattle.protection.specs.Protection.{pageAllows, guarded}
 use Rattle.translation.specs.Steps.{pageOutcome, afterSearch, outcomeOf, answerOf, doneAnswer}
+use Rattle.translation.specs.Decision.{decided, decisionOf}
+use Rattle.translation.specs.Operand.{overEdge, stopped, operandAnswer}
+use Rattle.translation.specs.declared.Answer.{Answer}
+use Rattle.translation.specs.declared.decision.Decision.{Decision}
+use Rattle.translation.specs.declared.operand.OperandAnswer.{OperandAnswer}
+use Rattle.translation.specs.declared.Wanted.{Wanted}
 use Rattle.translation.specs.declared.Outcome.{Outcome}
 use Rattle.translation.specs.declared.Outcome.the-variants.{NoMatch, Guarded, Protection, Done}
-use Rattle.protection.specs.Fault.{noFetch, protection}
+use Rattle.protection.specs.Fault.{noMatch, noFetch, protection}
 use Rattle.translation.specs.declared.Searched.{Searched}
 use Rattle.translation.specs.declared.Searched.the-variants.{Nothing, At}
 use Rattle.translation.proofs.Steps.{after-nothing, after-at, outcome-searched}
+use Rattle.translation.proofs.Parts.{first-stops, second-stops, one-done, both-done, parts-done, operand-same}
 use Rattle.calls.specs.Made.{fedAnswered}
 use Rattle.calls.specs.Request.{MapCall, AccessCall, Request, clear, mapPage, unmap, access, fed, sdr1In}
 use Rattle.calls.specs.Rules.{refusal}
 use Rattle.calls.specs.Answers.{wordAnswer, accessAnswer, compared}
-use Rattle.calls.specs.OnBytes.{Ended, ended, byOption, earlyOf, wantedPage}
+use Rattle.calls.specs.OnBytes.{Ended, ended, byOption, startOf, earlyOf, partAnswer, usedBy, partDecision, wantedPage, searchIn, firstPlaceIn, bytesDo}
 use Rattle.calls.specs.OnMap.{PageFields, Map, fieldsWord, Arranged, arranged?, foundIn, mapDoes, onMap}
 use Rattle.calls.specs.Represents.{FieldsInRange, represents}
 use Rattle.calls.specs.Histories.{Call, bytesStep, mapStep, fedCall, Under, NoneDone, Maps, by-map, TakesOut, by-clear, by-unmap}
-use Rattle.calls.specs.Theorem.{History, cleared, mapAfter, next, mappedTo, DoneSince, Reaches, AccessFollowsHistory}
+use Rattle.calls.specs.Theorem.{History, cleared, tableAfter, mapAfter, next, mappedTo, DoneSince, answeredAfter, Reaches, addressByte, attributesByte, AccessFollowsHistory}
 use Rattle.calls.proofs.Fields.{oneIf-lt}
 use Rattle.calls.proofs.Access.{fault-number}
-use Rattle.calls.proofs.Changes.{Changed, left, emptied, put, took, revised, changed}
+use Rattle.calls.proofs.Changes.{Revisions, kept, revising, Changed, left, emptied, put, took, revised, changed}
 use Rattle.calls.proofs.Histories.{keeps, map-taken, map-refused}
 use Rattle.calls.proofs.Rules.{Fitting}
-use Rattle.calls.proofs.Theorem.{fits, history-represents, map-number, map-answer}
+use Rattle.calls.proofs.Step.{outcome-same, part-same}
+use Rattle.calls.proofs.Theorem.{ones, fits, history-represents, bytes-do}
 
 -- a page's fields have this frame and these attributes
 pub record Has (rpn wimg : ℕ) (page : Page) (m : Map) : Type 0 where
@@ -53,6 +63,36 @@ pub record Has (rpn wimg : ℕ) (page : Page) (m : Map) : Type 0 where
   pub mapped : fieldsAt samePage page m ≡ some fields
   pub frame : fields .frame ≡ rpn
   pub attributes : fields .attributes ≡ wimg
+
+-- revised marks and protection keep a page out, or its frame and attributes
+module _ (page : Page) (m : Map) where
+  revisions-out : (n : Map) → fieldsAt samePage page m ≡ none → Revisions m n → fieldsAt samePage page n ≡ none
+  revisions-out n e (kept q) = rw q e
+  revisions-out n e (revising o more other u keep q) =
+      rw q (fieldsAt-revise samePage samePage-refl samePage-eq other page u o ∙ (rw (revisions-out o e more) (cond-none (samePage other page))))
+    where
+      cond-none : (t : Bool) → cond {A = Option PageFields} t none none ≡ none
+      cond-none true = refl
+      cond-none false = refl
+
+  module _ (rpn wimg : ℕ) (had : Has rpn wimg page m) where
+    revisions-in : (n : Map) → Revisions m n → Has rpn wimg page n
+    revisions-in n (kept q) = rw q had
+    revisions-in n (revising o more other u keep q) = rw q (by (revisions-in o more) (samePage other page) refl)
+      where
+        by : Has rpn wimg page o → (t : Bool) → samePage other page ≡ t → Has rpn wimg page (revise samePage other u o)
+        by has true s = record {
+          fields = u (has .fields);
+          mapped = fieldsAt-revise samePage samePage-refl samePage-eq other page u o ∙ (rw (s, has .mapped));
+          frame = keep .frame (has .fields) ∙ has .frame;
+          attributes = keep .attributes (has .fields) ∙ has .attributes;
+        }
+        by has false s = record {
+          fields = has .fields;
+          mapped = fieldsAt-revise samePage samePage-refl samePage-eq other page u o ∙ (rw s (has .mapped));
+          frame = has .frame;
+          attributes = has .attributes;
+        }
 
 module _ (page : Page) (request : Request ℕ) (m : Map) (d : Ended Map) where
   -- a page that is not mapped stays so unless it is mapped
@@ -69,12 +109,7 @@ module _ (page : Page) (request : Request ℕ) (m : Map) (d : Ended Map) where
       by : (t : Bool) → samePage other page ≡ t → fieldsAt samePage page (takeOut samePage other m) ≡ none
       by true s = subst (λ p. fieldsAt samePage p (takeOut samePage other m) ≡ none) (samePage-eq other page s) (fieldsAt-takeOut-same samePage samePage-refl samePage-eq other m)
       by false s = fieldsAt-takeOut-other samePage samePage-refl samePage-eq other page m s ∙ e
-  stays-out e n (revised other u keep q) =
-      rw q (fieldsAt-revise samePage samePage-refl samePage-eq other page u m ∙ (rw e (cond-none (samePage other page))))
-    where
-      cond-none : (t : Bool) → cond {A = Option PageFields} t none none ≡ none
-      cond-none true = refl
-      cond-none false = refl
+  stays-out e n (revised more) = revisions-out page m _ e more
 
   -- a mapped page keeps its frame and attributes unless it is taken out
   pub stays-in : (rpn wimg : ℕ) → Has rpn wimg page m → (TakesOut page request → d .number ≡ 0 → ⊥) → Changed request m d → Has rpn wimg page (d .state)
@@ -100,21 +135,7 @@ module _ (page : Page) (request : Request ℕ) (m : Map) (d : Ended Map) where
         frame = has .frame;
         attributes = has .attributes;
       }
-  stays-in rpn wimg has n (revised other u keep q) = rw q (by (samePage other page) refl)
-    where
-      by : (t : Bool) → samePage other page ≡ t → Has rpn wimg page (revise samePage other u m)
-      by true s = record {
-        fields = u (has .fields);
-        mapped = fieldsAt-revise samePage samePage-refl samePage-eq other page u m ∙ (rw (s, has .mapped));
-        frame = keep .frame (has .fields) ∙ has .frame;
-        attributes = keep .attributes (has .fields) ∙ has .attributes;
-      }
-      by false s = record {
-        fields = has .fields;
-        mapped = fieldsAt-revise samePage samePage-refl samePage-eq other page u m ∙ (rw s (has .mapped));
-        frame = has .frame;
-        attributes = has .attributes;
-      }
+  stays-in rpn wimg has n (revised more) = revisions-in page m rpn wimg has _ more
 
 -- what the finite map is fed asks the same
 maps-fed : (page : Page) (request : Request (List ℕ)) → Maps page (fed request) → Maps page request
@@ -312,8 +333,8 @@ passed : (kind : ℕ) (key : Bool) (address word : ℕ) → answerOf kind addres
 unfolding answerOf pageOutcome
 passed kind key address word z = by (fetching kind && guarded (wimgOf word)) (pageAllows key (ppOf word) kind) z
   where
-    by : (g a : Bool) → answerOf kind address (cond g Guarded (cond a (Done word) Protection)) .result ≡ 0
-        → answerOf kind address (cond g Guarded (cond a (Done word) Protection)) ≡ doneAnswer (physicalAddress word address) (wimgOf word) address
+    by : (g a : Bool) → answerOf kind address (cond g Guarded (cond a (Done word) (Protection word))) .result ≡ 0
+        → answerOf kind address (cond g Guarded (cond a (Done word) (Protection word))) ≡ doneAnswer (physicalAddress word address) (wimgOf word) address
     by true a e = absurd (fault-number noFetch kind e)
     by false true e = refl
     by false false e = absurd (fault-number protection kind e)
@@ -326,6 +347,11 @@ module _ (f : PageFields) (range : FieldsInRange f) where
       second-packed (f .frame) (oneIf (f .referenced)) (oneIf (f .changed)) (f .attributes) (f .protection)
       (range .frame-lt) (oneIf-lt (f .referenced)) (oneIf-lt (f .changed)) (range .attributes-lt) (range .protection-lt)
 
+-- a fault with no match is not done
+no-match-number : (kind address : ℕ) → answerOf kind address NoMatch .result ≡ 0 → ⊥
+unfolding answerOf
+no-match-number kind address z = fault-number noMatch kind z
+
 found-none : (m : Map) (page : Page) → fieldsAt samePage page m ≡ none → foundIn m page ≡ Nothing
 unfolding foundIn
 found-none m page e = rw e
@@ -334,49 +360,117 @@ found-some : (m : Map) (page : Page) (f : PageFields) → fieldsAt samePage page
 unfolding foundIn
 found-some m page f e = rw e
 
-module _ (h : History) (c : AccessCall (List ℕ)) (page : Page) (reaches : Reaches h c page) where
+-- where the words of a done part stand in the answer
+module _ (address length : ℕ) (answer : Bool → Answer) (decision : Bool → Decision) where
+  abbrev answerBytes : List ℕ
+  answerBytes = accessAnswer (operandAnswer address length answer decision)
+
+  part-words : (b : Bool) → (b ≡ true → overEdge address length ≡ true) → (answer false .result ≡ 0) × (overEdge address length ≡ true → answer true .result ≡ 0)
+      → (physical attributes : ℕ) → answer b .address ≡ physical → answer b .attributes ≡ attributes → physical < 2 ^ 32 → attributes < 2 ^ 32
+      → (wordAt answerBytes (addressByte b) ≡ physical) × (wordAt answerBytes (attributesByte b) ≡ attributes)
+  unfolding accessAnswer bytesOf wordBytes wordAt
+  part-words false has done physical attributes p a lp la = go (overEdge address length) refl
+    where
+      go : (over : Bool) → overEdge address length ≡ over → (wordAt answerBytes 4 ≡ physical) × (wordAt answerBytes 8 ≡ attributes)
+      go true o = rw (both-done address length answer decision (done .0) o (done .1 o), p, a) (own-bytes physical lp, own-bytes attributes la)
+      go false o = rw (one-done address length answer decision (done .0) o, p, a) (own-bytes physical lp, own-bytes attributes la)
+  part-words true has done physical attributes p a lp la =
+      rw (both-done address length answer decision (done .0) (has refl) (done .1 (has refl)), p, a) (own-bytes physical lp, own-bytes attributes la)
+
+module _ (h : History) (c : AccessCall (List ℕ)) (second : Bool) (page : Page) (reaches : Reaches h c second page) where
   abbrev kind : ℕ
   kind = c .kind
 
-  -- what the finite map answers such an access
-  plain-outcome : outcomeOf kind (λ wanted. foundIn (mapAfter h) (wantedPage wanted)) (earlyOf c)
-      ≡ afterSearch kind (reaches .wanted .key) (foundIn (mapAfter h) page)
-  plain-outcome =
-      ap (outcomeOf kind (λ wanted. foundIn (mapAfter h) (wantedPage wanted))) (reaches .searches)
-      ∙ outcome-searched kind (λ wanted. foundIn (mapAfter h) (wantedPage wanted)) (reaches .wanted)
-      ∙ ap (λ (p : Page). afterSearch kind (reaches .wanted .key) (foundIn (mapAfter h) p)) (reaches .wants)
+  abbrev start : ℕ
+  start = startOf c second
 
-  number-by : next h (access c) .number ≡ answerOf kind (c .address) (afterSearch kind (reaches .wanted .key) (foundIn (mapAfter h) page)) .result
-  unfolding mapDoes fed
-  number-by = map-number h (access c) (reaches .same-sdr1) (reaches .taken) ∙ ap (λ (x : Outcome). answerOf kind (c .address) x .result) plain-outcome
+  abbrev key : Bool
+  key = reaches .wanted .key
 
-  answer-by : next h (access c) .answer ≡ accessAnswer (answerOf kind (c .address) (afterSearch kind (reaches .wanted .key) (foundIn (mapAfter h) page)))
-  unfolding mapDoes fed
-  answer-by = map-answer h (access c) (reaches .same-sdr1) (reaches .taken) ∙ ap (λ (x : Outcome). accessAnswer (answerOf kind (c .address) x)) plain-outcome
+  -- what the parts answer on the finite map, which is what they answer on the table
+  abbrev plain : Bool → Answer
+  plain = partAnswer c (λ wanted. foundIn (mapAfter h) (wantedPage wanted))
 
-  faults : mappedTo h page ≡ none → next h (access c) .answer ≡ accessAnswer (answerOf kind (c .address) NoMatch)
-  faults e =
-      answer-by ∙ ap (λ (x : Searched). accessAnswer (answerOf kind (c .address) (afterSearch kind (reaches .wanted .key) x))) (found-none (mapAfter h) page e)
-      ∙ ap (λ (x : Outcome). accessAnswer (answerOf kind (c .address) x)) (after-nothing kind (reaches .wanted .key))
+  plain-same : (b : Bool) → answeredAfter h c b ≡ plain b
+  plain-same b = part-same (ones h) (tableAfter h) (mapAfter h) (history-represents h) c b
+
+  -- what decided the parts
+  abbrev deciding : Bool → Decision
+  deciding = partDecision c (searchIn (ones h) (tableAfter h)) (firstPlaceIn (ones h) (tableAfter h))
+
+  -- the part in question comes to what the map has of the page
+  abbrev search : Wanted → Searched
+  search wanted = foundIn (mapAfter h) (wantedPage wanted)
+
+  outcome-is : outcomeOf kind search (earlyOf c second) ≡ afterSearch kind key (foundIn (mapAfter h) page)
+  outcome-is =
+      ap (outcomeOf kind search) (reaches .searches) ∙ outcome-searched kind search (reaches .wanted)
+      ∙ ap (λ (p : Page). afterSearch kind key (foundIn (mapAfter h) p)) (reaches .wants)
+
+  plain-part : plain second ≡ answerOf kind start (afterSearch kind key (foundIn (mapAfter h) page))
+  plain-part = ap (answerOf kind start) outcome-is
+
+  does : next h (access c) ≡ bytesDo (ones h) (access c) (tableAfter h)
+  does = bytes-do h (access c) (reaches .same-sdr1) (reaches .taken)
+
+  same : operandAnswer (c .address) (c .length) (answeredAfter h c) deciding ≡ operandAnswer (c .address) (c .length) plain deciding
+  same = operand-same (c .address) (c .length) (answeredAfter h c) plain deciding (plain-same false) (plain-same true)
+
+  number-by : next h (access c) .number ≡ operandAnswer (c .address) (c .length) plain deciding .part .result
+  unfolding bytesDo
+  number-by = ap (λ (e : Ended (List ℕ)). e .number) does ∙ ap (λ (x : OperandAnswer). x .part .result) same
+
+  answer-by : next h (access c) .answer ≡ accessAnswer (operandAnswer (c .address) (c .length) plain deciding)
+  unfolding bytesDo
+  answer-by = ap (λ (e : Ended (List ℕ)). e .answer) does ∙ ap accessAnswer same
+
+  -- a part that is not done answers for all unless the part before it is not done
+  stopping : (b : Bool) → (b ≡ true → overEdge (c .address) (c .length) ≡ true) → (b ≡ true → answeredAfter h c false .result ≡ 0)
+      → (plain b .result ≡ 0 → ⊥) → operandAnswer (c .address) (c .length) plain deciding ≡ stopped (plain b) (deciding b)
+  stopping false has before n = first-stops (c .address) (c .length) plain deciding n
+  stopping true has before n =
+      second-stops (c .address) (c .length) plain deciding (sym (ap (λ (a : Answer). a .result) (plain-same false)) ∙ before refl) (has refl) n
+
+  faults : mappedTo h page ≡ none → (second ≡ true → answeredAfter h c false .result ≡ 0)
+      → next h (access c) .answer ≡ accessAnswer (stopped (answerOf kind start NoMatch) (decided 3 0))
+  unfolding decisionOf
+  faults e before =
+      let none-found : outcomeOf kind search (earlyOf c second) ≡ NoMatch =
+      outcome-is ∙ ap (afterSearch kind key) (found-none (mapAfter h) page e) ∙ after-nothing kind key in
+      let is : plain second ≡ answerOf kind start NoMatch = ap (answerOf kind start) none-found in
+      let by-none : deciding second ≡ decided 3 0 =
+      ap (decisionOf (usedBy (firstPlaceIn (ones h) (tableAfter h)) (earlyOf c second)))
+      (outcome-same (ones h) (tableAfter h) (mapAfter h) (history-represents h) c second ∙ none-found) in
+      answer-by
+      ∙ ap accessAnswer (stopping second (reaches .has-part) before (λ z. no-match-number kind start (ap (λ (a : Answer). a .result) (sym is) ∙ z)) ∙ ap₂ stopped is by-none)
 
   gives : (rpn wimg : ℕ) → Has rpn wimg page (mapAfter h) → next h (access c) .number ≡ 0
-      → next h (access c) .answer ≡ accessAnswer (doneAnswer (placed 19 rpn + bits 20 31 (c .address)) wimg (c .address))
+      → (wordAt (next h (access c) .answer) (addressByte second) ≡ placed 19 rpn + bits 20 31 start)
+      × (wordAt (next h (access c) .answer) (attributesByte second) ≡ wimg)
   gives rpn wimg has z =
-      let address = c .address in
       let f = has .fields in
-      let key = reaches .wanted .key in
-      let word = word-fields f (history-represents h .valid page f (has .mapped) .1) in
-      let outcome : afterSearch kind key (foundIn (mapAfter h) page) ≡ pageOutcome kind key (fieldsWord f) =
-      ap (afterSearch kind key) (found-some (mapAfter h) page f (has .mapped)) ∙ after-at kind key (fieldsWord f) in
-      let zero : answerOf kind address (pageOutcome kind key (fieldsWord f)) .result ≡ 0 =
-      ap (λ (x : Outcome). answerOf kind address x .result) (sym outcome) ∙ sym number-by ∙ z in
-      let physical : physicalAddress (fieldsWord f) address ≡ placed 19 rpn + bits 20 31 address =
-      physical-fields word address ∙ ap (λ (r : ℕ). placed 19 r + bits 20 31 address) (has .frame) in
-      answer-by ∙ ap (λ (x : Outcome). accessAnswer (answerOf kind address x)) outcome ∙ ap accessAnswer (passed kind key address (fieldsWord f) zero)
-      ∙ ap₂ (λ (a b : ℕ). accessAnswer (doneAnswer a b address)) physical (word .has-wimg ∙ has .attributes)
+      let range = history-represents h .valid page f (has .mapped) .1 in
+      let word = word-fields f range in
+      let done = parts-done (c .address) (c .length) plain deciding (sym number-by ∙ z) in
+      let outcome : plain second ≡ answerOf kind start (pageOutcome kind key (fieldsWord f)) =
+      plain-part ∙ ap (answerOf kind start) (ap (afterSearch kind key) (found-some (mapAfter h) page f (has .mapped)) ∙ after-at kind key (fieldsWord f)) in
+      let zero : plain second .result ≡ 0 = pick second (reaches .has-part) done in
+      let is : plain second ≡ doneAnswer (physicalAddress (fieldsWord f) start) (wimgOf (fieldsWord f)) start =
+      outcome ∙ passed kind key start (fieldsWord f) (ap (λ (a : Answer). a .result) (sym outcome) ∙ zero) in
+      let physical : physicalAddress (fieldsWord f) start ≡ placed 19 rpn + bits 20 31 start =
+      physical-fields word start ∙ ap (λ (r : ℕ). placed 19 r + bits 20 31 start) (has .frame) in
+      let fits : physicalAddress (fieldsWord f) start < 2 ^ 32 = physical-lt (fieldsWord f) start in
+      let small : wimgOf (fieldsWord f) < 2 ^ 32 = rw (word .has-wimg) (let l = range .attributes-lt in omega arith) in
+      let read = part-words (c .address) (c .length) plain deciding second (reaches .has-part) done (physicalAddress (fieldsWord f) start) (wimgOf (fieldsWord f)) (ap (λ (a : Answer). a .address) is) (ap (λ (a : Answer). a .attributes) is) fits small in
+      rw answer-by (read .0 ∙ physical, read .1 ∙ word .has-wimg ∙ has .attributes)
+    where
+      pick : (b : Bool) → (b ≡ true → overEdge (c .address) (c .length) ≡ true)
+          → (plain false .result ≡ 0) × (overEdge (c .address) (c .length) ≡ true → plain true .result ≡ 0) → plain b .result ≡ 0
+      pick false has done = done .0
+      pick true has done = done .1 (has refl)
 
 pub access-follows-history : AccessFollowsHistory
 access-follows-history = record {
-  no-match = λ h page since c reaches. faults h c page reaches (out-after h page since);
-  frame = λ h m since c reaches z. gives h c (m .page) reaches (m .rpn) (m .wimg) (in-after h m since) z;
+  no-match = λ h page since c second reaches before. faults h c second page reaches (out-after h page since) before;
+  frame = λ h m since c second reaches z. gives h c second (m .page) reaches (m .rpn) (m .wimg) (in-after h m since) z;
 }

@@ -9,7 +9,7 @@ use Rattle.calls.proofs.Refusals.{refusals-leave}
 use Rattle.calls.proofs.AnyTable.{calls-on-any-table, access-stated}
 use Rattle.calls.proofs.Theorem.{table-refines-map}
 use Rattle.calls.proofs.Corollaries.{access-follows-history}
-use Rattle.calls.proofs.Tables.{without-table-tables, page-rows}
+use Rattle.calls.proofs.Tables.{without-table-tables, page-rows, operand-rows}
 
 pub all-demands : Demands
 all-demands = record {
@@ -25,4 +25,5 @@ all-demands = record {
   edits = edits-tables;
   without-table = without-table-tables;
   page-calls = page-rows;
+  operands = operand-rows;
 }

@@ -1,6 +1,6 @@
 -- One call of a history keeps "this table represents this map" and answers what the map answers; so does every list of calls.
 use Prim.Native.Nat.{ℕ, _*_, _^_}
-use mathlib.Core.Path.{_≡_, refl, sym, ap, ap₂, _∙_, subst}
+use mathlib.Core.Path.{_≡_, refl, sym, ap, _∙_, subst}
 use mathlib.Core.Bool.{Bool, true, false, cond}
 use mathlib.Core.List.{List, [], map}
 use mathlib.Core.Logic.{inl, inr}
@@ -16,7 +16,7 @@ use Rattle.tables.proofs.Runs.{runs-related, run-fed, after-fed}
 use Rattle.calls.specs.Request.{Request, clear, mapPage, unmap, protect, look, access, fed, sdr1In}
 use Rattle.calls.specs.Rules.{refusal}
 use Rattle.calls.specs.Answers.{refusedBytes, answerRefused, compared}
-use Rattle.calls.specs.OnBytes.{Ended, ended, byOption, onBytes}
+use Rattle.calls.specs.OnBytes.{Ended, ended, byOption, bytesDo, onBytes}
 use Rattle.calls.specs.OnMap.{Map, mapDoes, onMap}
 use Rattle.calls.specs.Represents.{represents}
 use Rattle.calls.specs.Histories.{Call, bytesStep, mapStep, fedCall, Under}
@@ -25,11 +25,11 @@ use Rattle.calls.proofs.Rules.{fitting}
 use Rattle.calls.proofs.Step.{Alike, step}
 
 -- what is compared of a refusal does not depend on what was lent for the answer
-lent-answer : (number : ℕ) (lent : List ℕ) → compared number (refusedBytes number lent) ≡ compared number (refusedBytes number [])
+lent-answer : (zeros number : ℕ) (lent : List ℕ) → compared number (refusedBytes zeros number lent) ≡ compared number (refusedBytes zeros number [])
 unfolding compared refusedBytes
-lent-answer number lent = go (eqb number 11) refl
+lent-answer zeros number lent = go (eqb number 11) refl
   where
-    go : (t : Bool) → eqb number 11 ≡ t → _≡_ {A = ℕ × List ℕ} (number, cond (eqb number 11) [] (refusedBytes number lent)) (number, cond (eqb number 11) [] (refusedBytes number []))
+    go : (t : Bool) → eqb number 11 ≡ t → compared number (refusedBytes zeros number lent) ≡ compared number (refusedBytes zeros number [])
     go true e = rw e
     go false e = rw e
 
@@ -38,10 +38,10 @@ same-refusal : (request : Request (List ℕ)) (number : ℕ)
 unfolding answerRefused fed
 same-refusal (clear c) number = refl
 same-refusal (mapPage c) number = refl
-same-refusal (unmap c) number = lent-answer number (c .answer)
+same-refusal (unmap c) number = lent-answer 3 number (c .answer)
 same-refusal (protect c) number = refl
-same-refusal (look c) number = lent-answer number (c .answer)
-same-refusal (access c) number = lent-answer number (c .answer)
+same-refusal (look c) number = lent-answer 3 number (c .answer)
+same-refusal (access c) number = lent-answer 11 number (c .answer)
 
 pub sdr1-fed : (request : Request (List ℕ)) → sdr1In (fed request) ≡ sdr1In request
 unfolding fed sdr1In
@@ -73,11 +73,14 @@ module _ (sdr1 size : ℕ) (shape : sdr1Shape sdr1 ≡ true) (long : size ≡ ta
   size-is t m r = r .good .long ∙ sym (length-is sdr1 shape) ∙ sym long
 
   -- a call that brings the SDR1 and is not refused by its arguments
+  pub done-bytes : (request : Request (List ℕ)) (t : List ℕ) (m : Map) → represents ones t m → sdr1In request ≡ sdr1
+      → refusal (fed request) size ≡ 0 → onBytes request t ≡ bytesDo ones request t
+  done-bytes request t m r same e =
+      taken request t (ap (refusal (fed request)) (size-is t m r) ∙ e) ∙ ap (λ (n : ℕ). bytesDo n request t) (ap maskOnes same)
+
   pub done-plain : (request : Request (List ℕ)) (t : List ℕ) (m : Map) → represents ones t m → sdr1In request ≡ sdr1
       → refusal (fed request) size ≡ 0 → Alike ones (onBytes request t) (mapDoes ones (fed request) m)
-  done-plain request t m r same e =
-      let here : refusal (fed request) (length t) ≡ 0 = ap (refusal (fed request)) (size-is t m r) ∙ e in
-      rw (taken request t here, ap maskOnes same) (step ones t m r request size e)
+  done-plain request t m r same e = rw (done-bytes request t m r same e) (step ones t m r request size e)
 
   done-alike : (request : Request (List ℕ)) (t : List ℕ) (m : Map) → represents ones t m → sdr1In request ≡ sdr1
       → refusal (fed request) size ≡ 0 → Alike ones (onBytes request t) (onMap (fed request) size m)
@@ -96,7 +99,7 @@ module _ (sdr1 size : ℕ) (shape : sdr1Shape sdr1 ≡ true) (long : size ≡ ta
   onPlain d = (compared (d .number) (d .answer), d .state)
 
   alike-follows : (e : Ended (List ℕ)) (d : Ended Map) → Alike ones e d → Follows (onTable e (e .state)) (onPlain d)
-  alike-follows e d a = (ap₂ compared (a .number) (a .answer), a .related)
+  alike-follows e d a = (a .told, a .related)
 
   -- a refused call leaves table and map
   refused-follows : (request : Request (List ℕ)) (other t : List ℕ) (m : Map) → represents ones t m → (refusal (fed request) (length other) ≡ 0 → ⊥)

@@ -8,7 +8,12 @@ pub mod Step
 pub mod FirstClear
 pub mod Histories
 pub mod Theorem
+pub mod TakenCalls
+pub mod Compared
 pub mod AnyEntries
+pub mod TwoMarks
+pub mod AnyRule
+pub mod AnyAccess
 pub mod AnyTable
 pub mod Refusals
 pub mod Changes

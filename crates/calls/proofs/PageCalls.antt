@@ -151,7 +151,7 @@ module _ (c : ProtectCall) (t : List ℕ) (inRange : Bool) (same : inRange ≡ p
   protect-taken z left e = by-work (protect c) t (inRange && ltb (c .pp) (2 ^ 2)) both-fit (c .sdr1) number both-ranges given refl z left e
 
 -- after any refusal but that of a length the answer is the number and three zero words
-refused-answer : (number : ℕ) (lent : List ℕ) → (number ≡ 11 → ⊥) → refusedBytes number lent ≡ wordAnswer number 0
+refused-answer : (number : ℕ) (lent : List ℕ) → (number ≡ 11 → ⊥) → refusedBytes 3 number lent ≡ wordAnswer number 0
 unfolding refusedBytes wordAnswer
 refused-answer number lent n = rw (ne-eqb number 11 n)
 
@@ -162,7 +162,7 @@ answering c answer = record { sdr1 = c .sdr1; page = c .page; answer = answer }
 -- unmap and look, lent an answer of 16 bytes
 module _ (c : AnsweredCall (List ℕ)) (t : List ℕ) (number : ℕ) (given : number ≡ firstBroken (pageRules (pageInRange (c .page)) (c .sdr1) (length t)))
     (sixteen : length (c .answer) ≡ 16) where
-  other-refusal : refusedBytes number (c .answer) ≡ wordAnswer number 0
+  other-refusal : refusedBytes 3 number (c .answer) ≡ wordAnswer number 0
   other-refusal = refused-answer number (c .answer) (λ q. not-11 (pageInRange (c .page)) (c .sdr1) (length t) (sym given ∙ q))
 
   unmap-rules : refusal (fed (unmap c)) (length t) ≡ firstBroken (pageRules (pageInRange (c .page)) (c .sdr1) (length t))

@@ -1,15 +1,15 @@
 -- A call that is not done leaves the table: its arguments refuse it, or the work finds a reason; only an argument's length is refused as one.
 use Prim.Native.Nat.{ℕ, _*_}
-use mathlib.Core.Path.{_≡_, refl, sym, ap, _∙_}
+use mathlib.Core.Path.{_≡_, refl, sym, ap, ap₂, _∙_}
 use mathlib.Core.Bool.{Bool, true, false, cond, true≢false}
 use mathlib.Core.List.{List, [], _∷_}
 use mathlib.Core.Logic.{ite, if-pos, if-neg}
 use mathlib.Core.Option.{Option, none, some}
 use native.Mathlib.Omega.{arith}
 use lib.Dec.{eqb}
-use lib.ListN.{length}
+use lib.ListN.{length, replicate}
 use borrow.Author.Tests.{eqb-true, eqb-false, eq-eqb, ne-eqb}
-use Rattle.words.specs.Words.{withWord}
+use Rattle.words.specs.Words.{withWord, bytesOf}
 use Rattle.entry.specs.Entry.{firstWord, secondWord, withinWidths, packed}
 use Rattle.entry.specs.declared.Fields.{Fields}
 use Rattle.register_words.specs.Sdr1.{maskOnes}
@@ -20,7 +20,11 @@ use Rattle.matches.specs.Search.{contradict}
 use Rattle.protection.specs.Access.{fetching}
 use Rattle.protection.specs.Fault.{noMatch, noFetch, protection, faultOf}
 use Rattle.translation.specs.Steps.{pageOutcome, afterSearch, outcomeOf, answerOf}
+use Rattle.translation.specs.Operand.{stopped}
 use Rattle.translation.specs.Stated.{earlyOutcome}
+use Rattle.translation.specs.declared.Answer.{Answer}
+use Rattle.translation.specs.declared.decision.Decision.{Decision}
+use Rattle.translation.specs.declared.operand.OperandAnswer.{OperandAnswer}
 use Rattle.translation.specs.declared.Early.{Early}
 use Rattle.translation.specs.declared.Early.the-variants.{Decided, Search}
 use Rattle.translation.specs.declared.Outcome.{Outcome}
@@ -28,16 +32,17 @@ use Rattle.translation.specs.declared.Outcome.the-variants.{Real, Block, BlockP
 use Rattle.translation.specs.declared.Searched.{Searched}
 use Rattle.translation.specs.declared.Searched.the-variants.{Nothing, At, Contradicting}
 use Rattle.translation.proofs.Stated.{access-as-stated}
+use Rattle.translation.proofs.Parts.{result-of, not-done-stops}
 use Rattle.translation.proofs.Steps.{page-by}
 use Rattle.calls.specs.Request.{ClearCall, MapCall, ProtectCall, AnsweredCall, AccessCall, Request, clear, mapPage, unmap, protect, look, access, sdr1In, fed}
 use Rattle.calls.specs.Rules.{refusal}
-use Rattle.calls.specs.Answers.{refusedBytes, answerRefused}
+use Rattle.calls.specs.Answers.{accessAnswer, refusedBytes, answerRefused}
 use Rattle.calls.specs.WithoutTable.{setRegisterCall, packCall, unpackCall}
-use Rattle.calls.specs.OnBytes.{layout, Ended, ended, byMatches, byOption, earlyOf, wantedPage, searched, bytesDo, onBytes}
+use Rattle.calls.specs.OnBytes.{layout, Ended, ended, byMatches, byOption, earlyOf, bytesDo, onBytes, startOf, partAnswer, usedBy, partDecision, searchIn, firstPlaceIn}
 use Rattle.calls.specs.Refusals.{RefusalsLeave}
 use Rattle.calls.proofs.Lent.{right-length, wrong-length}
 use Rattle.calls.proofs.OnBytes.{taken, refused}
-use Rattle.calls.proofs.Access.{unmarked}
+use Rattle.calls.proofs.Access.{refused-words, parts-unmarked}
 
 -- ---- the table
 
@@ -70,7 +75,7 @@ does-keep k (unmap c) t = by-list (Keeps t) (matchesOf (layout k) t (c .page)) _
 does-keep k (protect c) t = by-list (Keeps t) (matchesOf (layout k) t (c .page)) _ _ (λ n. refl) (λ x xs n. absurd (n refl))
 does-keep k (look c) t =
     by-list (Keeps t) (matchesOf (layout k) t (c .page)) _ _ (λ n. refl) (λ x xs. by-bool (Keeps t) (contradict x xs) _ _ (λ n. refl) (λ n. refl))
-does-keep k (access c) t = λ n. unmarked k (c .kind) (earlyOf c) _ t n
+does-keep k (access c) t = λ n. parts-unmarked k c _ t n
 
 -- ---- a refused length
 
@@ -94,7 +99,7 @@ early-fits kind address (BlockProtection i) e z = fault-fits protection kind z
 early-fits kind address NoExecute e z = fault-fits noFetch kind z
 early-fits kind address NoMatch e z = fault-fits noMatch kind z
 early-fits kind address Guarded e z = fault-fits noFetch kind z
-early-fits kind address Protection e z = fault-fits protection kind z
+early-fits kind address (Protection second) e z = fault-fits protection kind z
 early-fits kind address (Done second) e z = omega arith
 early-fits kind address (Refused number) e z = true≢false (sym e)
 
@@ -117,12 +122,16 @@ look-fits k c t =
 
 access-fits : (k : ℕ) (c : AccessCall (List ℕ)) (t : List ℕ) → Fits (bytesDo k (access c) t)
 unfolding bytesDo outcomeOf
-access-fits k c t = go (earlyOf c) refl
+access-fits k c t = result-of (λ (n : ℕ). n ≡ 11 → ⊥) (c .address) (c .length) (partAnswer c (searchIn k t)) (partDecision c (searchIn k t) (firstPlaceIn k t)) (part false) (part true)
   where
-    go : (early : Early) → earlyOf c ≡ early
-        → answerOf (c .kind) (c .address) (outcomeOf (c .kind) (λ wanted. searched (matchesOf (layout k) t (wantedPage wanted))) early) .result ≡ 11 → ⊥
-    go (Decided outcome) e z = early-fits (c .kind) (c .address) outcome (access-as-stated .before (registerWords (c .registers)) (c .mode) (c .kind) (c .address) .only-early outcome e) z
-    go (Search wanted) e z = late-fits (c .kind) (wanted .key) (c .address) _ z
+    part : (second : Bool) → partAnswer c (searchIn k t) second .result ≡ 11 → ⊥
+    part second = go (earlyOf c second) refl
+      where
+        go : (early : Early) → earlyOf c second ≡ early → answerOf (c .kind) (startOf c second) (outcomeOf (c .kind) (searchIn k t) early) .result ≡ 11 → ⊥
+        go (Decided outcome) e z =
+            early-fits (c .kind) (startOf c second) outcome
+            (access-as-stated .before (registerWords (c .registers)) (c .mode) (c .kind) (startOf c second) .only-early outcome e) z
+        go (Search wanted) e z = late-fits (c .kind) (wanted .key) (startOf c second) _ z
 
 module _ (request : Request (List ℕ)) (t : List ℕ) where
   abbrev number : ℕ
@@ -149,6 +158,40 @@ module _ (request : Request (List ℕ)) (t : List ℕ) where
           let q = refused request t number refl (eqb-false number 0 e) in
           let eleven : number ≡ 11 = sym (ap (λ (x : Ended (List ℕ)). x .number) q) ∙ z in
           ap (λ (x : Ended (List ℕ)). x .answer) q ∙ ap (answerRefused (λ lent. lent) request) eleven
+
+-- ---- what a refused access answers
+
+-- what a call answers that is neither done nor a fault nor refused by a length: its number and zero words
+abbrev Zeros : Ended (List ℕ) → Type 0
+Zeros e = (e .number ≡ 0 → ⊥) → (e .number ≡ 64 → ⊥) → (e .number ≡ 65 → ⊥) → (e .number ≡ 11 → ⊥) → e .answer ≡ bytesOf (e .number ∷ replicate 11 0)
+
+module _ (c : AccessCall (List ℕ)) (t : List ℕ) where
+  -- refused by its work: the part that stops it is a refusal
+  does-zeros : (k : ℕ) → Zeros (bytesDo k (access c) t)
+  unfolding bytesDo accessAnswer
+  does-zeros k done by-data by-fetch lent =
+      let parts : Bool → Answer = partAnswer c (searchIn k t) in
+      let deciding : Bool → Decision = partDecision c (searchIn k t) (firstPlaceIn k t) in
+      let (second, stops) = not-done-stops (c .address) (c .length) parts deciding done in
+      let number = ap (λ (x : OperandAnswer). x .part .result) stops in
+      let (words, shown) = refused-words (c .kind) (startOf c second) (usedBy (firstPlaceIn k t) (earlyOf c second)) (outcomeOf (c .kind) (searchIn k t) (earlyOf c second))
+      (λ z. done (number ∙ z)) (λ z. by-data (number ∙ z)) (λ z. by-fetch (number ∙ z)) in
+      ap accessAnswer (stops ∙ ap₂ (λ (a : Answer) (d : Decision). stopped a d) words shown) ∙ ap (λ (n : ℕ). bytesOf (n ∷ replicate 11 0)) (sym number)
+
+  -- refused by its arguments
+  arguments-zeros : (number : ℕ) → Zeros (ended number t (answerRefused (λ lent. lent) (access c) number))
+  unfolding answerRefused refusedBytes
+  arguments-zeros number done by-data by-fetch lent = rw (ne-eqb number 11 lent)
+
+  access-zeros : Zeros (onBytes (access c) t)
+  access-zeros = go (eqb refuses 0) refl
+    where
+      refuses : ℕ
+      refuses = refusal (fed (access c)) (length t)
+
+      go : (b : Bool) → eqb refuses 0 ≡ b → Zeros (onBytes (access c) t)
+      go true e = rw (taken (access c) t (eqb-true refuses 0 e)) (does-zeros (maskOnes (sdr1In (access c))))
+      go false e = rw (refused (access c) t refuses refl (eqb-false refuses 0 e)) (arguments-zeros refuses)
 
 -- ---- the calls without a table
 
@@ -197,6 +240,7 @@ refusals-leave = record {
   unmap-answer = λ c t z. left-answer (unmap c) t (unmap-fits (maskOnes (sdr1In (unmap c))) c t) z;
   look-answer = λ c t z. left-answer (look c) t (look-fits (maskOnes (sdr1In (look c))) c t) z;
   access-answer = λ c t z. left-answer (access c) t (access-fits (maskOnes (sdr1In (access c))) c t) z;
+  access-zeros = access-zeros;
   entry = λ f entry z. lent-left 8 entry _ (packCall f entry) (right-length 8 entry _) (wrong-length 8 entry _) (pack-fits f) z;
   fields = λ first second fields z. lent-left 36 fields _ (unpackCall first second fields) (right-length 36 fields _) (wrong-length 36 fields _) (λ q. omega arith) z;
 }

@@ -2,6 +2,7 @@
 use mathlib.Core.Path.{refl}
 use Rattle.calls.specs.Tables.{WithoutTableTables}
 use Rattle.calls.specs.PageRows.{PageRows}
+use Rattle.calls.specs.OperandRows.{OperandRows}
 use Rattle.calls.proofs.Computes.{calls-compute}
 
 pub without-table-tables : WithoutTableTables
@@ -26,4 +27,17 @@ page-rows = record {
   access-rows = record { equal = refl };
   secondary-rows = record { equal = refl };
   both-rows = record { equal = refl };
+}
+
+pub operand-rows : OperandRows
+unfolding calls-compute
+operand-rows = record {
+  two-pages = record { equal = refl };
+  one-page = record { equal = refl };
+  faults = record { equal = refl };
+  contradictions = record { equal = refl };
+  segments = record { equal = refl };
+  wraps = record { equal = refl };
+  rules = record { equal = refl };
+  compared-bytes = record { equal = refl };
 }

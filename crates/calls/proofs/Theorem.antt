@@ -13,14 +13,14 @@ use Rattle.groups.specs.Page.{Page, InRange}
 use Rattle.calls.specs.Made.{fedAnswered}
 use Rattle.calls.specs.Request.{MapCall, AnsweredCall, ProtectCall, Request, mapPage, unmap, protect, look, fed, sdr1In}
 use Rattle.calls.specs.Rules.{refusal}
-use Rattle.calls.specs.OnBytes.{Ended, ended, byOption}
+use Rattle.calls.specs.OnBytes.{Ended, ended, byOption, bytesDo}
 use Rattle.calls.specs.OnMap.{PageFields, Map, arranged?, mapDoes}
 use Rattle.calls.specs.Represents.{represents}
 use Rattle.calls.specs.Theorem.{History, cleared, tableAfter, mapAfter, next, mappedTo, ArrangedWith, MapInRange, MappedAnswers, TableRefinesMap}
 use Rattle.calls.proofs.Rules as rules
 use Rattle.calls.proofs.Rules.{Fitting}
 use Rattle.calls.proofs.FirstClear.{start-done, done-fits, cleared-represents, done-made, done-starts}
-use Rattle.calls.proofs.Histories.{done-plain, runs-follow}
+use Rattle.calls.proofs.Histories.{done-bytes, done-plain, runs-follow}
 
 module _ (h : History) where
   -- the ones of the history's mask
@@ -42,9 +42,8 @@ module _ (h : History) where
     map-number =
         done-plain (h .sdr1) (length (h .table)) (fits .shape) (fits .long) request (tableAfter h) (mapAfter h) history-represents same e .number
 
-    pub map-answer : next h request .answer ≡ mapDoes ones (fed request) (mapAfter h) .answer
-    map-answer =
-        done-plain (h .sdr1) (length (h .table)) (fits .shape) (fits .long) request (tableAfter h) (mapAfter h) history-represents same e .answer
+    pub bytes-do : next h request ≡ bytesDo ones request (tableAfter h)
+    bytes-do = done-bytes (h .sdr1) (length (h .table)) (fits .shape) (fits .long) request (tableAfter h) (mapAfter h) history-represents same e
 
   -- a map in range is not refused by its arguments
   in-range-taken : (c : MapCall) → MapInRange h c → refusal (mapPage c) (length (h .table)) ≡ 0

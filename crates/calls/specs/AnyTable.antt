@@ -1,21 +1,32 @@
 -- What each call does to any table of bytes, whoever wrote it (rules 4 to 6). An entry is named by its group and its number, and a match is an
 -- entry that matches: nothing here goes by the list of matches that the calls go by.
-use Prim.Native.Nat.{ℕ, _+_, _*_, _/_, _^_, _≤_, _<_}
-use mathlib.Core.Bool.{Bool, true, false}
-use mathlib.Core.List.{List}
+use Prim.Native.Nat.{ℕ, _+_, _*_, _/_, _%_, _^_, _≤_, _<_}
+use mathlib.Core.Bool.{Bool, true, false, cond}
+use mathlib.Core.List.{List, [], _∷_, _++_}
 use mathlib.Core.Logic.{_↔_}
 use mathlib.Core.Path.{_≡_}
-use lib.ListN.{length, getD}
-use Rattle.numbers.specs.Numbers.{done, refusedMapped, refusedNoMatch, refusedFull, refusedContradiction, store, groupEntries}
+use lib.ListN.{length, getD, take}
+use Rattle.numbers.specs.Numbers.{done, refusedMapped, refusedNoMatch, refusedFull, refusedContradiction, fetch, store, groupEntries, answerSize, pageSize}
+use Rattle.numbers.specs.Numbers.{ruleReal, ruleBlock, ruleNoExecute, ruleNoMatch, ruleGuarded, ruleProtection, ruleDone}
 use Rattle.words.specs.Bits.{bits}
-use Rattle.entry.specs.Entry.{firstWord, secondWord, matches, free, apiOf}
+use Rattle.words.specs.Words.{bytesOf}
+use Rattle.entry.specs.Entry.{firstWord, secondWord, matches, free, apiOf, pageIndex, wimgOf, ppOf}
 use Rattle.register_words.specs.Sdr1.{maskOnes}
+use Rattle.register_words.specs.Segment.{keyOf, noExecute, segmentVsid}
+use Rattle.register_words.specs.Block.{blWidth}
+use Rattle.registers.specs.Set.{blockPairs, registerWords, pairCovers}
+use Rattle.protection.specs.Access.{userMode, relocated, sideOf}
+use Rattle.protection.specs.Protection.{pageAllows, guarded}
 use Rattle.groups.specs.Page.{Page}
 use Rattle.groups.specs.Hash.{groupNumber}
 use Rattle.groups.specs.Group.{firstOf, secondOf}
 use Rattle.matches.specs.Search.{hOf, agree}
-use Rattle.translation.specs.Steps.{afterSearch, answerOf}
+use Rattle.translation.specs.Steps.{segmentAt, beforeSearch, afterSearch, answerOf}
+use Rattle.translation.specs.Decision.{decided}
+use Rattle.translation.specs.Operand.{overEdge, partStart, stopped, within}
 use Rattle.translation.specs.Stated.{AccessAsStated}
+use Rattle.translation.specs.declared.Answer.{Answer}
+use Rattle.translation.specs.declared.decision.Decision.{Decision}
 use Rattle.translation.specs.declared.Early.the-variants.{Decided, Search}
 use Rattle.translation.specs.declared.Outcome.{Outcome}
 use Rattle.translation.specs.declared.Outcome.the-variants.{NoMatch}
@@ -23,8 +34,8 @@ use Rattle.translation.specs.declared.Searched.the-variants.{At}
 use Rattle.translation.specs.declared.Wanted.{Wanted}
 use Rattle.calls.specs.Request.{MapCall, ProtectCall, AnsweredCall, AccessCall, Request, mapPage, unmap, protect, look, access, sdr1In, fed}
 use Rattle.calls.specs.Rules.{refusal}
-use Rattle.calls.specs.Answers.{wordAnswer, accessAnswer}
-use Rattle.calls.specs.OnBytes.{Ended, onBytes, earlyOf, wantedPage}
+use Rattle.calls.specs.Answers.{wordAnswer, partWords, ruleWords, accessAnswer}
+use Rattle.calls.specs.OnBytes.{Ended, onBytes, startOf, earlyOf, partAnswer, partDecision, wantedPage, searchIn, firstPlaceIn, markedBy}
 
 -- ---- entries and matches
 
@@ -150,28 +161,133 @@ module _ (c : AnsweredCall (List ℕ)) (t : List ℕ) where
     pub word : looked .number ≡ done → (b : Bool) (i : ℕ) → FirstMatch k t (c .page) b i → looked .answer ≡ wordAnswer done (secondHere k t (c .page) b i)
     pub left : looked .state ≡ t
 
--- an access
+-- an access, whose operand has a first part (false) and, over a page edge, a second (true)
 module _ (c : AccessCall (List ℕ)) (t : List ℕ) where
   abbrev pub accessed : Ended (List ℕ)
   accessed = onBytes (access c) t
 
-  -- one that reaches step 4
-  pub record SearchOnAny (k : ℕ) (wanted : Wanted) : Type 0 where
-    pub refused-10 : (accessed .number ≡ refusedContradiction) ↔ Disagreeing k t (wantedPage wanted)
-    pub no-match : (SomeMatch k t (wantedPage wanted) → ⊥) → accessed .answer ≡ accessAnswer (answerOf (c .kind) (c .address) NoMatch)
-    pub by-first : (Disagreeing k t (wantedPage wanted) → ⊥) → (b : Bool) (i : ℕ) → FirstMatch k t (wantedPage wanted) b i
-        → accessed .answer ≡ accessAnswer (answerOf (c .kind) (c .address) (afterSearch (c .kind) (wanted .key) (At (secondHere k t (wantedPage wanted) b i))))
-    -- done, it marks the first match alone
-    pub marks : accessed .number ≡ done → (b : Bool) (i : ℕ) → FirstMatch k t (wantedPage wanted) b i
-        → (firstOf (accessed .state) (groupAt k (wantedPage wanted) b) i ≡ firstHere k t (wantedPage wanted) b i)
-        × Marked (c .kind) (secondHere k t (wantedPage wanted) b i) (secondOf (accessed .state) (groupAt k (wantedPage wanted) b) i)
-    pub others : accessed .number ≡ done → (b : Bool) (i : ℕ) → FirstMatch k t (wantedPage wanted) b i → AllButKept k t (wantedPage wanted) b i (accessed .state)
+  -- the operand has that part
+  abbrev pub HasPart : Bool → Type 0
+  HasPart second = second ≡ true → overEdge (c .address) (c .length) ≡ true
 
-  pub record AccessOnAny (k : ℕ) : Type 0 where
-    -- a fault or a refusal leaves the table, and so does an access that is done by real mode or a block
-    pub not-done : (accessed .number ≡ done → ⊥) → accessed .state ≡ t
-    pub not-by-page : (outcome : Outcome) → earlyOf c ≡ Decided outcome → accessed .state ≡ t
-    pub by-page : (wanted : Wanted) → earlyOf c ≡ Search wanted → SearchOnAny k wanted
+  module _ (k : ℕ) where
+    -- what a part answers by itself, on the table as lent, and the table that it would leave
+    abbrev pub answered : Bool → Answer
+    answered second = partAnswer c (searchIn k t) second
+
+    abbrev pub leftBy : Bool → List ℕ
+    leftBy second = markedBy k (c .kind) (earlyOf c second) (answered second .result) t
+
+    -- what decided it
+    abbrev pub decidedBy : Bool → Decision
+    decidedBy second = partDecision c (searchIn k t) (firstPlaceIn k t) second
+
+    -- the conditions of the steps (rules 5), each by itself
+    module _ (second : Bool) where
+      -- the segment and the page at the part's start
+      abbrev pub segmentHere : ℕ
+      segmentHere = segmentAt (registerWords (c .registers)) (partStart (c .address) (c .length) second)
+
+      abbrev pub pageHere : Page
+      pageHere = record { vsid = segmentVsid segmentHere; index = pageIndex (partStart (c .address) (c .length) second) }
+
+      -- the key of step 6: Kp for PR 1, Ks for PR 0
+      abbrev pub keyHere : Bool
+      keyHere = keyOf (userMode (c .mode)) segmentHere
+
+      -- step 2: pair i of the access's side covers the part
+      abbrev pub Covered : ℕ → Type 0
+      Covered i =
+          (i < blockPairs)
+          × (pairCovers blockPairs blWidth (registerWords (c .registers)) (sideOf (c .kind)) (userMode (c .mode)) (partStart (c .address) (c .length) second) i ≡ true)
+
+      -- step r + 1's condition holds, whatever the other steps say; those of steps 5 to 7 are about the first match
+      pub data Condition : ℕ → Type 0 where
+        -- IR off for a fetch, DR off for data
+        untranslated : relocated (c .mode) (c .kind) ≡ false → Condition ruleReal
+        -- a block of its side covers it
+        by-block : (i : ℕ) → Covered i → Condition ruleBlock
+        -- a fetch with N = 1
+        not-executable : c .kind ≡ fetch → noExecute segmentHere ≡ true → Condition ruleNoExecute
+        unmatched : (SomeMatch k t pageHere → ⊥) → Condition ruleNoMatch
+        -- a fetch with G = 1
+        guarded-fetch : (b : Bool) (i : ℕ) → FirstMatch k t pageHere b i → c .kind ≡ fetch → guarded (wimgOf (secondHere k t pageHere b i)) ≡ true
+            → Condition ruleGuarded
+        -- the right is not there; it is there
+        forbidden : (b : Bool) (i : ℕ) → FirstMatch k t pageHere b i → pageAllows keyHere (ppOf (secondHere k t pageHere b i)) (c .kind) ≡ false
+            → Condition ruleProtection
+        allowed : (b : Bool) (i : ℕ) → FirstMatch k t pageHere b i → pageAllows keyHere (ppOf (secondHere k t pageHere b i)) (c .kind) ≡ true
+            → Condition ruleDone
+
+      -- what is shown of a part that is not refused
+      pub record RuleStated : Type 0 where
+        -- the rule is r exactly where step r + 1's condition holds and no earlier step's does
+        pub rule : (r : ℕ) → (decidedBy second .rule ≡ r) ↔ (Condition r × ((s : ℕ) → s < r → Condition s → ⊥))
+        -- the number of the block, or the key and PP; else nothing
+        pub block : decidedBy second .rule ≡ ruleBlock → Covered (decidedBy second .detail)
+        pub right : ruleProtection ≤ decidedBy second .rule → (b : Bool) (i : ℕ) → FirstMatch k t pageHere b i
+            → decidedBy second .detail ≡ 4 * cond keyHere 1 0 + ppOf (secondHere k t pageHere b i)
+        pub no-detail : (decidedBy second .rule ≡ ruleBlock → ⊥) → decidedBy second .rule < ruleProtection → decidedBy second .detail ≡ 0
+        -- the group and the number of the first match; else nothing
+        pub place : ruleGuarded ≤ decidedBy second .rule → (b : Bool) (i : ℕ) → FirstMatch k t pageHere b i
+            → (decidedBy second .group ≡ groupAt k pageHere b) × (decidedBy second .entry ≡ i)
+        pub no-place : decidedBy second .rule < ruleGuarded → (decidedBy second .group ≡ 0) × (decidedBy second .entry ≡ 0)
+
+    -- a part that reaches step 4
+    pub record SearchOnAny (second : Bool) (wanted : Wanted) : Type 0 where
+      pub refused-10 : (answered second .result ≡ refusedContradiction) ↔ Disagreeing k t (wantedPage wanted)
+      pub no-match : (SomeMatch k t (wantedPage wanted) → ⊥) → answered second ≡ answerOf (c .kind) (startOf c second) NoMatch
+      pub by-first : (Disagreeing k t (wantedPage wanted) → ⊥) → (b : Bool) (i : ℕ) → FirstMatch k t (wantedPage wanted) b i
+          → answered second ≡ answerOf (c .kind) (startOf c second) (afterSearch (c .kind) (wanted .key) (At (secondHere k t (wantedPage wanted) b i)))
+      -- where the operand is done, the part's first match is marked
+      pub marks : accessed .number ≡ done → (b : Bool) (i : ℕ) → FirstMatch k t (wantedPage wanted) b i
+          → (firstOf (accessed .state) (groupAt k (wantedPage wanted) b) i ≡ firstHere k t (wantedPage wanted) b i)
+          × Marked (c .kind) (secondHere k t (wantedPage wanted) b i) (secondOf (accessed .state) (groupAt k (wantedPage wanted) b) i)
+
+    -- entry i of group g is the first match of a part that reaches step 4
+    pub record FirstOfPart (g i : ℕ) : Type 0 where
+      pub second : Bool
+      pub has : HasPart second
+      pub wanted : Wanted
+      pub reaches : earlyOf c second ≡ Search wanted
+      pub b : Bool
+      pub group : g ≡ groupAt k (wantedPage wanted) b
+      pub first : FirstMatch k t (wantedPage wanted) b i
+
+    pub record AccessOnAny : Type 0 where
+      -- each part goes through steps 1 to 3 at its own start, and answers for itself where they decide it
+      pub own-steps : (second : Bool)
+          → earlyOf c second ≡ beforeSearch blockPairs blWidth (registerWords (c .registers)) (c .mode) (c .kind) (partStart (c .address) (c .length) second)
+      pub decided-early : (second : Bool) (outcome : Outcome) → earlyOf c second ≡ Decided outcome
+          → answered second ≡ answerOf (c .kind) (partStart (c .address) (c .length) second) outcome
+      -- the parts that reach step 4, each on the table as lent
+      pub by-page : (second : Bool) → HasPart second → (wanted : Wanted) → earlyOf c second ≡ Search wanted → SearchOnAny second wanted
+      -- the rule that decided a part; contradicting matches have none
+      pub rules : (second : Bool) → (answered second .result ≡ refusedContradiction → ⊥) → RuleStated second
+      pub no-rule : (second : Bool) → answered second .result ≡ refusedContradiction → decidedBy second ≡ decided 0 0
+      -- the first part that is not done answers for all, with what decided it and four zero words
+      pub first-stops : (answered false .result ≡ done → ⊥) → accessed .answer ≡ accessAnswer (stopped (answered false) (decidedBy false))
+      pub second-stops : answered false .result ≡ done → HasPart true → (answered true .result ≡ done → ⊥)
+          → accessed .answer ≡ accessAnswer (stopped (answered true) (decidedBy true))
+      -- within one page: the words and the table of that page's access, and all bytes in it
+      pub one-page : c .address % pageSize + c .length ≤ pageSize
+          → (take answerSize (accessed .answer) ≡ bytesOf (partWords (answered false))) × (accessed .state ≡ leftBy false)
+          × (answered false .result ≡ done → accessed .answer ≡ accessAnswer (within (answered false) (decidedBy false) (c .length)))
+      -- over a page edge, and done: the second part's address and attributes, the bytes in each page, which are those of the operand, and what
+      -- decided the first part
+      pub two-pages : pageSize < c .address % pageSize + c .length → answered false .result ≡ done → answered true .result ≡ done
+          → (n m : ℕ) → c .address % pageSize + n ≡ pageSize → n + m ≡ c .length
+          → accessed .answer ≡ bytesOf (partWords (answered false) ++ (answered true .address ∷ answered true .attributes ∷ n ∷ m ∷ ruleWords (decidedBy false)))
+      -- a fault or a refusal of either part leaves the table
+      pub not-done : (accessed .number ≡ done → ⊥) → accessed .state ≡ t
+      -- so does an operand of which each part is decided before step 4, by real mode or a block
+      pub no-page : ((second : Bool) → HasPart second → (outcome : Outcome) × (earlyOf c second ≡ Decided outcome)) → accessed .state ≡ t
+      -- every entry but the parts' first matches reads as before
+      pub others : (g i : ℕ) → g < 2 ^ (10 + k) → i < groupEntries → (FirstOfPart g i → ⊥) → SameEntry t (accessed .state) g i
+      -- the two marks in either order leave the same bytes
+      pub either-order : HasPart true → (result : ℕ)
+          → markedBy k (c .kind) (earlyOf c true) result (markedBy k (c .kind) (earlyOf c false) result t)
+          ≡ markedBy k (c .kind) (earlyOf c false) result (markedBy k (c .kind) (earlyOf c true) result t)
 
 -- every call on any table
 pub record CallsOnAnyTable : Type 0 where

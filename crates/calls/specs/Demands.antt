@@ -9,6 +9,7 @@ use Rattle.calls.specs.AnyTable.{CallsOnAnyTable, AccessStated}
 use Rattle.calls.specs.Theorem.{TableRefinesMap, AccessFollowsHistory}
 use Rattle.calls.specs.Tables.{WithoutTableTables}
 use Rattle.calls.specs.PageRows.{PageRows}
+use Rattle.calls.specs.OperandRows.{OperandRows}
 
 pub record Demands : Type 0 where
   -- 1: a refusal leaves what was lent
@@ -28,3 +29,4 @@ pub record Demands : Type 0 where
   pub edits : EditsTables
   pub without-table : WithoutTableTables
   pub page-calls : PageRows
+  pub operands : OperandRows

@@ -14,4 +14,5 @@ pub mod AnyTable
 pub mod Refusals
 pub mod Tables
 pub mod PageRows
+pub mod OperandRows
 pub mod Demands

@@ -20,12 +20,13 @@ toProtect sdr1 page pp = protect (record { sdr1 = sdr1; page = page; pp = pp })
 abbrev pub toLook : {A : Type 0} → ℕ → Page → A → Request A
 toLook sdr1 page answer = look (record { sdr1 = sdr1; page = page; answer = answer })
 
-abbrev pub toAccess : {A : Type 0} → List ℕ → ℕ → ℕ → ℕ → A → Request A
-toAccess registers mode kind address answer = access (record { registers = registers; mode = mode; kind = kind; address = address; answer = answer })
+abbrev pub toAccess : {A : Type 0} → List ℕ → ℕ → ℕ → ℕ → ℕ → A → Request A
+toAccess registers mode kind address bytes answer =
+    access (record { registers = registers; mode = mode; kind = kind; address = address; length = bytes; answer = answer })
 
 -- what a call with an answer is fed as
 abbrev pub fedAnswered : AnsweredCall (List ℕ) → AnsweredCall ℕ
 fedAnswered c = record { sdr1 = c .sdr1; page = c .page; answer = length (c .answer) }
 
 abbrev pub fedAccess : AccessCall (List ℕ) → AccessCall ℕ
-fedAccess c = record { registers = c .registers; mode = c .mode; kind = c .kind; address = c .address; answer = length (c .answer) }
+fedAccess c = record { registers = c .registers; mode = c .mode; kind = c .kind; address = c .address; length = c .length; answer = length (c .answer) }

@@ -1,6 +1,6 @@
 -- What each call does to a lent table, for any bytes, one clause a call.
 use Prim.Native.Nat.{ℕ, _+_, _^_}
-use mathlib.Core.Bool.{Bool, true, cond}
+use mathlib.Core.Bool.{Bool, true, false, cond}
 use mathlib.Core.List.{List, [], _∷_}
 use mathlib.Core.Option.{Option, none, some}
 use lib.Dec.{eqb}
@@ -18,6 +18,12 @@ use Rattle.tables.specs.Matches.{Match}
 use Rattle.tables.specs.Layout.{Layout, matchesOf, freePlace, overwrite, overwriteEach}
 use Rattle.protection.specs.Access.{storing}
 use Rattle.translation.specs.Steps.{beforeSearch, outcomeOf, answerOf}
+use Rattle.translation.specs.Decision.{decisionOf}
+use Rattle.translation.specs.Operand.{overEdge, partStart, operandAnswer}
+use Rattle.translation.specs.declared.Answer.{Answer}
+use Rattle.translation.specs.declared.decision.Decision.{Decision}
+use Rattle.translation.specs.declared.decision.Used.{Used}
+use Rattle.translation.specs.declared.operand.OperandAnswer.{OperandAnswer}
 use Rattle.translation.specs.declared.Early.{Early}
 use Rattle.translation.specs.declared.Early.the-variants.{Decided, Search}
 use Rattle.translation.specs.declared.Searched.{Searched}
@@ -63,9 +69,34 @@ byOption (some a) missing found = found a
 unfoldable pub entryWord : Bool → Page → ℕ
 entryWord secondary page = firstWord 1 (page .vsid) (hOf secondary) (apiOf (page .index))
 
--- steps 1 to 3 of an access
-abbrev pub earlyOf : {A : Type 0} → AccessCall A → Early
-earlyOf c = beforeSearch blockPairs blWidth (registerWords (c .registers)) (c .mode) (c .kind) (c .address)
+-- the address of the first byte of an operand's first part (false) or second (true)
+abbrev pub startOf : {A : Type 0} → AccessCall A → Bool → ℕ
+startOf c second = partStart (c .address) (c .length) second
+
+-- steps 1 to 3 of that part
+abbrev pub earlyOf : {A : Type 0} → AccessCall A → Bool → Early
+earlyOf c second = beforeSearch blockPairs blWidth (registerWords (c .registers)) (c .mode) (c .kind) (startOf c second)
+
+-- what that part answers by itself, where `search` tells what the search of a page finds
+abbrev pub partAnswer : {A : Type 0} → AccessCall A → (Wanted → Searched) → Bool → Answer
+partAnswer c search second = answerOf (c .kind) (startOf c second) (outcomeOf (c .kind) search (earlyOf c second))
+
+-- what a part went by, where `place` tells the group and the number of a page's first match
+abbrev pub usedBy : (Wanted → ℕ × ℕ) → Early → Used
+usedBy place (Decided outcome) = record { key = false; group = 0; entry = 0 }
+usedBy place (Search wanted) = record { key = wanted .key; group = place wanted .0; entry = place wanted .1 }
+
+-- what decided that part
+abbrev pub partDecision : {A : Type 0} → AccessCall A → (Wanted → Searched) → (Wanted → ℕ × ℕ) → Bool → Decision
+partDecision c search place second = decisionOf (usedBy place (earlyOf c second)) (outcomeOf (c .kind) search (earlyOf c second))
+
+-- what the operand answers
+abbrev pub wholeAnswer : {A : Type 0} → AccessCall A → (Wanted → Searched) → (Wanted → ℕ × ℕ) → OperandAnswer
+wholeAnswer c search place = operandAnswer (c .address) (c .length) (partAnswer c search) (partDecision c search place)
+
+-- a step for each part of the operand, in order
+abbrev pub eachPart : {A S : Type 0} → AccessCall A → (Bool → S → S) → S → S
+eachPart c step s = cond (overEdge (c .address) (c .length)) (step true (step false s)) (step false s)
 
 -- the page that a search wants
 abbrev pub wantedPage : Wanted → Page
@@ -76,7 +107,16 @@ unfoldable pub searched : List Match → Searched
 searched xs = byMatches xs Nothing (λ x rest. cond (contradict x rest) Contradicting (At (x .second)))
 
 module _ (k : ℕ) where
-  -- step 7: an access that reached the search and is done is done by a page; the page's first match is marked
+  -- what the search of a page finds in a table
+  abbrev pub searchIn : List ℕ → Wanted → Searched
+  searchIn t wanted = searched (matchesOf (layout k) t (wantedPage wanted))
+
+  -- where the first match of a page stands in a table: its group and its number there
+  abbrev pub firstPlaceIn : List ℕ → Wanted → ℕ × ℕ
+  firstPlaceIn t wanted =
+      byMatches (matchesOf (layout k) t (wantedPage wanted)) (0, 0) (λ x xs. (groupNumber (10 + k) (x .secondary) (wantedPage wanted), x .entry))
+
+  -- step 7: where the operand is done, a part that reached the search is done by a page; the page's first match is marked
   unfoldable pub markedBy : ℕ → Early → ℕ → List ℕ → List ℕ
   markedBy kind (Decided outcome) result t = t
   markedBy kind (Search wanted) result t =
@@ -103,9 +143,9 @@ module _ (k : ℕ) where
       byMatches (matchesOf (layout k) t (c .page)) (ended refusedNoMatch t (wordAnswer refusedNoMatch 0))
       (λ x xs. cond (contradict x xs) (ended refusedContradiction t (wordAnswer refusedContradiction 0)) (ended done t (wordAnswer done (x .second))))
   bytesDo (access c) t =
-      let outcome = outcomeOf (c .kind) (λ wanted. searched (matchesOf (layout k) t (wantedPage wanted))) (earlyOf c) in
-      let words = answerOf (c .kind) (c .address) outcome in
-      ended (words .result) (markedBy (c .kind) (earlyOf c) (words .result) t) (accessAnswer words)
+      let answer = wholeAnswer c (searchIn t) (firstPlaceIn t) in
+      let result = answer .part .result in
+      ended result (eachPart c (λ second. markedBy (c .kind) (earlyOf c second) result) t) (accessAnswer answer)
 
 -- a call on a lent table
 unfoldable pub onBytes : Request (List ℕ) → List ℕ → Ended (List ℕ)

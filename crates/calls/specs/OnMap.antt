@@ -1,4 +1,5 @@
--- The plain finite map (rules 8), one clause a call. It is fed arguments and lent lengths, and no table byte.
+-- The plain finite map (rules 8), one clause a call. It is fed arguments and lent lengths, and no table byte; so of what decides an access it does not
+-- tell the group and the entry number, which follow from the table.
 use Prim.Native.Nat.{ℕ, _+_, _^_}
 use mathlib.Core.Bool.{Bool, true, false, cond, _||_}
 use mathlib.Core.List.{List, [], _∷_}
@@ -15,7 +16,6 @@ use Rattle.groups.specs.Page.{Page, samePage}
 use Rattle.groups.specs.Hash.{groupNumber}
 use Rattle.groups.proofs.Hash.{group-mirror}
 use Rattle.protection.specs.Access.{storing}
-use Rattle.translation.specs.Steps.{outcomeOf, answerOf}
 use Rattle.translation.specs.declared.Early.{Early}
 use Rattle.translation.specs.declared.Early.the-variants.{Decided, Search}
 use Rattle.translation.specs.declared.Searched.{Searched}
@@ -23,7 +23,7 @@ use Rattle.translation.specs.declared.Searched.the-variants.{Nothing, At}
 use Rattle.calls.specs.Request.{Request, clear, mapPage, unmap, protect, look, access, sdr1In}
 use Rattle.calls.specs.Rules.{refusal}
 use Rattle.calls.specs.Answers.{wordAnswer, accessAnswer, answerRefused}
-use Rattle.calls.specs.OnBytes.{Ended, ended, byOption, earlyOf, wantedPage}
+use Rattle.calls.specs.OnBytes.{Ended, ended, byOption, earlyOf, wholeAnswer, eachPart, wantedPage}
 
 -- what the map has of a mapped page: frame (RPN), attributes (WIMG), protection (PP) and marks (R, C)
 pub record PageFields : Type 0 where
@@ -59,7 +59,7 @@ arranged? k pages = arrangement? (groupNumber (10 + k)) groupEntries (2 ^ (9 + k
 unfoldable pub foundIn : Map → Page → Searched
 foundIn m page = byOption (fieldsAt samePage page m) Nothing (λ f. At (fieldsWord f))
 
--- step 7 on the map: done by a page
+-- step 7 on the map: a part that is done by a page
 unfoldable pub mapMarked : ℕ → Early → ℕ → Map → Map
 mapMarked kind (Decided outcome) result m = m
 mapMarked kind (Search wanted) result m = cond (eqb result done) (revise samePage (wantedPage wanted) (markFields (storing kind)) m) m
@@ -80,9 +80,9 @@ module _ (k : ℕ) where
   mapDoes (look c) m =
       byOption (fieldsAt samePage (c .page) m) (ended refusedNoMatch m (wordAnswer refusedNoMatch 0)) (λ f. ended done m (wordAnswer done (fieldsWord f)))
   mapDoes (access c) m =
-      let outcome = outcomeOf (c .kind) (λ wanted. foundIn m (wantedPage wanted)) (earlyOf c) in
-      let words = answerOf (c .kind) (c .address) outcome in
-      ended (words .result) (mapMarked (c .kind) (earlyOf c) (words .result) m) (accessAnswer words)
+      let answer = wholeAnswer c (λ wanted. foundIn m (wantedPage wanted)) (λ wanted. (0, 0)) in
+      let result = answer .part .result in
+      ended result (eachPart c (λ second. mapMarked (c .kind) (earlyOf c second) result) m) (accessAnswer answer)
 
 -- a call, fed its arguments and the length of what is lent as the table
 unfoldable pub onMap : Request ℕ → ℕ → Map → Ended Map

@@ -5,7 +5,7 @@ use Prim.Native.Nat.{ℕ}
 use mathlib.Core.List.{List, [], _∷_, _++_}
 use lib.ListN.{replicate, set, drop}
 use Rattle.numbers.specs.Numbers.{done, dataStorageFault, instructionStorageFault, refusedTableLength, refusedSdr1, refusedBlock, refusedBlocksShare}
-use Rattle.numbers.specs.Numbers.{refusedSegment, refusedArgument, refusedMapped, refusedNoMatch, refusedContradiction, refusedLentLength}
+use Rattle.numbers.specs.Numbers.{refusedSegment, refusedArgument, refusedMapped, refusedNoMatch, refusedContradiction, refusedLentLength, refusedOperandLength}
 use Rattle.words.specs.Rows.{Hold}
 use Rattle.words.specs.Words.{withWord, bytesOf}
 use Rattle.groups.specs.Page.{Page}
@@ -81,6 +81,20 @@ bothWith first second other duplicate = replicate 32704 0 ++ bytesOf (first ∷ 
 abbrev pub shown : Ended (List ℕ) → ℕ × (List ℕ × List ℕ)
 shown e = (e .number, (drop 32704 (e .state), e .answer))
 
+-- what decided an access: the rule, the block's number or key × 4 + PP, the group and the entry; nothing for a refusal
+abbrev pub rule : ℕ → ℕ → ℕ → ℕ → List ℕ
+rule number detail place entry = number ∷ detail ∷ place ∷ entry ∷ []
+
+abbrev pub noRule : List ℕ
+noRule = rule 0 0 0 0
+
+-- the 48 bytes of an access that is not done, and of one byte that is
+abbrev pub stop : ℕ → ℕ → ℕ → ℕ → List ℕ → List ℕ
+stop result word offset address decided = bytesOf ((result ∷ word ∷ offset ∷ address ∷ 0 ∷ 0 ∷ 0 ∷ 0 ∷ []) ++ decided)
+
+abbrev pub oneByte : ℕ → ℕ → ℕ → List ℕ → List ℕ
+oneByte physical attributes address decided = bytesOf ((done ∷ physical ∷ attributes ∷ address ∷ 0 ∷ 0 ∷ 1 ∷ 0 ∷ []) ++ decided)
+
 pub record PageRows : Type 0 where
   -- the refusals of the page calls, each argument at its limit, each length one below and one above, and each adjacent pair of their order
   pub page-refusals : Hold (
@@ -135,36 +149,47 @@ pub record PageRows : Type 0 where
       )
   -- the refusals of an access in every mode, each length one below and one above, and each adjacent pair of their order
   pub access-refusals : Hold (
-      (refusal (toAccess zeroRegisters 7 2 0 16) 65536, done)
-      ∷ (refusal (toAccess zeroRegisters 0 0 0 16) 65536, done)
-      ∷ (refusal (toAccess (replicate 131 0) 8 0 0 16) 0, refusedLentLength)
-      ∷ (refusal (toAccess (replicate 133 0) 0 0 0 16) 65536, refusedLentLength)
-      ∷ (refusal (toAccess zeroRegisters 8 0 0 15) 65536, refusedLentLength)
-      ∷ (refusal (toAccess (replicate 131 0) 0 0 0 16) 65536, refusedLentLength)
-      ∷ (refusal (toAccess zeroRegisters 0 0 0 15) 65536, refusedLentLength)
-      ∷ (refusal (toAccess zeroRegisters 0 0 0 17) 65536, refusedLentLength)
-      ∷ (refusal (toAccess zeroRegisters 8 0 0 16) 65536, refusedArgument)
-      ∷ (refusal (toAccess zeroRegisters 0 3 0 16) 65536, refusedArgument)
-      ∷ (refusal (toAccess broken 8 0 0 16) 0, refusedArgument)
-      ∷ (refusal (toAccess broken 0 3 0 16) 0, refusedArgument)
-      ∷ (refusal (toAccess broken 0 0 0 16) 0, refusedSdr1)
-      ∷ (refusal (toAccess (set broken 3 0) 0 0 0 16) 0, refusedBlock)
-      ∷ (refusal (toAccess blocks 0 0 0 16) 0, refusedBlocksShare)
-      ∷ (refusal (toAccess segment 0 0 0 16) 0, refusedSegment)
-      ∷ (refusal (toAccess zeroRegisters 0 0 0 16) 0, refusedTableLength)
-      ∷ (refusal (toAccess zeroRegisters 0 0 0 16) 65535, refusedTableLength)
-      ∷ (refusal (toAccess zeroRegisters 0 0 0 16) 65537, refusedTableLength)
+      (refusal (toAccess zeroRegisters 7 2 0 1 48) 65536, done)
+      ∷ (refusal (toAccess zeroRegisters 0 0 0 1 48) 65536, done)
+      ∷ (refusal (toAccess (replicate 131 0) 8 0 0 1 48) 0, refusedLentLength)
+      ∷ (refusal (toAccess (replicate 133 0) 0 0 0 1 48) 65536, refusedLentLength)
+      ∷ (refusal (toAccess zeroRegisters 8 0 0 1 47) 65536, refusedLentLength)
+      ∷ (refusal (toAccess (replicate 131 0) 0 0 0 1 48) 65536, refusedLentLength)
+      ∷ (refusal (toAccess zeroRegisters 0 0 0 1 47) 65536, refusedLentLength)
+      ∷ (refusal (toAccess zeroRegisters 0 0 0 1 49) 65536, refusedLentLength)
+      ∷ (refusal (toAccess zeroRegisters 8 0 0 1 48) 65536, refusedArgument)
+      ∷ (refusal (toAccess zeroRegisters 0 3 0 1 48) 65536, refusedArgument)
+      ∷ (refusal (toAccess broken 8 0 0 1 48) 0, refusedArgument)
+      ∷ (refusal (toAccess broken 0 3 0 1 48) 0, refusedArgument)
+      ∷ (refusal (toAccess zeroRegisters 0 0 0 128 48) 65536, done)
+      ∷ (refusal (toAccess zeroRegisters 7 2 0xFFFFFFFF 128 48) 65536, done)
+      ∷ (refusal (toAccess zeroRegisters 0 0 0 0 47) 65536, refusedLentLength)
+      ∷ (refusal (toAccess zeroRegisters 8 0 0 0 48) 65536, refusedArgument)
+      ∷ (refusal (toAccess zeroRegisters 0 3 0 129 48) 65536, refusedArgument)
+      ∷ (refusal (toAccess broken 0 0 0 0 48) 0, refusedOperandLength)
+      ∷ (refusal (toAccess zeroRegisters 0 0 0 129 48) 65536, refusedOperandLength)
+      ∷ (refusal (toAccess zeroRegisters 0 0 0 257 48) 65536, refusedOperandLength)
+      ∷ (refusal (toAccess zeroRegisters 0 0 0 0x80000001 48) 65536, refusedOperandLength)
+      ∷ (refusal (toAccess zeroRegisters 0 0 0 0xFFFFFFFF 48) 65536, refusedOperandLength)
+      ∷ (refusal (toAccess broken 0 0 0 1 48) 0, refusedSdr1)
+      ∷ (refusal (toAccess (set broken 3 0) 0 0 0 1 48) 0, refusedBlock)
+      ∷ (refusal (toAccess blocks 0 0 0 1 48) 0, refusedBlocksShare)
+      ∷ (refusal (toAccess segment 0 0 0 1 48) 0, refusedSegment)
+      ∷ (refusal (toAccess zeroRegisters 0 0 0 1 48) 0, refusedTableLength)
+      ∷ (refusal (toAccess zeroRegisters 0 0 0 1 48) 65535, refusedTableLength)
+      ∷ (refusal (toAccess zeroRegisters 0 0 0 1 48) 65537, refusedTableLength)
       ∷ []
       )
-  -- after a refusal table and answer: nothing where a length is refused, else the number and three zero words
+  -- after a refusal table and answer: nothing where a length is refused, else the number and zero words
   pub left-rows : Hold (
       (onBytes (toUnmap 0 inside (replicate 15 255)) (7 ∷ []), ended refusedLentLength (7 ∷ []) (replicate 15 255))
       ∷ (onBytes (toLook 0 inside (replicate 17 255)) (7 ∷ []), ended refusedLentLength (7 ∷ []) (replicate 17 255))
-      ∷ (onBytes (toAccess [] 0 0 0 (replicate 16 255)) (7 ∷ []), ended refusedLentLength (7 ∷ []) (replicate 16 255))
-      ∷ (onBytes (toAccess zeroRegisters 0 0 0 []) (7 ∷ []), ended refusedLentLength (7 ∷ []) [])
+      ∷ (onBytes (toAccess [] 0 0 0 1 (replicate 48 255)) (7 ∷ []), ended refusedLentLength (7 ∷ []) (replicate 48 255))
+      ∷ (onBytes (toAccess zeroRegisters 0 0 0 1 []) (7 ∷ []), ended refusedLentLength (7 ∷ []) [])
       ∷ (onBytes (toUnmap 0 inside (replicate 16 255)) (7 ∷ []), ended refusedTableLength (7 ∷ []) (bytesOf (refusedTableLength ∷ 0 ∷ 0 ∷ 0 ∷ [])))
       ∷ (onBytes (toLook 0 inside (replicate 16 255)) (7 ∷ []), ended refusedTableLength (7 ∷ []) (bytesOf (refusedTableLength ∷ 0 ∷ 0 ∷ 0 ∷ [])))
-      ∷ (onBytes (toAccess segment 0 0 0 (replicate 16 255)) (7 ∷ []), ended refusedSegment (7 ∷ []) (bytesOf (refusedSegment ∷ 0 ∷ 0 ∷ 0 ∷ [])))
+      ∷ (onBytes (toAccess segment 0 0 0 1 (replicate 48 255)) (7 ∷ []), ended refusedSegment (7 ∷ []) (stop refusedSegment 0 0 0 noRule))
+      ∷ (onBytes (toAccess segment 0 0 0 0 (replicate 48 255)) (7 ∷ []), ended refusedOperandLength (7 ∷ []) (stop refusedOperandLength 0 0 0 noRule))
       ∷ (onBytes (toClear 0) (7 ∷ []), ended refusedTableLength (7 ∷ []) [])
       ∷ (onBytes (toMap 0 inside 0 0 4) (7 ∷ []), ended refusedArgument (7 ∷ []) [])
       ∷ (onBytes (toProtect 5 inside 0) (7 ∷ []), ended refusedSdr1 (7 ∷ []) [])
@@ -201,18 +226,18 @@ pub record PageRows : Type 0 where
       )
   -- an access: the first of equal duplicates is used and marked, with C on a store alone; a fault or a refusal marks none
   pub access-rows : Hold ((
-    bytesDo 0 (toAccess registers 1 2 0x00000123 []) equal,
-    ended done (groupWith 0x80020000 0x12345F96 0x54321E96 0x12345E16) (bytesOf (done ∷ 0x12345123 ∷ 2 ∷ 0x00000123 ∷ [])),
+    bytesDo 0 (toAccess registers 1 2 0x00000123 1 []) equal,
+    ended done (groupWith 0x80020000 0x12345F96 0x54321E96 0x12345E16) (oneByte 0x12345123 2 0x00000123 (rule 6 2 0 0)),
   )
       ∷ (
-        bytesDo 0 (toAccess registers 1 1 0x00000123 []) equal,
-        ended done (groupWith 0x80020000 0x12345F16 0x54321E96 0x12345E16) (bytesOf (done ∷ 0x12345123 ∷ 2 ∷ 0x00000123 ∷ [])),
+        bytesDo 0 (toAccess registers 1 1 0x00000123 1 []) equal,
+        ended done (groupWith 0x80020000 0x12345F16 0x54321E96 0x12345E16) (oneByte 0x12345123 2 0x00000123 (rule 6 2 0 0)),
       )
-      ∷ (bytesDo 0 (toAccess registers 1 2 0x00000123 []) differing, ended refusedContradiction differing (bytesOf (refusedContradiction ∷ 0 ∷ 0 ∷ 0 ∷ [])))
-      ∷ (bytesDo 0 (toAccess registers 1 2 0x00000123 []) readable, ended dataStorageFault readable (bytesOf (dataStorageFault ∷ 0x0A000000 ∷ 0x300 ∷ 0x00000123 ∷ [])))
-      ∷ (bytesDo 0 (toAccess registers 2 0 0x00000123 []) guardedPage, ended instructionStorageFault guardedPage (bytesOf (instructionStorageFault ∷ 0x10000000 ∷ 0x400 ∷ 0x00000123 ∷ [])))
-      ∷ (bytesDo 0 (toAccess registers 1 2 0x00001123 []) equal, ended dataStorageFault equal (bytesOf (dataStorageFault ∷ 0x42000000 ∷ 0x300 ∷ 0x00001123 ∷ [])))
-      ∷ (bytesDo 0 (toAccess registers 0 2 0x00000123 []) differing, ended done differing (bytesOf (done ∷ 0x00000123 ∷ 3 ∷ 0x00000123 ∷ [])))
+      ∷ (bytesDo 0 (toAccess registers 1 2 0x00000123 1 []) differing, ended refusedContradiction differing (stop refusedContradiction 0 0 0 noRule))
+      ∷ (bytesDo 0 (toAccess registers 1 2 0x00000123 1 []) readable, ended dataStorageFault readable (stop dataStorageFault 0x0A000000 0x300 0x00000123 (rule 5 3 0 0)))
+      ∷ (bytesDo 0 (toAccess registers 2 0 0x00000123 1 []) guardedPage, ended instructionStorageFault guardedPage (stop instructionStorageFault 0x10000000 0x400 0x00000123 (rule 4 0 0 0)))
+      ∷ (bytesDo 0 (toAccess registers 1 2 0x00001123 1 []) equal, ended dataStorageFault equal (stop dataStorageFault 0x42000000 0x300 0x00001123 (rule 3 0 0 0)))
+      ∷ (bytesDo 0 (toAccess registers 0 2 0x00000123 1 []) differing, ended done differing (oneByte 0x00000123 3 0x00000123 noRule))
       ∷ []
       )
   -- a page whose secondary group is group 0: its entry has H = 1
@@ -245,16 +270,16 @@ pub record PageRows : Type 0 where
         shown (ended refusedMapped (bothWith 0 0 0x8000FFC0 0x12345116) []),
       )
       ∷ (
-        shown (bytesDo 0 (toAccess bothRegisters 1 2 0x00000123 []) (bothWith 0x8000FF80 0x12345016 0x8000FFC0 0x54321016)),
-        shown (ended refusedContradiction (bothWith 0x8000FF80 0x12345016 0x8000FFC0 0x54321016) (bytesOf (refusedContradiction ∷ 0 ∷ 0 ∷ 0 ∷ []))),
+        shown (bytesDo 0 (toAccess bothRegisters 1 2 0x00000123 1 []) (bothWith 0x8000FF80 0x12345016 0x8000FFC0 0x54321016)),
+        shown (ended refusedContradiction (bothWith 0x8000FF80 0x12345016 0x8000FFC0 0x54321016) (stop refusedContradiction 0 0 0 noRule)),
       )
       ∷ (
-        shown (bytesDo 0 (toAccess bothRegisters 1 2 0x00000123 []) (bothWith 0x8000FF80 0x12345016 0x8000FFC0 0x12345016)),
-        shown (ended done (bothWith 0x8000FF80 0x12345196 0x8000FFC0 0x12345016) (bytesOf (done ∷ 0x12345123 ∷ 2 ∷ 0x00000123 ∷ []))),
+        shown (bytesDo 0 (toAccess bothRegisters 1 2 0x00000123 1 []) (bothWith 0x8000FF80 0x12345016 0x8000FFC0 0x12345016)),
+        shown (ended done (bothWith 0x8000FF80 0x12345196 0x8000FFC0 0x12345016) (oneByte 0x12345123 2 0x00000123 (rule 6 2 0x1FF 0))),
       )
       ∷ (
-        shown (bytesDo 0 (toAccess bothRegisters 1 1 0x00000123 []) (bothWith 0 0 0x8000FFC0 0x12345016)),
-        shown (ended done (bothWith 0 0 0x8000FFC0 0x12345116) (bytesOf (done ∷ 0x12345123 ∷ 2 ∷ 0x00000123 ∷ []))),
+        shown (bytesDo 0 (toAccess bothRegisters 1 1 0x00000123 1 []) (bothWith 0 0 0x8000FFC0 0x12345016)),
+        shown (ended done (bothWith 0 0 0x8000FFC0 0x12345116) (oneByte 0x12345123 2 0x00000123 (rule 6 2 0x200 1))),
       )
       ∷ []
       )

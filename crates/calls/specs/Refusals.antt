@@ -1,8 +1,10 @@
 -- Demand 1: a call that is refused tells so by its number and leaves what it was lent (rules 2). That every call returns is shown by the checker.
 use Prim.Native.Nat.{ℕ}
-use mathlib.Core.List.{List}
+use mathlib.Core.List.{List, _∷_}
 use mathlib.Core.Path.{_≡_}
-use Rattle.numbers.specs.Numbers.{done, refusedLentLength}
+use lib.ListN.{replicate}
+use Rattle.numbers.specs.Numbers.{done, dataStorageFault, instructionStorageFault, refusedLentLength}
+use Rattle.words.specs.Words.{bytesOf}
 use Rattle.entry.specs.declared.Fields.{Fields}
 use Rattle.calls.specs.Request.{AnsweredCall, AccessCall, Request, unmap, look, access}
 use Rattle.calls.specs.WithoutTable.{setRegisterCall, packCall, unpackCall}
@@ -18,5 +20,9 @@ pub record RefusalsLeave : Type 0 where
   pub unmap-answer : (c : AnsweredCall (List ℕ)) (t : List ℕ) → onBytes (unmap c) t .number ≡ refusedLentLength → onBytes (unmap c) t .answer ≡ c .answer
   pub look-answer : (c : AnsweredCall (List ℕ)) (t : List ℕ) → onBytes (look c) t .number ≡ refusedLentLength → onBytes (look c) t .answer ≡ c .answer
   pub access-answer : (c : AccessCall (List ℕ)) (t : List ℕ) → onBytes (access c) t .number ≡ refusedLentLength → onBytes (access c) t .answer ≡ c .answer
+  -- an access that is refused otherwise answers its number and zero words, those of the rule that decided among them
+  pub access-zeros : (c : AccessCall (List ℕ)) (t : List ℕ) → let number = onBytes (access c) t .number in
+      (number ≡ done → ⊥) → (number ≡ dataStorageFault → ⊥) → (number ≡ instructionStorageFault → ⊥) → (number ≡ refusedLentLength → ⊥)
+      → onBytes (access c) t .answer ≡ bytesOf (number ∷ replicate 11 0)
   pub entry : (f : Fields) (entry : List ℕ) → packCall f entry .0 ≡ refusedLentLength → packCall f entry .1 ≡ entry
   pub fields : (first second : ℕ) (fields : List ℕ) → unpackCall first second fields .0 ≡ refusedLentLength → unpackCall first second fields .1 ≡ fields

@@ -26,12 +26,13 @@ pub record AnsweredCall (A : Type 0) : Type 0 where
   pub page : Page
   pub answer : A
 
--- an access: the bytes of the register page, mode, kind, effective address, and what is said of the lent answer
+-- an access: the bytes of the register page, mode, kind, the operand's effective address and length, and what is said of the lent answer
 pub record AccessCall (A : Type 0) : Type 0 where
   pub registers : List ℕ
   pub mode : ℕ
   pub kind : ℕ
   pub address : ℕ
+  pub length : ℕ
   pub answer : A
 
 -- a call with what it brings
@@ -59,4 +60,5 @@ fed (mapPage c) = mapPage c
 fed (unmap c) = unmap (record { sdr1 = c .sdr1; page = c .page; answer = length (c .answer) })
 fed (protect c) = protect c
 fed (look c) = look (record { sdr1 = c .sdr1; page = c .page; answer = length (c .answer) })
-fed (access c) = access (record { registers = c .registers; mode = c .mode; kind = c .kind; address = c .address; answer = length (c .answer) })
+fed (access c) =
+    access (record { registers = c .registers; mode = c .mode; kind = c .kind; address = c .address; length = c .length; answer = length (c .answer) })

@@ -2,9 +2,10 @@
 use Prim.Native.Nat.{ℕ, _/_, _^_}
 use mathlib.Core.Bool.{Bool, not, _&&_}
 use mathlib.Core.List.{List, [], _∷_, _++_}
-use lib.Dec.{eqb, ltb}
+use lib.Dec.{eqb, ltb, leb}
 use lib.ListN.{length}
-use Rattle.numbers.specs.Numbers.{refusedTableLength, refusedSdr1, refusedArgument, refusedLentLength, registersSize, answerSize}
+use Rattle.numbers.specs.Numbers.{refusedTableLength, refusedSdr1, refusedArgument, refusedLentLength, refusedOperandLength}
+use Rattle.numbers.specs.Numbers.{registersSize, answerSize, accessAnswerSize, longestOperand}
 use Rattle.registers.specs.Rules.{firstBroken}
 use Rattle.register_words.specs.Sdr1.{sdr1Shape, tableLength}
 use Rattle.register_words.specs.Block.{blWidth}
@@ -24,6 +25,10 @@ writeThroughInhibited wimg = eqb (wimg / 4) 3
 abbrev pub mapInRange : MapCall → Bool
 mapInRange c = pageInRange (c .page) && ltb (c .rpn) (2 ^ 20) && ltb (c .wimg) (2 ^ 4) && ltb (c .pp) (2 ^ 2) && not (writeThroughInhibited (c .wimg))
 
+-- an operand of 1 to 128 bytes
+abbrev pub operandInRange : ℕ → Bool
+operandInRange length = ltb 0 length && leb length longestOperand
+
 -- the shape of SDR1, then the table's length
 abbrev pub tableRules : ℕ → ℕ → List (Bool × ℕ)
 tableRules sdr1 lent = (not (sdr1Shape sdr1), refusedSdr1) ∷ (not (eqb lent (tableLength sdr1)), refusedTableLength) ∷ []
@@ -38,8 +43,9 @@ rules (protect c) lent = (not (pageInRange (c .page) && ltb (c .pp) (2 ^ 2)), re
 rules (look c) lent =
     (not (eqb (c .answer) answerSize), refusedLentLength) ∷ (not (pageInRange (c .page)), refusedArgument) ∷ tableRules (c .sdr1) lent
 rules (access c) lent =
-    (not (eqb (length (c .registers)) registersSize && eqb (c .answer) answerSize), refusedLentLength)
+    (not (eqb (length (c .registers)) registersSize && eqb (c .answer) accessAnswerSize), refusedLentLength)
     ∷ (not (ltb (c .mode) 8 && ltb (c .kind) 3), refusedArgument)
+    ∷ (not (operandInRange (c .length)), refusedOperandLength)
     ∷ registerRules blockPairs blWidth (registerWords (c .registers))
     ++ ((not (eqb lent (tableLength (sdr1Of (registerWords (c .registers))))), refusedTableLength) ∷ [])
 

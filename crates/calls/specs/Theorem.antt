@@ -1,23 +1,28 @@
 -- Demand 3 (rules 8): over every history of calls after a first clear that was done, the answers on the bytes are those of the plain finite map.
 use Prim.Native.Nat.{ℕ, _+_, _-_, _*_, _/_, _%_, _^_, _≤_, _<_}
+use mathlib.Core.Bool.{Bool, true, false, cond}
 use mathlib.Core.List.{List, [], _∷_, _++_, map}
 use mathlib.Core.Option.{Option, none, some}
 use mathlib.Core.Path.{_≡_}
 use lib.ListN.{length}
-use Rattle.numbers.specs.Numbers.{done, refusedMapped, refusedFull, answerSize}
+use Rattle.numbers.specs.Numbers.{done, refusedMapped, refusedFull, answerSize, ruleNoMatch}
 use Rattle.words.specs.Bits.{bits, placed}
+use Rattle.words.specs.Words.{wordAt}
 use Rattle.placement.specs.FiniteMap.{fieldsAt, mappedPages}
 use Rattle.register_words.specs.Sdr1.{maskOnes}
 use Rattle.tables.specs.Runs.{run, after, Each}
 use Rattle.groups.specs.Page.{Page, samePage}
-use Rattle.translation.specs.Steps.{answerOf, doneAnswer}
+use Rattle.translation.specs.Steps.{answerOf}
+use Rattle.translation.specs.Decision.{decided}
+use Rattle.translation.specs.Operand.{overEdge, stopped}
+use Rattle.translation.specs.declared.Answer.{Answer}
 use Rattle.translation.specs.declared.Early.the-variants.{Search}
 use Rattle.translation.specs.declared.Outcome.the-variants.{NoMatch}
 use Rattle.translation.specs.declared.Wanted.{Wanted}
 use Rattle.calls.specs.Request.{MapCall, AccessCall, Request, clear, mapPage, unmap, protect, look, access, sdr1In, fed}
 use Rattle.calls.specs.Rules.{refusal}
 use Rattle.calls.specs.Answers.{accessAnswer}
-use Rattle.calls.specs.OnBytes.{Ended, onBytes, earlyOf, wantedPage}
+use Rattle.calls.specs.OnBytes.{Ended, onBytes, startOf, earlyOf, partAnswer, wantedPage, searchIn}
 use Rattle.calls.specs.OnMap.{PageFields, Map, Arranged}
 use Rattle.calls.specs.Histories.{Call, bytesStep, mapStep, fedCall, Under, NoneDone, Maps, TakesOut}
 
@@ -116,19 +121,35 @@ pub record DoneSince (h : History) (These Those : Request (List ℕ) → Type 0)
   pub was-done : bytesStep call (after bytesStep before (cleared h)) .0 .0 ≡ done
   pub none-of-those : NoneDone Those behind (bytesStep call (after bytesStep before (cleared h)) .1)
 
--- an access under the history's SDR1 that its arguments do not refuse and that reaches step 4, wanting the page
-pub record Reaches (h : History) (c : AccessCall (List ℕ)) (page : Page) : Type 0 where
+-- what the first part (false) or the second (true) of an access answers by itself after the history
+abbrev pub answeredAfter : History → AccessCall (List ℕ) → Bool → Answer
+answeredAfter h c second = partAnswer c (searchIn (maskOnes (h .sdr1)) (tableAfter h)) second
+
+-- an access under the history's SDR1 that its arguments do not refuse, of which that part reaches step 4, wanting the page
+pub record Reaches (h : History) (c : AccessCall (List ℕ)) (second : Bool) (page : Page) : Type 0 where
   pub same-sdr1 : sdr1In (access c) ≡ h .sdr1
   pub taken : refusal (fed (access c)) (length (h .table)) ≡ 0
+  pub has-part : second ≡ true → overEdge (c .address) (c .length) ≡ true
   pub wanted : Wanted
-  pub searches : earlyOf c ≡ Search wanted
+  pub searches : earlyOf c second ≡ Search wanted
   pub wants : wantedPage wanted ≡ page
 
+-- where the words of a part's physical address and attributes stand in an answer
+abbrev pub addressByte : Bool → ℕ
+addressByte second = cond second 16 4
+
+abbrev pub attributesByte : Bool → ℕ
+attributesByte second = cond second 20 8
+
 pub record AccessFollowsHistory : Type 0 where
-  -- after a done unmap of the page, or a done clear, an access that reaches step 4 faults with no match until the page is mapped again
-  pub no-match : (h : History) (page : Page) → DoneSince h (TakesOut page) (Maps page) → (c : AccessCall (List ℕ)) → Reaches h c page
-      → next h (access c) .answer ≡ accessAnswer (answerOf (c .kind) (c .address) NoMatch)
-  -- after a done map of the page, an access that reaches step 4 and is done gives that map's frame and attributes, until the page is taken out
+  -- after a done unmap of the page, or a done clear, a part that reaches step 4 faults with no match until the page is mapped again, and its fault
+  -- answers for the operand unless the part before it is not done
+  pub no-match : (h : History) (page : Page) → DoneSince h (TakesOut page) (Maps page)
+      → (c : AccessCall (List ℕ)) (second : Bool) → Reaches h c second page → (second ≡ true → answeredAfter h c false .result ≡ done)
+      → next h (access c) .answer ≡ accessAnswer (stopped (answerOf (c .kind) (startOf c second) NoMatch) (decided ruleNoMatch 0))
+  -- after a done map of the page, an access that is done and of which a part reaches step 4 has that map's frame and attributes there, until the
+  -- page is taken out
   pub frame : (h : History) (m : MapCall) → DoneSince h (λ request. request ≡ mapPage m) (TakesOut (m .page))
-      → (c : AccessCall (List ℕ)) → Reaches h c (m .page) → next h (access c) .number ≡ done
-      → next h (access c) .answer ≡ accessAnswer (doneAnswer (placed 19 (m .rpn) + bits 20 31 (c .address)) (m .wimg) (c .address))
+      → (c : AccessCall (List ℕ)) (second : Bool) → Reaches h c second (m .page) → next h (access c) .number ≡ done
+      → (wordAt (next h (access c) .answer) (addressByte second) ≡ placed 19 (m .rpn) + bits 20 31 (startOf c second))
+      × (wordAt (next h (access c) .answer) (attributesByte second) ≡ m .wimg)

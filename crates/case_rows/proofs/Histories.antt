@@ -9,6 +9,7 @@ use lib.Dec.{eqb}
 use lib.ListN.{length, replicate}
 use borrow.Author.Tests.{eqb-true}
 use Rattle.words.proofs.Tests.{both}
+use Rattle.words.specs.Words.{wordAt}
 use Rattle.register_words.specs.Sdr1.{tableLength}
 use Rattle.register_words.proofs.Sdr1.{made-length, made-shape}
 use Rattle.tables.specs.Runs.{run, Each}
@@ -43,7 +44,7 @@ module _ (o k : ℕ) (few : k ≤ 9) (whole : o % 2 ^ k ≡ 0) where
   first-clear t long = clear-is (sdr1With o k) t (record { shape = made-shape o k few whole; long = long })
 
   clear-first : (t : List ℕ) → length t ≡ tableLength (sdr1With o k) → bytesStep (onTable (toClear (sdr1With o k))) t ≡ (result 0, replicate (length t) 0)
-  unfolding bytesStep compared
+  unfolding bytesStep compared wordAt
   clear-first t long = rw (first-clear t long)
 
   -- the calls after it answer what the finite map answers

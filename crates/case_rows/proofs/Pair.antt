@@ -1,7 +1,7 @@
 -- What calls leave in the two groups that their pages have, from those two groups' bytes alone: 128 bytes compute at once, where a table does not.
 use Prim.Native.Nat.{ℕ, suc, _+_, _-_, _*_, _%_, _^_, _≤_}
 use mathlib.Core.Path.{_≡_, refl, sym, ap, ap₂, _∙_, subst}
-use mathlib.Core.Bool.{Bool, true, false, cond, _&&_}
+use mathlib.Core.Bool.{Bool, true, false, cond, not, _&&_}
 use mathlib.Core.List.{List, [], _∷_, _++_, map}
 use mathlib.Core.Logic.{_≢_}
 use mathlib.Core.Option.{Option, none, some}
@@ -10,7 +10,7 @@ use native.Mathlib.Omega.{arith}
 use lib.Dec.{eqb}
 use lib.ListN.{length, take, drop, replicate, length-replicate, replicate-append-replicate}
 use lib.Seq.{take-at, drop-at}
-use borrow.Author.Tests.{eqb-true}
+use borrow.Author.Tests.{eqb-true, not-true}
 use Rattle.words.specs.Words.{bytesOf}
 use Rattle.words.proofs.Tests.{both, cond-by}
 use Rattle.entry.specs.Entry.{secondWord, matches, free, apiOf, withMarks, withPP}
@@ -27,13 +27,15 @@ use Rattle.tables.specs.Layout.{Layout, matchesIn, matchesOf, freeEntry, freePl
 use Rattle.tables.specs.Runs.{after}
 use Rattle.protection.specs.Access.{storing}
 use Rattle.translation.specs.Steps.{outcomeOf, afterSearch, answerOf}
+use Rattle.translation.specs.Operand.{overEdge}
+use Rattle.translation.proofs.Parts.{one-answers}
 use Rattle.translation.specs.declared.Early.{Early}
 use Rattle.translation.specs.declared.Early.the-variants.{Decided, Search}
 use Rattle.calls.specs.Made.{toClear}
 use Rattle.calls.specs.Request.{MapCall, AnsweredCall, Request, clear, mapPage, unmap, protect, look, access, sdr1In, fed}
 use Rattle.calls.specs.Rules.{refusal}
 use Rattle.calls.specs.Answers.{wordAnswer}
-use Rattle.calls.specs.OnBytes.{layout, Ended, ended, byMatches, byOption, entryWord, earlyOf, wantedPage, searched, markedBy, bytesDo, onBytes}
+use Rattle.calls.specs.OnBytes.{layout, Ended, ended, byMatches, byOption, entryWord, startOf, earlyOf, partAnswer, partDecision, wantedPage, searched, searchIn, firstPlaceIn, markedBy, bytesDo, onBytes}
 use Rattle.calls.specs.Histories.{bytesStep}
 use Rattle.calls.specs.Theorem.{sdr1With}
 use Rattle.calls.proofs.OnBytes.{taken}
@@ -82,8 +84,8 @@ pairDo (unmap c) x = overwriteEach pairLayout (c .page) (λ m. (0, 0)) (matchesO
 pairDo (protect c) x = overwriteEach pairLayout (c .page) (λ m. (m .first, withPP (c .pp) (m .second))) (matchesOf pairLayout x (c .page)) x
 pairDo (look c) x = x
 pairDo (access c) x =
-    let outcome = outcomeOf (c .kind) (λ wanted. searched (matchesOf pairLayout x (wantedPage wanted))) (earlyOf c) in
-    pairMarked (c .kind) (earlyOf c) (answerOf (c .kind) (c .address) outcome .result) x
+    let outcome = outcomeOf (c .kind) (λ wanted. searched (matchesOf pairLayout x (wantedPage wanted))) (earlyOf c false) in
+    pairMarked (c .kind) (earlyOf c false) (answerOf (c .kind) (startOf c false) outcome .result) x
 
 abbrev pub pairAfter : List (Request (List ℕ)) → Pair → Pair
 pairAfter [] x = x
@@ -109,7 +111,7 @@ zero-group n g h =
 -- ---- it is the table's step, for pages whose groups have the numbers p and s
 
 module _ (k p s : ℕ) where
-  -- a page has these groups; so has the page that an access searches; so has the page of a call
+  -- a page has these groups; so has the page that a search wants; so has the page of a call, whose operand is within it
   abbrev pub ownPage : Page → Bool
   ownPage page = eqb (groupNumber (10 + k) false page) p && eqb (groupNumber (10 + k) true page) s
 
@@ -123,7 +125,7 @@ module _ (k p s : ℕ) where
   ownCall (unmap c) = ownPage (c .page)
   ownCall (protect c) = ownPage (c .page)
   ownCall (look c) = ownPage (c .page)
-  ownCall (access c) = ownEarly (earlyOf c)
+  ownCall (access c) = not (overEdge (c .address) (c .length)) && ownEarly (earlyOf c false)
 
   -- each request of a list is of these groups, brings the SDR1 and is not refused
   abbrev pub allOwn : ℕ → List (Request (List ℕ)) → Bool
@@ -279,7 +281,10 @@ module _ (k p s : ℕ) where
       do-shows (unmap c) own = edited-shows (c .page) own (λ m. (0, 0)) (wordAnswer 8 0) (λ m ms. wordAnswer 0 (merged m ms))
       do-shows (protect c) own = edited-shows (c .page) own (λ m. (m .first, withPP (c .pp) (m .second))) [] (λ m ms. [])
       do-shows (look c) own = subst (λ u. Shows u (pairOf t)) (sym (look-stays c)) stays
-      do-shows (access c) own = marked-shows (c .kind) (c .address) (earlyOf c) own
+      do-shows (access c) own =
+          let (within, early) = both (not (overEdge (c .address) (c .length))) (ownEarly (earlyOf c false)) own in
+          let one = not-true (overEdge (c .address) (c .length)) within in
+          rw (one, one-answers (c .address) (c .length) (partAnswer c (searchIn k t)) (partDecision c (searchIn k t) (firstPlaceIn k t)) one) (marked-shows (c .kind) (startOf c false) (earlyOf c false) early)
 
     module _ (o : ℕ) (few : k ≤ 9) (whole : o % 2 ^ k ≡ 0) where
       after-shows : (requests : List (Request (List ℕ))) → allOwn (sdr1With o k) requests ≡ true → (t : List ℕ) → length t ≡ 65536 * 2 ^ k

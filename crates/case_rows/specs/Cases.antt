@@ -5,7 +5,7 @@ use mathlib.Core.List.{List, [], _∷_, _++_, map}
 use mathlib.Core.Option.{none}
 use mathlib.Core.Path.{_≡_}
 use lib.ListN.{length, replicate}
-use Rattle.numbers.specs.Numbers.{done, dataStorageFault, refusedSdr1, refusedBlock, refusedFull, answerSize}
+use Rattle.numbers.specs.Numbers.{done, dataStorageFault, refusedSdr1, refusedBlock, refusedFull, answerSize, accessAnswerSize}
 use Rattle.words.specs.Words.{bytesOf}
 use Rattle.entry.specs.Entry.{pageIndex}
 use Rattle.register_words.specs.Sdr1.{tableLength, hashBits}
@@ -43,9 +43,31 @@ history sdr1 requests = map onTable (toClear sdr1 ∷ requests)
 abbrev pub result : ℕ → ℕ × List ℕ
 result n = (n, [])
 
--- what look, unmap and access answer: the result number, and four words of which it is the first
+-- what look and unmap answer: the result number, and four words of which it is the first
 abbrev pub fourWords : ℕ → ℕ → ℕ → ℕ → ℕ × List ℕ
 fourWords w₀ w₁ w₂ w₃ = (w₀, bytesOf (w₀ ∷ w₁ ∷ w₂ ∷ w₃ ∷ []))
+
+-- what an access to one byte answers, as far as it is compared: done, with that byte in the first page; or a fault, with four zero words behind its
+-- own; then the rule that decided and what it went by, and no place where an entry was used
+abbrev pub byteDone : ℕ → ℕ → ℕ → List ℕ → ℕ × List ℕ
+byteDone physical attributes effective decided = (done, bytesOf ((done ∷ physical ∷ attributes ∷ effective ∷ 0 ∷ 0 ∷ 1 ∷ 0 ∷ []) ++ decided))
+
+abbrev pub dataFault : ℕ → ℕ → List ℕ → ℕ × List ℕ
+dataFault word effective decided =
+    (dataStorageFault, bytesOf ((dataStorageFault ∷ word ∷ 0x300 ∷ effective ∷ 0 ∷ 0 ∷ 0 ∷ 0 ∷ []) ++ decided))
+
+-- page done and page protection by key 0 and this PP; no match; the first data block
+abbrev pub byPage : ℕ → List ℕ
+byPage pp = 6 ∷ pp ∷ []
+
+abbrev pub byProtection : ℕ → List ℕ
+byProtection pp = 5 ∷ pp ∷ []
+
+abbrev pub byNoMatch : List ℕ
+byNoMatch = 3 ∷ 0 ∷ 0 ∷ 0 ∷ []
+
+abbrev pub byFirstBlock : List ℕ
+byFirstBlock = 1 ∷ 0 ∷ 0 ∷ 0 ∷ []
 
 abbrev pub Holds : Claim → Type 0
 Holds (computes computed stated) = computed ≡ stated
@@ -74,25 +96,28 @@ groupUnder sdr1 secondary = groupNumber (hashBits sdr1) secondary thePage
 abbrev pub mapTo : ℕ → ℕ → Page → Request (List ℕ)
 mapTo sdr1 pp page = toMap sdr1 page 0x12345 2 pp
 
--- a lent answer
+-- a lent answer of look or unmap, and of an access
 abbrev pub lentAnswer : List ℕ
 lentAnswer = replicate answerSize 0
+
+abbrev pub lentAccessAnswer : List ℕ
+lentAccessAnswer = replicate accessAnswerSize 0
 
 -- a register page: SDR1, segment register 0 and the first data block; every other word is zero
 abbrev pub registerPage : ℕ → ℕ → ℕ → ℕ → List ℕ
 registerPage sdr1 segment upper lower = bytesOf ((sdr1 ∷ segment ∷ replicate 23 0) ++ (upper ∷ lower ∷ replicate 6 0))
 
--- a store to address 00FFA01B in mode 1, by segment 0 with Ks and Kp zero and all blocks off
+-- a store of one byte to address 00FFA01B in mode 1, by segment 0 with Ks and Kp zero and all blocks off
 abbrev pub storeAt : ℕ → Request (List ℕ)
-storeAt sdr1 = toAccess (registerPage sdr1 0x000C701C 0 0) 1 2 0x00FFA01B lentAnswer
+storeAt sdr1 = toAccess (registerPage sdr1 0x000C701C 0 0) 1 2 0x00FFA01B 1 lentAccessAnswer
 
 -- eight other pages with the same primary group under both SDR1s: their VSIDs agree in the low 13 bits
 abbrev pub others : List Page
 others = map (λ i. record { vsid = 0x0C701C + 0x2000 * i; index = 0x0FFA }) (1 ∷ 2 ∷ 3 ∷ 4 ∷ 5 ∷ 6 ∷ 7 ∷ 8 ∷ [])
 
--- a load in mode 1 with a data block
+-- a load of one byte in mode 1 with a data block
 abbrev pub loadAt : ℕ → ℕ → ℕ → ℕ → Request (List ℕ)
-loadAt sdr1 upper lower address = toAccess (registerPage sdr1 0 upper lower) 1 1 address lentAnswer
+loadAt sdr1 upper lower address = toAccess (registerPage sdr1 0 upper lower) 1 1 address 1 lentAccessAnswer
 
 -- VSIDs 0, 0x400 .. 0x3C00, page 0
 abbrev pub sixteen : List Page
@@ -131,16 +156,16 @@ cases2to5 sdr1 primary secondary =
     ∷ (
       3,
       answered sdr1 (mapTo sdr1 2 thePage ∷ storeAt sdr1 ∷ toLook sdr1 thePage lentAnswer ∷ [])
-          (result done ∷ fourWords done 0x1234501B 2 0x00FFA01B ∷ fourWords done 0x12345192 0 0 ∷ []),
+          (result done ∷ byteDone 0x1234501B 2 0x00FFA01B (byPage 2) ∷ fourWords done 0x12345192 0 0 ∷ []),
     )
     ∷ (3, stored sdr1 (mapTo sdr1 2 thePage ∷ storeAt sdr1 ∷ []) primary (0x86380E03 ∷ 0x12345192 ∷ replicate 14 0))
     ∷ (
       4,
       answered sdr1 (mapTo sdr1 3 thePage ∷ storeAt sdr1 ∷ toLook sdr1 thePage lentAnswer ∷ [])
-          (result done ∷ fourWords dataStorageFault 0x0A000000 0x300 0x00FFA01B ∷ fourWords done 0x12345013 0 0 ∷ []),
+          (result done ∷ dataFault 0x0A000000 0x00FFA01B (byProtection 3) ∷ fourWords done 0x12345013 0 0 ∷ []),
     )
     ∷ (4, stored sdr1 (mapTo sdr1 3 thePage ∷ storeAt sdr1 ∷ []) primary (0x86380E03 ∷ 0x12345013 ∷ replicate 14 0))
-    ∷ (5, answered sdr1 (storeAt sdr1 ∷ []) (fourWords dataStorageFault 0x42000000 0x300 0x00FFA01B ∷ []))
+    ∷ (5, answered sdr1 (storeAt sdr1 ∷ []) (dataFault 0x42000000 0x00FFA01B byNoMatch ∷ []))
     ∷ []
 
 abbrev pub case6 : List Row
@@ -161,10 +186,10 @@ case7 sdr1 =
 -- an address outside the block goes by its segment, and its page has no match; BL 2 is refused by access and by check
 abbrev pub cases8to10 : ℕ → List Row
 cases8to10 sdr1 =
-    (8, answered sdr1 (loadAt sdr1 0x80001FFE 0x10000002 0x8FFFFFFF ∷ []) (fourWords done 0x1FFFFFFF 0 0x8FFFFFFF ∷ []))
-    ∷ (8, answered sdr1 (loadAt sdr1 0x80001FFE 0x10000002 0x90000000 ∷ []) (fourWords dataStorageFault 0x40000000 0x300 0x90000000 ∷ []))
-    ∷ (9, answered sdr1 (loadAt sdr1 0x00000002 0x10000002 0x0001FFFF ∷ []) (fourWords done 0x1001FFFF 0 0x0001FFFF ∷ []))
-    ∷ (9, answered sdr1 (loadAt sdr1 0x00000002 0x10000002 0x00020000 ∷ []) (fourWords dataStorageFault 0x40000000 0x300 0x00020000 ∷ []))
+    (8, answered sdr1 (loadAt sdr1 0x80001FFE 0x10000002 0x8FFFFFFF ∷ []) (byteDone 0x1FFFFFFF 0 0x8FFFFFFF byFirstBlock ∷ []))
+    ∷ (8, answered sdr1 (loadAt sdr1 0x80001FFE 0x10000002 0x90000000 ∷ []) (dataFault 0x40000000 0x90000000 byNoMatch ∷ []))
+    ∷ (9, answered sdr1 (loadAt sdr1 0x00000002 0x10000002 0x0001FFFF ∷ []) (byteDone 0x1001FFFF 0 0x0001FFFF byFirstBlock ∷ []))
+    ∷ (9, answered sdr1 (loadAt sdr1 0x00000002 0x10000002 0x00020000 ∷ []) (dataFault 0x40000000 0x00020000 byNoMatch ∷ []))
     ∷ (10, refused (loadAt sdr1 0x0000000A 0x10000002 0) refusedBlock)
     ∷ (10, computes (checkCall (registerPage sdr1 0 0x0000000A 0x10000002)) refusedBlock)
     ∷ []

@@ -1,4 +1,4 @@
-// The twelve cases (rules 9), run on the exported calls: a line a case, its number and `ok` or `bad`.
+// The twelve cases (rules 9), run on the exported calls: a line a case, its number and `ok` or `bad`. An access is to one byte.
 // The table of SDR1 0F980000 has 65,536 bytes, and so has that of SDR1 0.
 use libc::STDOUT_FILENO;
 ghost use Prim.Native.Nat.{_+_, _^_, _≤_, _<_};
@@ -31,6 +31,16 @@ fn words_are(bytes: &[u8], w0: u32, w1: u32, w2: u32, w3: u32) -> bool {
     let mut stated = [0u8; 16];
     words::write_words(&mut stated, &four);
     check::same(bytes, &stated)
+}
+
+// Whether 48 bytes begin as the answer of an access to one byte: these four words, no second page, and the byte in the first where it is done.
+fn answer_is(bytes: &[u8; 48], w0: u32, w1: u32, w2: u32, w3: u32) -> bool {
+    let byte = if w0 == 0 { 1 } else { 0 };
+    let eight = [w0, w1, w2, w3, 0, 0, byte, 0];
+    let mut stated = [0u8; 32];
+    words::write_words(&mut stated, &eight);
+    let whole = &bytes[..];
+    check::same(&whole[0..32], &stated)
 }
 
 // Whether a group holds eight entries whose VSIDs are 0x400 apart, given the first one's first word.
@@ -82,9 +92,9 @@ fn map_to(sdr1: u32, pp: u32, vsid: u32, index: u32, table: &mut [u8]) -> u32 {
 // Whether a store to the cases' address, by segment 0 in mode 1, answers three words and that address.
 fn store_answers(table: &mut [u8], result: u32, word: u32, third: u32) -> bool {
     let page = register_page(SDR1, VSID, 0, 0);
-    let mut answer = [0xAAu8; 16];
-    let number = mmu::mmu_access(&page, 1, 2, ADDRESS, table, &mut answer);
-    (number == result) & words_are(&answer, result, word, third, ADDRESS)
+    let mut answer = [0xAAu8; 48];
+    let number = mmu::mmu_access(&page, 1, 2, ADDRESS, 1, table, &mut answer);
+    (number == result) & answer_is(&answer, result, word, third, ADDRESS)
 }
 
 // Whether a look at the cases' page answers a second word.
@@ -99,9 +109,9 @@ fn load_answers(upper: u32, lower: u32, address: u32, result: u32, word: u32, th
     let mut table = [0xAAu8; 65536];
     let cleared = mmu::mmu_clear(SDR1, &mut table);
     let page = register_page(SDR1, 0, upper, lower);
-    let mut answer = [0xAAu8; 16];
-    let number = mmu::mmu_access(&page, 1, 1, address, &mut table, &mut answer);
-    (cleared == 0) & (number == result) & words_are(&answer, result, word, third, address)
+    let mut answer = [0xAAu8; 48];
+    let number = mmu::mmu_access(&page, 1, 1, address, 1, &mut table, &mut answer);
+    (cleared == 0) & (number == result) & answer_is(&answer, result, word, third, address)
 }
 
 // Clears the table and maps in it the pages of `count` VSIDs, 0x400 apart, all with one page index.

@@ -1,7 +1,7 @@
 -- Laws of a table by its entries: what is put as an entry is read there, every other entry reads as before, the table keeps its length and its bytes, and
 -- a zeroed table has zero words.
-use mathlib.Core.Path.{_≡_, refl, ap, _∙_}
-use mathlib.Core.Logic.{_≢_}
+use mathlib.Core.Path.{_≡_, refl, sym, ap, _∙_}
+use mathlib.Core.Logic.{_≢_, ⊎-elim}
 use mathlib.Core.List.{List, _++_}
 use Prim.Native.Nat.{ℕ, zero, suc, _+_, _*_, _^_, _<_, _≤_}
 use native.Mathlib.Numerals.{towards-numerals}
@@ -9,7 +9,8 @@ use native.Mathlib.Omega.{arith}
 use lib.ListN.{length, getD, replicate}
 use lib.Seq.{sets}
 use Rattle.words.specs.Words.{wordBytes, wordAt, withWord}
-use Rattle.words.proofs.Words.{Bytes}
+use Rattle.words.proofs.Words.{Bytes, sets-comm}
+use Rattle.words.proofs.Tests.{three}
 use Rattle.groups.specs.Group.{groupOf, putGroup, onGroup, firstAt, secondAt, putEntry, firstOf, secondOf, putAt}
 use Rattle.groups.proofs.Group.{length-group, put-same, length-put, group-same, group-other, put-sets, group-each, bytes-group, bytes-on}
 use Rattle.groups.proofs.Entries.{length-entry, bytes-entry, first-same, second-same, first-other, second-other, first-fits, second-fits, own-entry}
@@ -73,6 +74,18 @@ module _ (t : List ℕ) (g i u v : ℕ) (inside : 64 * g + 64 ≤ length t) wher
     ap (λ (b : List ℕ). firstAt b j) (stored-other-group h n),
     ap (λ (b : List ℕ). secondAt b j) (stored-other-group h n),
   )
+
+-- two entries put in either order
+pub stored-comm : (t : List ℕ) (g h i j u v x y : ℕ) → i < 8 → j < 8 → (g ≡ h → i ≡ j → ⊥)
+    → putAt (putAt t g i u v) h j x y ≡ putAt (putAt t h j x y) g i u v
+unfolding wordBytes
+stored-comm t g h i j u v x y li lj apart =
+    let here = wordBytes u ++ wordBytes v in
+    let there = wordBytes x ++ wordBytes y in
+    rw (put-entry (putAt t g i u v) h j x y lj, put-entry (putAt t h j x y) g i u v li, put-entry t g i u v li, put-entry t h j x y lj)
+    (⊎-elim (λ l. sets-comm here there t (64 * g + 8 * i) (64 * h + 8 * j) (omega arith))
+    (⊎-elim (λ e. absurd (apart (omega arith) (omega arith))) (λ l. sym (sets-comm there here t (64 * h + 8 * j) (64 * g + 8 * i) (omega arith))))
+    (three (8 * g + i) (8 * h + j)))
 
 -- ---- a zeroed table
 

@@ -3,13 +3,14 @@ ghost use mathlib.Core.Path.{_≡_};
 ghost use Rattle.calls.specs.Request.{access};
 ghost use Rattle.calls.specs.OnBytes.{ended, onBytes};
 
-// Translates one access and marks the entry that did it.
+// Translates one access and marks the entries that did it.
 #[no_mangle]
 pub extern "C" fn mmu_access(
     registers: &[u8],
     mode: u32,
     kind: u32,
     address: u32,
+    length: u32,
     table: &mut [u8],
     answer: &mut [u8],
 ) -> u32
@@ -18,14 +19,37 @@ pub extern "C" fn mmu_access(
       mode = mode;
       kind = kind;
       address = address;
+      length = length;
       answer = now (answer .entry);
     })) (now (table .entry)) ⌝ }
 {
-    if !((registers.len() == numbers::REGISTERS_SIZE) & (answer.len() == numbers::ANSWER_SIZE)) {
+    if !((registers.len() == numbers::REGISTERS_SIZE)
+        & (answer.len() == numbers::ACCESS_ANSWER_SIZE)) {
         return numbers::REFUSED_LENT_LENGTH;
     }
-    let told = table_access::translate(registers, mode, kind, address, table);
-    let four = [told.result, told.address, told.attributes, told.effective];
-    words::write_words(answer, &four);
-    told.result
+    let asked = table_access::Access {
+        mode,
+        kind,
+        address,
+        length,
+    };
+    let told = table_access::translate(registers, asked, table);
+    let part = told.part;
+    let decision = told.decision;
+    let twelve = [
+        part.result,
+        part.address,
+        part.attributes,
+        part.effective,
+        told.address,
+        told.attributes,
+        told.bytes,
+        told.rest,
+        decision.rule,
+        decision.detail,
+        decision.group,
+        decision.entry,
+    ];
+    words::write_words(answer, &twelve);
+    part.result
 }

@@ -7,6 +7,8 @@ numbers-tables = record {
   results = record { equal = refl };
   refusals = record { equal = refl };
   accesses = record { equal = refl };
+  rules = record { equal = refl };
   lengths = record { equal = refl };
+  operands = record { equal = refl };
   counts = record { equal = refl };
 }

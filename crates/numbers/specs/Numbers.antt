@@ -47,6 +47,9 @@ refusedContradiction = 10
 abbrev pub refusedLentLength : ℕ
 refusedLentLength = 11
 
+abbrev pub refusedOperandLength : ℕ
+refusedOperandLength = 12
+
 -- the kinds of access (rules 5)
 abbrev pub fetch : ℕ
 fetch = 0
@@ -61,12 +64,38 @@ store = 2
 abbrev pub attributesReal : ℕ
 attributesReal = 3
 
--- lengths in bytes: the register page, an answer, an entry's fields, a group and an entry
+-- the rules that decide an access (rules 5): rule r is step r + 1
+abbrev pub ruleReal : ℕ
+ruleReal = 0
+
+abbrev pub ruleBlock : ℕ
+ruleBlock = 1
+
+abbrev pub ruleNoExecute : ℕ
+ruleNoExecute = 2
+
+abbrev pub ruleNoMatch : ℕ
+ruleNoMatch = 3
+
+abbrev pub ruleGuarded : ℕ
+ruleGuarded = 4
+
+abbrev pub ruleProtection : ℕ
+ruleProtection = 5
+
+abbrev pub ruleDone : ℕ
+ruleDone = 6
+
+-- lengths in bytes: the register page, the answers of look and unmap and of an access, an entry's fields, a group and an entry; a page, and the
+-- longest operand
 abbrev pub registersSize : ℕ
 registersSize = 132
 
 abbrev pub answerSize : ℕ
 answerSize = 16
+
+abbrev pub accessAnswerSize : ℕ
+accessAnswerSize = 48
 
 abbrev pub fieldsSize : ℕ
 fieldsSize = 36
@@ -76,6 +105,12 @@ groupSize = 64
 
 abbrev pub entrySize : ℕ
 entrySize = 8
+
+abbrev pub pageSize : ℕ
+pageSize = 4096
+
+abbrev pub longestOperand : ℕ
+longestOperand = 128
 
 -- how many register words there are, and how many entries a group has
 abbrev pub registerCount : ℕ

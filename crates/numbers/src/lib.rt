@@ -31,6 +31,8 @@ pub const REFUSED_CONTRADICTION: u32 = 10;
 
 pub const REFUSED_LENT_LENGTH: u32 = 11;
 
+pub const REFUSED_OPERAND_LENGTH: u32 = 12;
+
 // The kinds of access (rules 5).
 pub const FETCH: u32 = 0;
 
@@ -41,16 +43,38 @@ pub const STORE: u32 = 2;
 // The attributes of an access in real mode: M and G.
 pub const ATTRIBUTES_REAL: u32 = 3;
 
-// Lengths in bytes: the register page, an answer, an entry's fields, a group and an entry.
+// The rules that decide an access (rules 5): rule r is step r + 1.
+pub const RULE_REAL: u32 = 0;
+
+pub const RULE_BLOCK: u32 = 1;
+
+pub const RULE_NO_EXECUTE: u32 = 2;
+
+pub const RULE_NO_MATCH: u32 = 3;
+
+pub const RULE_GUARDED: u32 = 4;
+
+pub const RULE_PROTECTION: u32 = 5;
+
+pub const RULE_DONE: u32 = 6;
+
+// Lengths in bytes: the register page, the answers of look and unmap and of an access, an entry's fields, a group and an entry; a page, and the
+// longest operand.
 pub const REGISTERS_SIZE: usize = 132;
 
 pub const ANSWER_SIZE: usize = 16;
+
+pub const ACCESS_ANSWER_SIZE: usize = 48;
 
 pub const FIELDS_SIZE: usize = 36;
 
 pub const GROUP_SIZE: usize = 64;
 
 pub const ENTRY_SIZE: usize = 8;
+
+pub const PAGE_SIZE: u32 = 4096;
+
+pub const LONGEST_OPERAND: u32 = 128;
 
 // How many register words there are, and how many entries a group has.
 pub const REGISTER_COUNT: u32 = 33;

@@ -22,8 +22,8 @@ fn page_of(segment: u32) -> [u8; 132] {
 fn fetch(segment: u32, mode: u32, second: u32, result: u32, word: u32, after: u32) -> bool {
     let page = page_of(segment);
     let mut table = with_entry(second);
-    let mut answer = [0xAAu8; 16];
-    let number = mmu::mmu_access(&page, mode, 0, 0x30123F40, &mut table, &mut answer);
+    let mut answer = [0xAAu8; 48];
+    let number = mmu::mmu_access(&page, mode, 0, 0x30123F40, 1, &mut table, &mut answer);
     (number == result)
         & (words::read_word(&answer, 0) == result)
         & (words::read_word(&answer, 4) == word)

@@ -97,7 +97,7 @@ struct Compared {
 
 // Compares the returned number and the answer's words with the four numbers at `at`. The third word of a done access has the attributes,
 // which the emulator does not show, so it is compared after a fault only.
-fn compare_answer(text: &[u8], at: usize, returned: u32, answer: &[u8; 16]) -> Compared
+fn compare_answer(text: &[u8], at: usize, returned: u32, answer: &[u8; 48]) -> Compared
     requires { ⌜ at ≤ length (now text) ⌝ }
     ensures { λ r. ⌜ r .next ≤ length (now (text .entry)) ⌝ }
 {
@@ -116,7 +116,7 @@ fn compare_answer(text: &[u8], at: usize, returned: u32, answer: &[u8; 16]) -> C
     }
 }
 
-// The library's access. It and the comparison of tables are functions of their own since their parameters' types give the arrays' lengths,
+// The library's access, to one byte. It and the comparison of tables are functions of their own since their parameters' types give the arrays' lengths,
 // which the checker does not keep of an array that another call has filled.
 fn access(
     page: &[u8; 132],
@@ -124,9 +124,9 @@ fn access(
     kind: u32,
     address: u32,
     table: &mut [u8; 65536],
-    answer: &mut [u8; 16],
+    answer: &mut [u8; 48],
 ) -> u32 {
-    mmu::mmu_access(page, mode, kind, address, table, answer)
+    mmu::mmu_access(page, mode, kind, address, 1, table, answer)
 }
 
 // Whether two tables are equal in every byte.
@@ -145,7 +145,7 @@ pub fn replay(text: &[u8]) -> bool {
     let page = set.page;
     let mut table = [0u8; 65536];
     let at = put_entries(&mut table, text, count.next, count.value);
-    let mut answer = [0xAAu8; 16];
+    let mut answer = [0xAAu8; 48];
     let returned = access(
         &page,
         mode.value,

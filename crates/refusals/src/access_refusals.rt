@@ -1,5 +1,5 @@
-// Each refusal of an access, and each two that can hold together, in the order of the rules (7). A refusal leaves the whole table and, of the
-// answer, the number and three zero words (11: the answer too).
+// Each refusal of an access to one byte, and each two that can hold together, in the order of the rules (7); 12 is in the program `operands`. A
+// refusal leaves the whole table and, of the answer, the number and eleven zero words (11: the answer too).
 use report::lent::BAD_BLOCK;
 use report::lent::BAD_SDR1;
 use report::lent::BAD_SEGMENT;
@@ -8,99 +8,22 @@ use report::lent::SDR1;
 use report::lent::SEGMENT;
 use report::lent::SHARED;
 use report::lent::Scene;
-use report::lent::answer_refused;
-use report::lent::kept;
 use report::lent::page_of;
-use report::lent::table_of;
 use report::line;
+use report::refused::LONG_ANSWER;
+use report::refused::LONG_PAGE;
+use report::refused::LONG_TABLE;
+use report::refused::Lengths;
+use report::refused::RIGHT;
+use report::refused::SHORT_ANSWER;
+use report::refused::SHORT_PAGE;
+use report::refused::SHORT_PAGE_AND_TABLE;
+use report::refused::SHORT_TABLE;
+use report::refused::refused;
 
-// The lengths that an access is lent: of the register page, the answer and the table.
-struct Lengths {
-    page: isize,
-    answer: isize,
-    table: isize,
-}
-
-const RIGHT: Lengths = Lengths {
-    page: 132,
-    answer: 16,
-    table: 65536,
-};
-
-const SHORT_PAGE: Lengths = Lengths {
-    page: 131,
-    answer: 16,
-    table: 65536,
-};
-
-const LONG_PAGE: Lengths = Lengths {
-    page: 136,
-    answer: 16,
-    table: 65536,
-};
-
-const SHORT_ANSWER: Lengths = Lengths {
-    page: 132,
-    answer: 15,
-    table: 65536,
-};
-
-const LONG_ANSWER: Lengths = Lengths {
-    page: 132,
-    answer: 17,
-    table: 65536,
-};
-
-const SHORT_TABLE: Lengths = Lengths {
-    page: 132,
-    answer: 16,
-    table: 65535,
-};
-
-const LONG_TABLE: Lengths = Lengths {
-    page: 132,
-    answer: 16,
-    table: 131072,
-};
-
-const SHORT_PAGE_AND_TABLE: Lengths = Lengths {
-    page: 131,
-    answer: 16,
-    table: 65535,
-};
-
-// An access at 00FFA01B lent parts of these lengths.
-fn access_part(
-    page: &[u8],
-    lengths: Lengths,
-    mode: u32,
-    kind: u32,
-    table: &mut [u8],
-    answer: &mut [u8],
-) -> u32 {
-    let k = io::count(lengths.page, page);
-    let m = io::count(lengths.answer, answer);
-    let n = io::count(lengths.table, table);
-    mmu::mmu_access(
-        &page[..k],
-        mode,
-        kind,
-        0x00FFA01B,
-        &mut table[..n],
-        &mut answer[..m],
-    )
-}
-
-// The number of a refused access.
+// The number of a refused access to the byte at 00FFA01B.
 fn access(scene: Scene, lengths: Lengths, mode: u32, kind: u32, page: [u8; 136]) -> u32 {
-    let table = table_of(scene);
-    let mut lent = table;
-    let mut answer = [0xAAu8; 20];
-    let result = access_part(&page, lengths, mode, kind, &mut lent, &mut answer);
-    kept(
-        result,
-        check::same(&lent, &table) & answer_refused(&answer, result),
-    )
+    refused(scene, lengths, mode, kind, 1, page)
 }
 
 // A load with data translation by this register page.

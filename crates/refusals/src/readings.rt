@@ -1,42 +1,16 @@
 // Readings that tempt, duplicate matches, ignored bits, the order of a search, and the modes.
 use report::lent::INDEX;
+use report::lent::NONE;
+use report::lent::Other;
 use report::lent::SDR1;
 use report::lent::SEGMENT;
 use report::lent::VSID;
 use report::lent::access_is;
 use report::lent::answer_is;
+use report::lent::byte_answer_is;
 use report::lent::page_with;
+use report::lent::with_two;
 use report::line;
-use report::put;
-
-// A table with two entries, each at a group and entry number; a first word of zero stands for none.
-fn with_two(group: usize, entry: usize, first: u32, second: u32, other: Other) -> [u8; 65536] {
-    let mut table = [0u8; 65536];
-    put(&mut table, group, entry, first, second);
-    put(
-        &mut table,
-        other.group,
-        other.entry,
-        other.first,
-        other.second,
-    );
-    table
-}
-
-// Another entry.
-struct Other {
-    group: usize,
-    entry: usize,
-    first: u32,
-    second: u32,
-}
-
-const NONE: Other = Other {
-    group: 0,
-    entry: 0,
-    first: 0,
-    second: 0,
-};
 
 // The entry 86380E43 at entry 0 of the secondary group, with this second word.
 fn in_secondary(second: u32) -> Other {
@@ -48,15 +22,15 @@ fn in_secondary(second: u32) -> Other {
     }
 }
 
-// An access by segment 0 at 00FFA01B: whether it answers these words and leaves this table.
+// An access by segment 0 to the byte at 00FFA01B: whether it answers these words and leaves this table.
 fn access(mode: u32, kind: u32, table: [u8; 65536], words: [u32; 3], after: [u8; 65536]) -> bool {
     let page = page_with(SDR1, 1, SEGMENT);
     let mut lent = table;
-    let mut answer = [0xAAu8; 16];
-    let number = mmu::mmu_access(&page, mode, kind, 0x00FFA01B, &mut lent, &mut answer);
+    let mut answer = [0xAAu8; 48];
+    let number = mmu::mmu_access(&page, mode, kind, 0x00FFA01B, 1, &mut lent, &mut answer);
     let address = if words[0] == 10 { 0 } else { 0x00FFA01B };
     (number == words[0])
-        & answer_is(&answer, words[0], words[1], words[2], address)
+        & byte_answer_is(&answer, words[0], words[1], words[2], address)
         & check::same(&lent, &after)
 }
 
@@ -218,10 +192,10 @@ fn fetch_no_execute() -> bool {
     let page = page_with(SDR1, 1, 0x100C701C);
     let table = with_two(998, 2, 0x86380E03, 0x12345012, in_secondary(0x7777719B));
     let mut lent = table;
-    let mut answer = [0xAAu8; 16];
-    let number = mmu::mmu_access(&page, 2, 0, 0x00FFA01B, &mut lent, &mut answer);
+    let mut answer = [0xAAu8; 48];
+    let number = mmu::mmu_access(&page, 2, 0, 0x00FFA01B, 1, &mut lent, &mut answer);
     (number == 65)
-        & answer_is(&answer, 65, 0x10000000, 0x400, 0x00FFA01B)
+        & byte_answer_is(&answer, 65, 0x10000000, 0x400, 0x00FFA01B)
         & check::same(&lent, &table)
 }
 

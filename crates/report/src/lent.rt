@@ -75,6 +75,64 @@ pub fn table_of(scene: Scene) -> [u8; 131072] {
     table
 }
 
+// A table with two entries, each at a group and entry number; a first word of zero stands for none.
+pub fn with_two(group: usize, entry: usize, first: u32, second: u32, other: Other) -> [u8; 65536] {
+    let mut table = [0u8; 65536];
+    put(&mut table, group, entry, first, second);
+    put(
+        &mut table,
+        other.group,
+        other.entry,
+        other.first,
+        other.second,
+    );
+    table
+}
+
+// Another entry.
+pub struct Other {
+    pub group: usize,
+    pub entry: usize,
+    pub first: u32,
+    pub second: u32,
+}
+
+pub const NONE: Other = Other {
+    group: 0,
+    entry: 0,
+    first: 0,
+    second: 0,
+};
+
+// The first word of an entry of pages 0FFA and 0FFB: V, the VSID and API 3; H is added in a secondary group.
+fn first_word(second: u32) -> u32 {
+    if second == 0 { 0 } else { 0x86380E03 }
+}
+
+// A table with an entry of each of these pages in its primary group, by their second words; a page whose word is zero has none.
+pub fn pages(before: u32, after: u32) -> [u8; 65536] {
+    let entry = Other {
+        group: 999,
+        entry: 3,
+        first: first_word(after),
+        second: after,
+    };
+    with_two(998, 0, first_word(before), before, entry)
+}
+
+// The table with one more entry.
+pub fn also(
+    table: [u8; 65536],
+    group: usize,
+    entry: usize,
+    first: u32,
+    second: u32,
+) -> [u8; 65536] {
+    let mut more = table;
+    put(&mut more, group, entry, first, second);
+    more
+}
+
 // A register page in the first 132 of 136 bytes: SDR1, segment 0 as in the cases, segment 15, the upper word of the first instruction
 // pair, data pair 80001FFE 10000002, and a second data pair with this upper word.
 pub fn page_of(sdr1: u32, segment: u32, instruction: u32, data: u32) -> [u8; 136] {
@@ -108,6 +166,27 @@ pub fn answer_is(answer: &[u8], a: u32, b: u32, c: u32, d: u32) -> bool {
     check::same(answer, &expected)
 }
 
+// Whether these eight words begin the answer of an access.
+pub fn access_answer_is(answer: &[u8; 48], eight: [u32; 8]) -> bool {
+    let mut expected = [0u8; 32];
+    words::write_words(&mut expected, &eight);
+    let whole = &answer[..];
+    check::same(&whole[0..32], &expected)
+}
+
+// Whether it begins with this result and ends with these four words, the record of the rule that decided.
+pub fn record_is(answer: &[u8; 48], result: u32, record: [u32; 4]) -> bool {
+    let whole = &answer[..];
+    (words::read_word(whole, 0) == result)
+        & answer_is(&whole[32..48], record[0], record[1], record[2], record[3])
+}
+
+// Whether these four words begin the answer of an access to one byte: it has no second page, and the byte is in the first where it is done.
+pub fn byte_answer_is(answer: &[u8; 48], a: u32, b: u32, c: u32, d: u32) -> bool {
+    let byte = if a == 0 { 1 } else { 0 };
+    access_answer_is(answer, [a, b, c, d, 0, 0, byte, 0])
+}
+
 // Whether a refusal left 20 bytes, of which an answer was lent, as it should: at 11 as they were, else the number and three zero words.
 pub fn answer_refused(answer: &[u8], number: u32) -> bool {
     if number == 11 {
@@ -121,12 +200,25 @@ pub fn answer_refused(answer: &[u8], number: u32) -> bool {
     check::same(answer, &expected)
 }
 
+// The same of 52 bytes, of which the answer of an access was lent: at 11 as they were, else the number and eleven zero words.
+pub fn access_refused(answer: &[u8], number: u32) -> bool {
+    if number == 11 {
+        return check::same(answer, &[0xAA; 52]);
+    }
+    if answer.len() != 52 {
+        return false;
+    }
+    let mut expected = [0u8; 48];
+    words::write_word(&mut expected, 0, number);
+    check::same(&answer[0..48], &expected) & check::same(&answer[48..52], &[0xAA; 4])
+}
+
 // The number, or 99 where something lent is not as it should be.
 pub fn kept(number: u32, good: bool) -> u32 {
     if good { number } else { 99 }
 }
 
-// Whether an access with a table of zeros answers these words, and leaves the table.
+// Whether an access to one byte with a table of zeros answers these words, and leaves the table.
 pub fn access_is(
     page: [u8; 132],
     mode: u32,
@@ -137,9 +229,9 @@ pub fn access_is(
     third: u32,
 ) -> bool {
     let mut table = [0u8; 65536];
-    let mut answer = [0xAAu8; 16];
-    let number = mmu::mmu_access(&page, mode, kind, address, &mut table, &mut answer);
+    let mut answer = [0xAAu8; 48];
+    let number = mmu::mmu_access(&page, mode, kind, address, 1, &mut table, &mut answer);
     (number == result)
-        & answer_is(&answer, result, word, third, address)
+        & byte_answer_is(&answer, result, word, third, address)
         & check::same(&table, &[0; 65536])
 }

@@ -1,5 +1,8 @@
-// What the programs of cases share: the line of a case, an entry in a lent table, and what the cases lend (`lent`).
+// What the programs of cases share: the line of a case, an entry in a lent table, what the cases lend (`lent`), what they ask of an access
+// (`asked`), and a refused access (`refused`).
+pub mod asked;
 pub mod lent;
+pub mod refused;
 
 use libc::STDOUT_FILENO;
 

@@ -38,9 +38,9 @@ module _ (kind address : ℕ) where
   unfolding answerOf
   answer-guarded = refl
 
-  pub answer-protection : answerOf kind address Protection ≡ faultAnswer (faultOf protection kind) address
+  pub answer-protection : (second : ℕ) → answerOf kind address (Protection second) ≡ faultAnswer (faultOf protection kind) address
   unfolding answerOf
-  answer-protection = refl
+  answer-protection second = refl
 
   pub answer-done : (second : ℕ) → answerOf kind address (Done second) ≡ doneAnswer (physicalAddress second address) (wimgOf second) address
   unfolding answerOf
@@ -59,7 +59,7 @@ module _ (kind address : ℕ) where
   answer-effective NoExecute h = refl
   answer-effective NoMatch h = refl
   answer-effective Guarded h = refl
-  answer-effective Protection h = refl
+  answer-effective (Protection second) h = refl
   answer-effective (Done second) h = refl
   answer-effective (Refused number) h = absurd (h number refl)
 
@@ -84,7 +84,7 @@ module _ (u w : ℕ) (rpn : rpnOf u ≡ rpnOf w) (wimg : wimgOf u ≡ wimgOf w) 
     answer-page-same address =
         page-by kind key u (λ (outcome : Outcome). answerOf kind address outcome ≡ answerOf kind address (pageOutcome kind key w))
         (λ g. rw (page-guarded kind key w (guard-same ∙ g)))
-        (λ g p. rw (page-protected kind key w (guard-same ∙ g) (allow-same ∙ p)))
+        (λ g p. rw (page-protected kind key w (guard-same ∙ g) (allow-same ∙ p)) (answer-protection kind address u ∙ sym (answer-protection kind address w)))
         (λ g p. rw (page-done kind key w (guard-same ∙ g) (allow-same ∙ p)) (answer-done-same kind address))
 
     pub page-done-same : pageOutcome kind key u ≡ Done u → pageOutcome kind key w ≡ Done w

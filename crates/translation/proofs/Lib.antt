@@ -2,6 +2,7 @@
 pub mod Fields
 pub mod Steps
 pub mod Answers
+pub mod Parts
 pub mod Covering
 pub mod Computes
 pub mod Tables

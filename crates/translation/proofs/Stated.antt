@@ -25,6 +25,7 @@ use Rattle.translation.specs.declared.Outcome.the-variants.{Real}
 use Rattle.translation.specs.declared.Early.{Early}
 use Rattle.translation.specs.declared.Early.the-variants.{Decided}
 use Rattle.translation.specs.declared.Answer.{Answer}
+use Rattle.translation.proofs.Parts.{operand-stated}
 use Rattle.translation.proofs.Steps.{block-done, block-fault, before-real, before-block, before-no-execute, before-search, wanted-in-range, decided-early, no-execute-fetch}
 use Rattle.translation.proofs.Steps.{after-contradicting, after-nothing, after-at, page-guarded, page-protected, done-passes, passes-done, after-late, guarded-fetch, outcome-decided}
 use Rattle.translation.proofs.Answers.{answer-real, answer-done, answer-refused, answer-effective, answer-page-same}
@@ -127,6 +128,7 @@ access-as-stated = record {
   before = steps-before 4 11 (lit≤ tt);
   after = steps-after;
   answers = answers-stated;
+  operands = operand-stated;
   protection = protection-tables;
   tables = access-tables;
 }

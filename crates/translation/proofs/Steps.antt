@@ -157,7 +157,7 @@ module _ (kind : ℕ) (key : Bool) where
     page-guarded g = rw g
 
     module _ (passes : fetching kind && guarded (wimgOf second) ≡ false) where
-      pub page-protected : pageAllows key (ppOf second) kind ≡ false → pageOutcome kind key second ≡ Protection
+      pub page-protected : pageAllows key (ppOf second) kind ≡ false → pageOutcome kind key second ≡ Protection second
       unfolding pageOutcome
       page-protected p = rw (passes, p)
 
@@ -168,7 +168,7 @@ module _ (kind : ℕ) (key : Bool) where
     -- what holds in each of the three cases holds of what an entry comes to
     pub page-by : (P : Outcome → Type 0)
         → (fetching kind && guarded (wimgOf second) ≡ true → P Guarded)
-        → (fetching kind && guarded (wimgOf second) ≡ false → pageAllows key (ppOf second) kind ≡ false → P Protection)
+        → (fetching kind && guarded (wimgOf second) ≡ false → pageAllows key (ppOf second) kind ≡ false → P (Protection second))
         → (fetching kind && guarded (wimgOf second) ≡ false → pageAllows key (ppOf second) kind ≡ true → P (Done second))
         → P (pageOutcome kind key second)
     page-by P guard forbidden done = go (fetching kind && guarded (wimgOf second)) (pageAllows key (ppOf second) kind) refl refl

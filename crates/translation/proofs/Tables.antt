@@ -19,4 +19,9 @@ access-tables = record {
   pages = record { equal = refl };
   answers = record { equal = refl };
   accesses = record { equal = refl };
+  first-bytes = record { equal = refl };
+  edges = record { equal = refl };
+  starts = record { equal = refl };
+  operands = record { equal = refl };
+  decisions = record { equal = refl };
 }

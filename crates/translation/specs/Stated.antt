@@ -1,11 +1,11 @@
 -- What is stated of one access for all arguments, beside the rows of the tables: each step with its conditions (rules 5), and what an outcome answers.
-use Prim.Native.Nat.{ℕ, _+_, _/_, _%_, _^_, _<_}
+use Prim.Native.Nat.{ℕ, _+_, _/_, _%_, _^_, _≤_, _<_}
 use mathlib.Core.Bool.{Bool, true, false, _&&_}
 use mathlib.Core.List.{List}
 use mathlib.Core.Logic.{_↔_}
 use mathlib.Core.Path.{_≡_}
 use lib.Ieee.{size}
-use Rattle.numbers.specs.Numbers.{done, dataStorageFault, instructionStorageFault, refusedContradiction, fetch, store, attributesReal}
+use Rattle.numbers.specs.Numbers.{done, dataStorageFault, instructionStorageFault, refusedContradiction, fetch, store, attributesReal, pageSize}
 use Rattle.numbers.specs.Tables.{NumbersTables}
 use Rattle.words.specs.Bits.{placed}
 use Rattle.words.specs.Tables.{WordsTables}
@@ -22,6 +22,7 @@ use Rattle.protection.specs.Access.{userMode, fetching, relocated, sideOf}
 use Rattle.protection.specs.Protection.{pageAllows, blockAllows, guarded}
 use Rattle.protection.specs.Fault.{faultOf}
 use Rattle.translation.specs.Steps.{segmentAt, wantedOf, beforeSearch, afterSearch, outcomeOf, doneAnswer, refusedAnswer, answerOf}
+use Rattle.translation.specs.Operand.{firstBytes, overEdge, partStart}
 use Rattle.protection.specs.Tables.{ProtectionTables}
 use Rattle.translation.specs.Tables.{AccessTables}
 use Rattle.translation.specs.declared.Outcome.{Outcome}
@@ -39,7 +40,7 @@ earlyOutcome (BlockProtection i) = true
 earlyOutcome NoExecute = true
 earlyOutcome NoMatch = false
 earlyOutcome Guarded = false
-earlyOutcome Protection = false
+earlyOutcome (Protection second) = false
 earlyOutcome (Done second) = false
 earlyOutcome (Refused number) = false
 
@@ -83,7 +84,7 @@ pub record StepsAfter (kind : ℕ) (key : Bool) : Type 0 where
   pub guarded-fetch : (second : ℕ) → fetching kind && guarded (wimgOf second) ≡ true → afterSearch kind key (At second) ≡ Guarded
   -- step 6: neither that, nor allowed
   pub page-fault : (second : ℕ) → fetching kind && guarded (wimgOf second) ≡ false → pageAllows key (ppOf second) kind ≡ false
-      → afterSearch kind key (At second) ≡ Protection
+      → afterSearch kind key (At second) ≡ Protection second
   -- step 7: an access is done by an entry exactly when the search found it and steps 5 and 6 let it pass
   pub page-done : (searched : Searched) (second : ℕ)
       → (afterSearch kind key searched ≡ Done second)
@@ -116,6 +117,19 @@ pub record AnswersStated (kind address : ℕ) : Type 0 where
   pub effective : (outcome : Outcome) → ((number : ℕ) → outcome ≡ Refused number → ⊥) → answerOf kind address outcome .effective ≡ address
   pub refused : (number : ℕ) → answerOf kind address (Refused number) ≡ refusedAnswer number
 
+-- how an operand lies in pages
+pub record OperandStated (address length : ℕ) : Type 0 where
+  -- in one page, where it ends with that page or before
+  pub one-page : address % pageSize + length ≤ pageSize → (overEdge address length ≡ false) × (firstBytes address length ≡ length)
+  -- else in two: the first has the bytes up to its end, fewer than all
+  pub two-pages : pageSize < address % pageSize + length
+      → (overEdge address length ≡ true) × (address % pageSize + firstBytes address length ≡ pageSize) × (firstBytes address length < length)
+  -- the first part starts with the operand, the second with the next page; after the last page comes page 0
+  pub first-start : partStart address length false ≡ address
+  pub next-page : pageSize < address % pageSize + length → address + firstBytes address length < 2 ^ 32
+      → partStart address length true ≡ address + firstBytes address length
+  pub wraps : pageSize < address % pageSize + length → address + firstBytes address length ≡ 2 ^ 32 → partStart address length true ≡ 0
+
 -- packing, entries, registers, blocks and the steps of an access are as the rules state them
 pub record AccessAsStated : Type 0 where
   pub numbers : NumbersTables
@@ -131,5 +145,6 @@ pub record AccessAsStated : Type 0 where
   pub before : (words : List ℕ) (mode kind address : ℕ) → StepsBefore blockPairs blWidth words mode kind address
   pub after : (kind : ℕ) (key : Bool) → StepsAfter kind key
   pub answers : (kind address : ℕ) → AnswersStated kind address
+  pub operands : (address length : ℕ) → OperandStated address length
   pub protection : ProtectionTables
   pub tables : AccessTables

@@ -51,7 +51,7 @@ module _ (pairs width : ℕ) where
 -- steps 5 to 7, by the second word of the entry found
 unfoldable pub pageOutcome : ℕ → Bool → ℕ → Outcome
 pageOutcome kind key second =
-    cond (fetching kind && guarded (wimgOf second)) Guarded (cond (pageAllows key (ppOf second) kind) (Done second) Protection)
+    cond (fetching kind && guarded (wimgOf second)) Guarded (cond (pageAllows key (ppOf second) kind) (Done second) (Protection second))
 
 -- steps 4 to 7, by what the search found
 unfoldable pub afterSearch : ℕ → Bool → Searched → Outcome
@@ -84,6 +84,6 @@ answerOf kind address (BlockProtection i) = faultAnswer (faultOf protection kind
 answerOf kind address NoExecute = faultAnswer (faultOf noFetch kind) address
 answerOf kind address NoMatch = faultAnswer (faultOf noMatch kind) address
 answerOf kind address Guarded = faultAnswer (faultOf noFetch kind) address
-answerOf kind address Protection = faultAnswer (faultOf protection kind) address
+answerOf kind address (Protection second) = faultAnswer (faultOf protection kind) address
 answerOf kind address (Done second) = doneAnswer (physicalAddress second address) (wimgOf second) address
 answerOf kind address (Refused number) = refusedAnswer number

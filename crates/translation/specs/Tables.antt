@@ -19,6 +19,11 @@ use Rattle.translation.specs.declared.Early.the-variants.{Decided, Searc
 use Rattle.translation.specs.declared.Searched.{Searched}
 use Rattle.translation.specs.declared.Searched.the-variants.{Nothing, At, Contradicting}
 use Rattle.translation.specs.declared.Answer.{Answer}
+use Rattle.translation.specs.declared.operand.OperandAnswer.{OperandAnswer}
+use Rattle.translation.specs.declared.decision.Decision.{Decision}
+use Rattle.translation.specs.declared.decision.Used.{Used}
+use Rattle.translation.specs.Decision.{decisionOf}
+use Rattle.translation.specs.Operand.{firstBytes, overEdge, partStart, operandAnswer}
 
 -- a page that is looked for, and an answer, by their values
 abbrev pub search : ℕ → ℕ → Bool → Early
@@ -63,6 +68,48 @@ keyed key = search 0x0C701C 0x0FFA key ∷ search 0x0C701C 0x0FFA key ∷ search
 
 abbrev pub fetchFaults : Bool → List Early
 fetchFaults key = Decided NoExecute ∷ search 0x0C701C 0x0FFA key ∷ search 0x0C701C 0x0FFA key ∷ []
+
+-- what an operand's parts answer, and what it answers itself
+abbrev pub parts : Answer → Answer → Bool → Answer
+parts first second true = second
+parts first second false = first
+
+abbrev pub operand : Answer → Decision → ℕ → ℕ → ℕ → ℕ → OperandAnswer
+operand part decision address attributes bytes rest =
+    record { part = part; decision = decision; address = address; attributes = attributes; bytes = bytes; rest = rest }
+
+-- what decided the first part and the second, by its values
+abbrev pub decision : ℕ → ℕ → ℕ → ℕ → Decision
+decision rule detail group entry = record { rule = rule; detail = detail; group = group; entry = entry }
+
+abbrev pub firstRule : Decision
+firstRule = decision 6 2 0x3E6 1
+
+abbrev pub secondRule : Decision
+secondRule = decision 5 7 0x019 3
+
+abbrev pub deciding : Bool → Decision
+deciding true = secondRule
+deciding false = firstRule
+
+abbrev pub firstDone : Answer
+firstDone = answer done 0x12345FFE 2 0x00000FFE
+
+abbrev pub secondDone : Answer
+secondDone = answer done 0x54321000 5 0x00001000
+
+abbrev pub firstFault : Answer
+firstFault = answer dataStorageFault 0x0A000000 0x300 0x00000FFE
+
+abbrev pub secondFault : Answer
+secondFault = answer dataStorageFault 0x42000000 0x300 0x00001000
+
+abbrev pub contradicting : Answer
+contradicting = answer refusedContradiction 0 0 0
+
+-- a search by this key whose first match is entry 5 of group 0x3E6
+abbrev pub went : Bool → Used
+went key = record { key = key; group = 0x3E6; entry = 5 }
 
 pub record AccessTables : Type 0 where
   -- step 1 comes before all others
@@ -172,19 +219,19 @@ pub record AccessTables : Type 0 where
       (foundWith false 0x12345070, outcomes (Done 0x12345070) (Done 0x12345070) (Done 0x12345070))
       ∷ (foundWith false 0x12345071, outcomes (Done 0x12345071) (Done 0x12345071) (Done 0x12345071))
       ∷ (foundWith false 0x12345072, outcomes (Done 0x12345072) (Done 0x12345072) (Done 0x12345072))
-      ∷ (foundWith false 0x12345073, outcomes (Done 0x12345073) (Done 0x12345073) Protection)
-      ∷ (foundWith true 0x12345070, outcomes Protection Protection Protection)
-      ∷ (foundWith true 0x12345071, outcomes (Done 0x12345071) (Done 0x12345071) Protection)
+      ∷ (foundWith false 0x12345073, outcomes (Done 0x12345073) (Done 0x12345073) (Protection 0x12345073))
+      ∷ (foundWith true 0x12345070, outcomes (Protection 0x12345070) (Protection 0x12345070) (Protection 0x12345070))
+      ∷ (foundWith true 0x12345071, outcomes (Done 0x12345071) (Done 0x12345071) (Protection 0x12345071))
       ∷ (foundWith true 0x12345072, outcomes (Done 0x12345072) (Done 0x12345072) (Done 0x12345072))
-      ∷ (foundWith true 0x12345073, outcomes (Done 0x12345073) (Done 0x12345073) Protection)
+      ∷ (foundWith true 0x12345073, outcomes (Done 0x12345073) (Done 0x12345073) (Protection 0x12345073))
       ∷ (foundWith false 0x12345008, outcomes Guarded (Done 0x12345008) (Done 0x12345008))
       ∷ (foundWith false 0x12345009, outcomes Guarded (Done 0x12345009) (Done 0x12345009))
       ∷ (foundWith false 0x1234500A, outcomes Guarded (Done 0x1234500A) (Done 0x1234500A))
-      ∷ (foundWith false 0x1234500B, outcomes Guarded (Done 0x1234500B) Protection)
-      ∷ (foundWith true 0x12345008, outcomes Guarded Protection Protection)
-      ∷ (foundWith true 0x12345009, outcomes Guarded (Done 0x12345009) Protection)
+      ∷ (foundWith false 0x1234500B, outcomes Guarded (Done 0x1234500B) (Protection 0x1234500B))
+      ∷ (foundWith true 0x12345008, outcomes Guarded (Protection 0x12345008) (Protection 0x12345008))
+      ∷ (foundWith true 0x12345009, outcomes Guarded (Done 0x12345009) (Protection 0x12345009))
       ∷ (foundWith true 0x1234500A, outcomes Guarded (Done 0x1234500A) (Done 0x1234500A))
-      ∷ (foundWith true 0x1234500B, outcomes Guarded (Done 0x1234500B) Protection)
+      ∷ (foundWith true 0x1234500B, outcomes Guarded (Done 0x1234500B) (Protection 0x1234500B))
       ∷ []
       )
   -- what each outcome answers
@@ -199,9 +246,9 @@ pub record AccessTables : Type 0 where
       ∷ (answerOf 1 0x00FFA01B NoMatch, answer dataStorageFault 0x40000000 0x300 0x00FFA01B)
       ∷ (answerOf 2 0x00FFA01B NoMatch, answer dataStorageFault 0x42000000 0x300 0x00FFA01B)
       ∷ (answerOf 0 0x00FFA01B Guarded, answer instructionStorageFault 0x10000000 0x400 0x00FFA01B)
-      ∷ (answerOf 0 0x00FFA01B Protection, answer instructionStorageFault 0x08000000 0x400 0x00FFA01B)
-      ∷ (answerOf 1 0x00FFA01B Protection, answer dataStorageFault 0x08000000 0x300 0x00FFA01B)
-      ∷ (answerOf 2 0x00FFA01B Protection, answer dataStorageFault 0x0A000000 0x300 0x00FFA01B)
+      ∷ (answerOf 0 0x00FFA01B (Protection 0x12345013), answer instructionStorageFault 0x08000000 0x400 0x00FFA01B)
+      ∷ (answerOf 1 0x00FFA01B (Protection 0x12345013), answer dataStorageFault 0x08000000 0x300 0x00FFA01B)
+      ∷ (answerOf 2 0x00FFA01B (Protection 0x12345013), answer dataStorageFault 0x0A000000 0x300 0x00FFA01B)
       ∷ (answerOf 2 0x00FFA01B (Done 0x12345012), answer done 0x1234501B 2 0x00FFA01B)
       ∷ (answerOf 1 0xFFFFFFFF (Done 0xABCDE07B), answer done 0xABCDEFFF 15 0xFFFFFFFF)
       ∷ (answerOf 1 0x00FFA01B (Refused refusedContradiction), answer refusedContradiction 0 0 0)
@@ -217,5 +264,60 @@ pub record AccessTables : Type 0 where
       ∷ (wholeAccess 0x1234501A (one 1 0x000C701C) 2 0 0x00FFA01B, answer instructionStorageFault 0x10000000 0x400 0x00FFA01B)
       ∷ (wholeAccess 0x12345012 (one 1 0x100C701C) 2 0 0x00FFA01B, answer instructionStorageFault 0x10000000 0x400 0x00FFA01B)
       ∷ (wholeAccess 0x12345012 (one 1 0x100C701C) 2 0 0x00FFB01B, answer instructionStorageFault 0x10000000 0x400 0x00FFB01B)
+      ∷ []
+      )
+  -- the bytes in the first page, whether there is a second, and where each part starts
+  pub first-bytes : Hold (
+      (firstBytes 0x00000FFE 4, 2)
+      ∷ (firstBytes 0x00000FFC 4, 4)
+      ∷ (firstBytes 0x00000F80 128, 128)
+      ∷ (firstBytes 0x00000F81 128, 127)
+      ∷ (firstBytes 0x12345FFF 1, 1)
+      ∷ (firstBytes 0xFFFFFFFF 128, 1)
+      ∷ []
+      )
+  pub edges : Hold (
+      (overEdge 0x00000FFE 4, true)
+      ∷ (overEdge 0x00000FFC 4, false)
+      ∷ (overEdge 0x00000F80 128, false)
+      ∷ (overEdge 0x00000F81 128, true)
+      ∷ (overEdge 0x12345FFF 1, false)
+      ∷ (overEdge 0xFFFFFFFF 2, true)
+      ∷ []
+      )
+  pub starts : Hold (
+      (partStart 0x00000FFE 4 false, 0x00000FFE)
+      ∷ (partStart 0x00000FFE 4 true, 0x00001000)
+      ∷ (partStart 0x0FFFFF81 128 true, 0x10000000)
+      ∷ (partStart 0xFFFFFFFF 2 false, 0xFFFFFFFF)
+      ∷ (partStart 0xFFFFFFFF 2 true, 0x00000000)
+      ∷ []
+      )
+  -- what an operand answers by its parts: over an edge and within one page, the parts done, faulting or refused
+  pub operands : Hold (
+      (operandAnswer 0x00000FFE 4 (parts firstDone secondDone) deciding, operand firstDone firstRule 0x54321000 5 2 2)
+      ∷ (operandAnswer 0x00000F81 128 (parts firstDone secondDone) deciding, operand firstDone firstRule 0x54321000 5 127 1)
+      ∷ (operandAnswer 0x00000FFE 4 (parts firstDone secondFault) deciding, operand secondFault secondRule 0 0 0 0)
+      ∷ (operandAnswer 0x00000FFE 4 (parts firstFault secondDone) deciding, operand firstFault firstRule 0 0 0 0)
+      ∷ (operandAnswer 0x00000FFE 4 (parts firstFault contradicting) deciding, operand firstFault firstRule 0 0 0 0)
+      ∷ (operandAnswer 0x00000FFE 4 (parts contradicting secondFault) deciding, operand contradicting firstRule 0 0 0 0)
+      ∷ (operandAnswer 0x00000FFE 4 (parts firstDone contradicting) deciding, operand contradicting secondRule 0 0 0 0)
+      ∷ (operandAnswer 0x00000FFC 4 (parts firstDone secondFault) deciding, operand firstDone firstRule 0 0 4 0)
+      ∷ (operandAnswer 0x00000FFC 4 (parts firstFault secondDone) deciding, operand firstFault firstRule 0 0 0 0)
+      ∷ []
+      )
+  -- the rule of each outcome, what it went by, and the entry used; a refusal shows zero words
+  pub decisions : Hold (
+      (decisionOf (went true) Real, decision 0 0 0 0)
+      ∷ (decisionOf (went true) (Block 3 0x1FFFFFFF 11), decision 1 3 0 0)
+      ∷ (decisionOf (went true) (BlockProtection 2), decision 1 2 0 0)
+      ∷ (decisionOf (went true) NoExecute, decision 2 0 0 0)
+      ∷ (decisionOf (went true) NoMatch, decision 3 0 0 0)
+      ∷ (decisionOf (went true) Guarded, decision 4 0 0x3E6 5)
+      ∷ (decisionOf (went true) (Protection 0x12345011), decision 5 5 0x3E6 5)
+      ∷ (decisionOf (went false) (Protection 0x12345013), decision 5 3 0x3E6 5)
+      ∷ (decisionOf (went true) (Done 0x12345012), decision 6 6 0x3E6 5)
+      ∷ (decisionOf (went false) (Done 0x12345010), decision 6 0 0x3E6 5)
+      ∷ (decisionOf (went true) (Refused refusedContradiction), decision 0 0 0 0)
       ∷ []
       )

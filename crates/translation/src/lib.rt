@@ -1,4 +1,8 @@
-// One access without a table's bytes: the steps before the search, those after it, and what an outcome answers.
+// One access without a table's bytes: the steps before the search, those after it, what an outcome answers, the rule that decided it, and the parts
+// of an operand.
+pub mod decision;
+pub mod operand;
+
 ghost use mathlib.Core.Path.{_≡_};
 ghost use Prim.Native.Nat.{_<_};
 ghost use Rattle.register_words.specs.Block.{blWidth};
@@ -17,7 +21,8 @@ pub enum Outcome {
     NoExecute,
     NoMatch,
     Guarded,
-    Protection,
+    // A fault by the PP of the entry with that second word.
+    Protection(u32),
     // Done by the entry with that second word.
     Done(u32),
     Refused(u32),
@@ -109,7 +114,7 @@ fn page_outcome(kind: u32, key: bool, second: u32) -> Outcome
     if protection::page_allows(key, second & 3, kind) {
         Outcome::Done(second)
     } else {
-        Outcome::Protection
+        Outcome::Protection(second)
     }
 }
 
@@ -172,7 +177,7 @@ pub fn answer_of(kind: u32, address: u32, outcome: Outcome) -> Answer
         Outcome::NoExecute => fault_answer(protection::NO_FETCH, kind, address),
         Outcome::NoMatch => fault_answer(protection::NO_MATCH, kind, address),
         Outcome::Guarded => fault_answer(protection::NO_FETCH, kind, address),
-        Outcome::Protection => fault_answer(protection::PROTECTION, kind, address),
+        Outcome::Protection(_) => fault_answer(protection::PROTECTION, kind, address),
         Outcome::Done(second) => done_answer(
             entry::physical_address(second, address),
             (second >> 3) & 0xF,

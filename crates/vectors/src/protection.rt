@@ -1,11 +1,11 @@
 // Protection and marks of a page: Tables 7-15 and 7-16, 7-17, 7-14 and 7-3.
 use report::lent::SDR1;
-use report::lent::answer_is;
+use report::lent::byte_answer_is;
 use report::lent::page_with;
 use report::line;
 use report::put;
 
-// Whether an access at 00FFA01B, by this segment 0 and an entry with this second word, answers these words and leaves this second word,
+// Whether an access to the byte at 00FFA01B, by this segment 0 and an entry with this second word, answers these words and leaves this second word,
 // with every other byte of the table zero. The attributes are those of WIMG 2, or 3 where the word has G too.
 fn access(
     segment: u32,
@@ -19,8 +19,8 @@ fn access(
     let page = page_with(SDR1, 1, segment);
     let table = with_entry(second);
     let mut lent = table;
-    let mut answer = [0xAAu8; 16];
-    let number = mmu::mmu_access(&page, mode, kind, 0x00FFA01B, &mut lent, &mut answer);
+    let mut answer = [0xAAu8; 48];
+    let number = mmu::mmu_access(&page, mode, kind, 0x00FFA01B, 1, &mut lent, &mut answer);
     let third = if result == 0 {
         2 | ((second >> 3) & 1)
     } else if result == 64 {
@@ -29,7 +29,7 @@ fn access(
         0x400
     };
     (number == result)
-        & answer_is(&answer, result, word, third, 0x00FFA01B)
+        & byte_answer_is(&answer, result, word, third, 0x00FFA01B)
         & check::same(&lent, &with_entry(after))
 }
 

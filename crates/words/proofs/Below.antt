@@ -1,6 +1,6 @@
 -- Laws of tests of the numbers below a bound: every number passes, or the first that does.
 use mathlib.Core.Path.{_≡_, refl, sym, ap, _∙_}
-use mathlib.Core.Bool.{Bool, true, false, _&&_}
+use mathlib.Core.Bool.{Bool, true, false, cond, _&&_}
 use mathlib.Core.Logic.{⊎-elim}
 use Prim.Native.Nat.{ℕ, zero, suc, _+_, _<_}
 use native.Mathlib.Nat.{not-suc-le-zero}
@@ -57,3 +57,29 @@ pub first-none : (test : ℕ → Bool) (n : ℕ) → ((k : ℕ) → k < n → te
 unfolding firstBelow
 first-none test zero q = refl
 first-none test (suc n) q = rw (q 0 (omega arith)) (ap suc (first-none (λ i. test (suc i)) n (λ k l. q (suc k) (omega arith))))
+
+-- the first that passes does pass, and those before it fail
+pub first-passes : (test : ℕ → Bool) (n : ℕ) → firstBelow n test < n → test (firstBelow n test) ≡ true
+unfolding firstBelow
+first-passes test zero h = absurd (not-suc-le-zero h)
+first-passes test (suc n) h = go (first-passes (λ i. test (suc i)) n) (test 0) refl h
+  where
+    rest : ℕ
+    rest = firstBelow n (λ i. test (suc i))
+
+    go : (rest < n → test (suc rest) ≡ true) → (t : Bool) → test 0 ≡ t → cond t 0 (suc rest) < suc n → test (cond t 0 (suc rest)) ≡ true
+    go again true e l = e
+    go again false e l = again (omega arith)
+
+pub first-before : (test : ℕ → Bool) (n k : ℕ) → k < firstBelow n test → test k ≡ false
+unfolding firstBelow
+first-before test zero k h = absurd (not-suc-le-zero h)
+first-before test (suc n) k h = go (first-before (λ i. test (suc i)) n) (test 0) refl k h
+  where
+    rest : ℕ
+    rest = firstBelow n (λ i. test (suc i))
+
+    go : ((j : ℕ) → j < rest → test (suc j) ≡ false) → (t : Bool) → test 0 ≡ t → (j : ℕ) → j < cond t 0 (suc rest) → test j ≡ false
+    go again true e j l = absurd (not-suc-le-zero l)
+    go again false e zero l = e
+    go again false e (suc j) l = again j (omega arith)

@@ -68,3 +68,11 @@ ones-width f w e h = go (leb (size f) w) refl
     go false p =
         let l : suc w ≤ size f = leb-false (size f) w p in
         omega (arith, ones-true f e, pow-mono l, pow-suc 2 w, pow-pos w)
+
+-- a field of w bits has at most w binary digits
+pub size-width : (f w : ℕ) → f < 2 ^ w → size f ≤ w
+size-width f w h = go (leb (size f) w) refl
+  where
+    go : (t : Bool) → leb (size f) w ≡ t → size f ≤ w
+    go true p = leb-true (size f) w p
+    go false p = let x = size-reaches f w (leb-false (size f) w p) in absurd (omega arith)

@@ -8,7 +8,7 @@ use native.Mathlib.Omega.{arith}
 use lib.ListN.{length, getD, set, take, drop, length-set, length-append}
 use lib.Dec.{eqb, lit≤, lit<}
 use lib.Pow.{shr-shr, split}
-use lib.Seq.{sets, length-sets, sets-eq, getD-set-same, getD-set-other, set-out, take-at, take-length, length-take-le}
+use lib.Seq.{sets, length-sets, sets-eq, getD-set-same, getD-set-other, set-out, set-comm, take-at, take-length, length-take-le}
 use Rattle.words.proofs.Tests.{three, eqb-same}
 use Rattle.words.specs.Bits.{bits, placed}
 use Rattle.words.proofs.Bits.{bits-split, bits-all}
@@ -38,13 +38,31 @@ module _ (a b c d : ℕ) (la : a < 2 ^ 8) (lb : b < 2 ^ 8) (lc : c < 2 ^ 8) (ld 
   pub byte-3 : bits 24 31 (wordOf a b c d) ≡ d
   byte-3 = omega arith
 
-own-bytes : (w : ℕ) → w < 2 ^ 32 → wordOf (bits 0 7 w) (bits 8 15 w) (bits 16 23 w) (bits 24 31 w) ≡ w
+pub own-bytes : (w : ℕ) → w < 2 ^ 32 → wordOf (bits 0 7 w) (bits 8 15 w) (bits 16 23 w) (bits 24 31 w) ≡ w
 own-bytes w fits =
     sum (bits 0 7 w) (bits 8 15 w) (bits 16 23 w) (bits 24 31 w) (bits 8 31 w) (bits 16 31 w) w
     (sym (bits-all w fits) ∙ bits-split 0 7 w (lit≤ tt) (lit< tt)) (bits-split 8 15 w (lit≤ tt) (lit< tt)) (bits-split 16 23 w (lit≤ tt) (lit< tt))
   where
     sum : (a b c d s t w : ℕ) → w ≡ placed 7 a + s → s ≡ placed 15 b + t → t ≡ placed 23 c + d → wordOf a b c d ≡ w
     sum a b c d s t w e f g = omega arith
+
+-- the bytes of a word in reverse order are its bytes from the other end
+module _ (w : ℕ) where
+  pub turned-0 : bits 24 31 (swapped w) ≡ bits 0 7 w
+  unfolding swapped
+  turned-0 = byte-3 (bits 24 31 w) (bits 16 23 w) (bits 8 15 w) (bits 0 7 w) (omega arith) (omega arith) (omega arith) (omega arith)
+
+  pub turned-1 : bits 16 23 (swapped w) ≡ bits 8 15 w
+  unfolding swapped
+  turned-1 = byte-2 (bits 24 31 w) (bits 16 23 w) (bits 8 15 w) (bits 0 7 w) (omega arith) (omega arith) (omega arith) (omega arith)
+
+  pub turned-2 : bits 8 15 (swapped w) ≡ bits 16 23 w
+  unfolding swapped
+  turned-2 = byte-1 (bits 24 31 w) (bits 16 23 w) (bits 8 15 w) (bits 0 7 w) (omega arith) (omega arith) (omega arith) (omega arith)
+
+  pub turned-3 : bits 0 7 (swapped w) ≡ bits 24 31 w
+  unfolding swapped
+  turned-3 = byte-0 (bits 24 31 w) (bits 16 23 w) (bits 8 15 w) (bits 0 7 w) (omega arith) (omega arith) (omega arith) (omega arith)
 
 -- four bytes in reverse order are those of a word in reverse order exactly where the word is theirs
 module _ (a b c d w : ℕ) (la : a < 2 ^ 8) (lb : b < 2 ^ 8) (lc : c < 2 ^ 8) (ld : d < 2 ^ 8) (fits : w < 2 ^ 32) where
@@ -78,6 +96,15 @@ sets-in (a ∷ vs) l i zero h b =
     rw add-zero (sets-before vs (set l i a) (suc i) i (omega arith) ∙ getD-set-same l i a 0 (omega arith))
 sets-in (a ∷ vs) l i (suc k) h b =
     rw (add-suc, ← suc-add) (sets-in vs (set l i a) (suc i) k (le-of-suc-le-suc h) (rw length-set (omega arith)))
+
+-- two runs of stores that do not meet, in either order
+set-sets : (vs l : List ℕ) (i j a : ℕ) → i < j → sets (set l i a) j vs ≡ set (sets l j vs) i a
+set-sets [] l i j a h = refl
+set-sets (b ∷ vs) l i j a h = ap (λ (x : List ℕ). sets x (suc j) vs) (set-comm l i j a b (omega arith)) ∙ set-sets vs (set l j b) i (suc j) a (omega arith)
+
+pub sets-comm : (us vs l : List ℕ) (i j : ℕ) → i + length us ≤ j → sets (sets l i us) j vs ≡ sets (sets l j vs) i us
+sets-comm [] vs l i j h = refl
+sets-comm (a ∷ us) vs l i j h = sets-comm us vs (set l i a) (suc i) j (omega arith) ∙ ap (λ (x : List ℕ). sets x (suc i) us) (set-sets vs l i j a (omega arith))
 
 pub length-wordBytes : (w : ℕ) → length (wordBytes w) ≡ 4
 unfolding wordBytes

@@ -1,22 +1,29 @@
 // Words of 32 bits: reading and writing them in bytes, and the test for ones at the low end of a field.
 ghost use mathlib.Core.Path.{_≡_};
-ghost use Prim.Native.Nat.{ℕ, _+_, _*_, _^_, _≤_, _<_};
+ghost use Prim.Native.Nat.{ℕ, _+_, _-_, _*_, _^_, _≤_, _<_};
 ghost use lib.Dec.{eqb};
+ghost use lib.Ieee.{size};
 ghost use lib.ListN.{length};
 ghost use Rattle.words.specs.Ones.{lowOnes};
 ghost use Rattle.words.specs.Words.{wordOf, wordAt, swapped, withWord, bytesOf};
 
-// Whether a field is ones only at its low end, 0 included: the field without its lowest bit is asked again.
+// Whether a field is ones only at its low end, where `whole` is the field that it was and n is 32 without its bits that are gone: the field
+// without its lowest bit is asked again, and in the end the whole is compared with as many ones as it has bits.
+fn low_ones_of(field: u32, whole: u32, n: u32) -> bool
+    requires { ⌜ (size field ≤ n) × (n ≤ 32) ⌝ }
+    ensures { λ r. ⌜ r ≡ eqb whole (2 ^ (32 - (n - size field)) - 1) ⌝ }
+{
+    if field == 0 {
+        return whole as u64 == 0xFFFFFFFF >> n;
+    }
+    low_ones_of(field >> 1, whole, n - 1)
+}
+
+// Whether a field is ones only at its low end, 0 included.
 pub fn low_ones(field: u32) -> bool
     ensures { λ r. ⌜ r ≡ lowOnes field ⌝ }
 {
-    if field == 0 {
-        return true;
-    }
-    if field & 1 == 0 {
-        return false;
-    }
-    low_ones(field >> 1)
+    low_ones_of(field, field, 32)
 }
 
 // The word of four bytes, the most significant first.
@@ -68,10 +75,11 @@ pub fn write_word(s: &mut [u8], at: usize, w: u32)
     requires { ⌜ at + 4 ≤ length (now s) ⌝ }
     ensures { λ _. ⌜ now (s .exit) ≡ withWord (now (s .entry)) at w ⌝ }
 {
-    s[at] = ((w >> 24) % 256) as u8;
-    s[at + 1] = ((w >> 16) % 256) as u8;
-    s[at + 2] = ((w >> 8) % 256) as u8;
-    s[at + 3] = (w % 256) as u8;
+    let r = swapped(w);
+    s[at] = (r % 256) as u8;
+    s[at + 1] = ((r >> 8) % 256) as u8;
+    s[at + 2] = ((r >> 16) % 256) as u8;
+    s[at + 3] = ((r >> 24) % 256) as u8;
 }
 
 // Fills a slice with words, big-endian.

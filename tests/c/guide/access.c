@@ -94,7 +94,7 @@ static void test_instruction_fault(void)
     struct mmu_answer answer;
     core.msr = PR | IR;
     core.dsisr = core.dar = 7;
-    answer = translate(&core, MMU_FETCH, core.pc);
+    answer = translate(&core, MMU_FETCH, core.pc, 4);
     EXPECT(answer.result == MMU_INSTRUCTION_STORAGE_FAULT);
     take_fault(&core, &answer);
     EXPECT(core.srr0 == 0x1234 && core.srr1 == (0x10000000 | PR | IR));

@@ -7,15 +7,9 @@
 
 static uint8_t memory[0x40000], before[0x40000];
 
-static int same(const struct mmu_answer *a, const struct mmu_answer *b)
-{
-    return a->result == b->result && a->physical == b->physical && a->attributes == b->attributes
-        && a->fault == b->fault && a->offset == b->offset && a->effective == b->effective;
-}
-
 int main(void)
 {
-    static const uint32_t addresses[] = { 0x00FFA01B, 0x00FFB000, 0x00FFC000, 0x10FFA01B };
+    static const uint32_t addresses[] = { 0x00FFA01B, 0x00FFAFFD, 0x00FFB000, 0x00FFBFFD, 0x00FFC000, 0x10FFA01B };
     struct core core = { .memory = memory, .memory_size = sizeof memory };
     uint32_t kind, i, marked = 0;
     EXPECT(mmu_set_register(core.registers, sizeof core.registers, MMU_REGISTER_SDR1, 0x10000) == MMU_DONE);
@@ -27,10 +21,10 @@ int main(void)
             for (i = 0; i < sizeof addresses / sizeof addresses[0]; i++) {
                 struct mmu_answer looked, answered;
                 memcpy(before, memory, sizeof memory);
-                looked = peek(&core, kind, addresses[i]);
+                looked = peek(&core, kind, addresses[i], 8);
                 EXPECT(memcmp(before, memory, sizeof memory) == 0);
-                answered = translate(&core, kind, addresses[i]);
-                EXPECT(same(&looked, &answered));
+                answered = translate(&core, kind, addresses[i], 8);
+                EXPECT(same_answer(&looked, &answered) && same_rule(&looked, &answered));
                 marked += memcmp(before, memory, sizeof memory) != 0;
             }
     EXPECT(marked > 0);

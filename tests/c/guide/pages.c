@@ -9,7 +9,7 @@ static uint32_t guest_kind;
 /* The guest of this test makes one access. */
 static void run_guest(struct core *core, uint32_t address)
 {
-    EXPECT(translate(core, guest_kind, address).physical == (0x23000 | (address & 0xFFF)));
+    EXPECT(translate(core, guest_kind, address, 1).physical == (0x23000 | (address & 0xFFF)));
 }
 
 #include "pages.inc"
@@ -24,6 +24,6 @@ int main(void)
     EXPECT(page_was_changed(&core, 0x10000, 77, 0x51234567, 0x23) == 0);
     guest_kind = MMU_STORE;
     EXPECT(page_was_changed(&core, 0x10000, 77, 0x51234567, 0x23) == 1);
-    EXPECT(translate(&core, MMU_LOAD, 0x51234567).fault == MMU_FAULT_NO_MATCH);
+    EXPECT(translate(&core, MMU_LOAD, 0x51234567, 1).fault == MMU_FAULT_NO_MATCH);
     return 0;
 }

@@ -15,14 +15,14 @@ static void test_upper_word_first(void)
     uint8_t alone[MMU_REGISTERS_SIZE];
     EXPECT(mtspr(&core, 537, 0x00020002) && core.refused == MMU_DONE);
     EXPECT(mtspr(&core, 536, 0x80000002) && core.refused == MMU_DONE);
-    EXPECT(translate(&core, MMU_LOAD, 0x8001FFFF).physical == 0x0003FFFF);
+    EXPECT(translate(&core, MMU_LOAD, 0x8001FFFF, 1).physical == 0x0003FFFF);
     memcpy(alone, core.registers, sizeof alone);
 
     EXPECT(mtspr(&core, 536, 0x80001FFE) && core.refused == MMU_REFUSED_BLOCK);
     EXPECT(core.words[25] == 0x80001FFE);
-    EXPECT(translate(&core, MMU_LOAD, 0x8001FFFF).physical == 0x0003FFFF);
+    EXPECT(translate(&core, MMU_LOAD, 0x8001FFFF, 1).physical == 0x0003FFFF);
     EXPECT(mtspr(&core, 537, 0x10000002) && core.refused == MMU_DONE);
-    EXPECT(translate(&core, MMU_LOAD, 0x8FFFFFFF).physical == 0x1FFFFFFF);
+    EXPECT(translate(&core, MMU_LOAD, 0x8FFFFFFF, 1).physical == 0x1FFFFFFF);
 
     /* What the guide warns of: a core that drops the refused word has the small block still. */
     EXPECT(mmu_set_register(alone, sizeof alone, 25, 0x80001FFE) == MMU_REFUSED_BLOCK);
@@ -37,9 +37,9 @@ static void test_block_moved_over_another(void)
     EXPECT(mtspr(&core, 537, 0x00020002) && mtspr(&core, 536, 0x80000002) && core.refused == MMU_DONE);
     EXPECT(mtspr(&core, 539, 0x00000002) && mtspr(&core, 538, 0x80000002));
     EXPECT(core.refused == MMU_REFUSED_BLOCKS_SHARE);
-    EXPECT(translate(&core, MMU_LOAD, 0x80000000).physical == 0x00020000);
+    EXPECT(translate(&core, MMU_LOAD, 0x80000000, 1).physical == 0x00020000);
     EXPECT(mtspr(&core, 536, 0) && core.refused == MMU_DONE);
-    EXPECT(translate(&core, MMU_LOAD, 0x80000000).physical == 0);
+    EXPECT(translate(&core, MMU_LOAD, 0x80000000, 1).physical == 0);
 }
 
 /* One bad word in the page refuses every access; kept beside the page it does not. */
@@ -48,10 +48,10 @@ static void test_bad_segment(void)
     struct core core = { .memory = memory, .memory_size = sizeof memory };
     mtsrin(&core, 0x9FFFFFFF, MMU_SEGMENT_T | 5);
     EXPECT(core.refused == MMU_REFUSED_SEGMENT && core.words[10] == (MMU_SEGMENT_T | 5));
-    EXPECT(translate(&core, MMU_FETCH, 0x12345678).physical == 0x12345678);
+    EXPECT(translate(&core, MMU_FETCH, 0x12345678, 4).physical == 0x12345678);
     EXPECT(write_register(&core, MMU_REGISTER_SEGMENT(9), 5) == 1 && core.refused == MMU_DONE);
     mmu_put_word(core.registers, MMU_REGISTER_OFFSET(10), MMU_SEGMENT_T | 5);
-    EXPECT(translate(&core, MMU_FETCH, 0x12345678).result == MMU_REFUSED_SEGMENT);
+    EXPECT(translate(&core, MMU_FETCH, 0x12345678, 4).result == MMU_REFUSED_SEGMENT);
 }
 
 static void test_table_outside_memory(void)
@@ -76,8 +76,8 @@ static void test_lengths(void)
         EXPECT(upper_word(0x80000000, length) == (0x80000003u | ((1u << k) - 1) << 2));
         EXPECT(write_register(&core, MMU_REGISTER_DATA_LOWER(2), 0x40000002) == 1);
         EXPECT(write_register(&core, MMU_REGISTER_DATA_UPPER(2), upper_word(0x80000000, length)) == 1);
-        EXPECT(translate(&core, MMU_LOAD, 0x80000000 + length - 1).physical == 0x40000000 + length - 1);
-        EXPECT(translate(&core, MMU_LOAD, 0x80000000 + length).result == MMU_DATA_STORAGE_FAULT);
+        EXPECT(translate(&core, MMU_LOAD, 0x80000000 + length - 1, 1).physical == 0x40000000 + length - 1);
+        EXPECT(translate(&core, MMU_LOAD, 0x80000000 + length, 1).result == MMU_DATA_STORAGE_FAULT);
     }
 }
 

@@ -18,6 +18,7 @@ static uint8_t memories[2][SIZE];
 static struct core cores[2];
 static struct tlb tlb;
 static uint32_t state;
+static unsigned long over_edge; /* Accesses that were done in two parts. */
 
 static uint32_t below(uint32_t bound)
 {
@@ -76,16 +77,18 @@ static void change_table(enum left_out flaw)
         drop_all(&tlb);
 }
 
-/* One access of both cores; whether they answer the same. */
+/* One access of both cores, every other one over or up to a page's end; whether they answer the same. */
 static int access_agrees(enum left_out flaw)
 {
-    uint32_t address = below(3) << 28 | some_page() << 12 | below(4096), kind = below(3);
+    uint32_t length = 1 + below(MMU_LONGEST_OPERAND + 1), kind = below(3);
+    uint32_t in_page = below(2) ? below(4096) : 4095 - below(length);
+    uint32_t address = below(3) << 28 | some_page() << 12 | in_page;
     struct mmu_answer a, b;
     cores[0].msr = cores[1].msr = below(2) << 14 | (below(4) ? 0x30 : below(4) << 4);
-    a = translate(&cores[0], kind, address);
-    b = translate_by_tlb(&tlb, &cores[1], flaw == KIND && kind == MMU_STORE ? MMU_LOAD : kind, address);
-    return a.result == b.result && a.physical == b.physical && a.attributes == b.attributes && a.fault == b.fault
-        && a.offset == b.offset && a.effective == b.effective;
+    a = translate(&cores[0], kind, address, length);
+    b = translate_by_tlb(&tlb, &cores[1], flaw == KIND && kind == MMU_STORE ? MMU_LOAD : kind, address, length);
+    over_edge += a.second_bytes != 0;
+    return same_answer(&a, &b) && (a.result == MMU_DONE || same_rule(&a, &b));
 }
 
 /* How many calls the two agree on, CALLS if they never differ. */
@@ -119,7 +122,7 @@ static int run(enum left_out flaw)
 int main(void)
 {
     int flaw;
-    EXPECT(run(NOTHING) == CALLS);
+    EXPECT(run(NOTHING) == CALLS && over_edge > 100);
     for (flaw = UNMAP; flaw < FLAWS; flaw++)
         EXPECT(run((enum left_out)flaw) < CALLS);
     return 0;

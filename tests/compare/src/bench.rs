@@ -10,7 +10,7 @@ use model::words::word_at;
 
 use crate::machine::Machine;
 use crate::region::{Edge, Region};
-use crate::tally::{page_of, Tally};
+use crate::tally::{pages_of, Tally};
 
 /// The first difference met: the run ends with it.
 #[derive(Debug)]
@@ -130,14 +130,14 @@ impl<'a> Bench<'a> {
         self.answer.fill(|bytes| bytes.fill(old));
     }
 
-    /// Notes what the call meets, and keeps registers and the page's entries for a report.
+    /// Notes what the call meets, and keeps registers and its pages' entries for a report.
     fn before(&mut self, call: &Call, lending: Lending) -> Before {
         let lengths = self.lengths(lending);
         let table = lent_as_table(&self.table, &self.other, lending).bytes();
         let registers = self.registers.bytes();
         self.tally.note(&self.model, call, registers, table, lengths);
-        let page = page_of(call, registers, table.len());
-        let places = page.map_or(Vec::new(), |(sdr1, page)| places(sdr1, page, table));
+        let pages = pages_of(call, registers, table.len()).into_iter();
+        let places = pages.flat_map(|(sdr1, page)| places(sdr1, page, table)).collect();
         Before { registers: registers.to_vec(), places }
     }
 
@@ -173,7 +173,7 @@ impl<'a> Bench<'a> {
             write_registers(&mut text, &before.registers);
         }
         for place in before.places.iter().filter(|place| (place.first, place.second) != (0, 0)) {
-            let (group, entry, h) = (place.at / 64, place.at / 8 % 8, place.h);
+            let Place { group, entry, h, .. } = place;
             let words = format!("{:08X} {:08X}", place.first, place.second);
             let _ = writeln!(text, "entry before: group {group:#x} ({h}) entry {entry}: {words}");
         }

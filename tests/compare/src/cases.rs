@@ -15,7 +15,7 @@ struct Setup<'a> {
     machine: &'a dyn Machine,
     registers: [u32; 33],
     table: Vec<u8>,
-    answer: [u8; 16],
+    answer: [u8; 48],
 }
 
 pub fn run(machine: &dyn Machine) -> Result<(), Difference> {
@@ -38,7 +38,7 @@ impl<'a> Setup<'a> {
         registers[0] = sdr1;
         registers[1] = PAGE.vsid;
         let table = vec![0; 65_536 * (sdr1 as usize % 512 + 1)];
-        let answer = [0; 16];
+        let answer = [0; 48];
         Setup { machine, registers, table, answer }
     }
 
@@ -65,10 +65,10 @@ impl<'a> Setup<'a> {
         self.perform(Call::Unmap { sdr1, page })
     }
 
-    /// The second word of the answer to a supervisor's access with data translation on.
+    /// The second word of the answer to a supervisor's access to a byte, data translation on.
     fn access(&mut self, kind: u32, address: u32) -> u32 {
-        let mode = 1;
-        let access = Access { mode, kind, address };
+        let (mode, length) = (1, 1);
+        let access = Access { mode, kind, address, length };
         self.perform(Call::Access(access));
         word_at(&self.answer, 4)
     }

@@ -1,8 +1,8 @@
-//! Complete small tables: every mode, kind, key, N, PP and WIMG of a page, the same of a block, and
-//! every bit of the register words.
+//! Complete small tables: every mode, kind, key, N, PP and WIMG of a page, the same of a block, every
+//! two places of a page's matches, and every bit of the register words.
 
 use model::call::{Access, Call, Page};
-use model::search::{group_numbers, GROUP};
+use model::search::{group_numbers, ENTRY, GROUP};
 
 use crate::bench::{Bench, Difference, Lending};
 use crate::machine::Machine;
@@ -20,9 +20,10 @@ pub fn run(subject: &dyn Machine, _factor: u32) -> Result<Tally, Difference> {
     let mut bench = Bench::new(subject, 65_536, 0);
     for mode in 0..8 {
         for kind in 0..3 {
-            let access = Call::Access(Access { mode, kind, address: ADDRESS });
+            let access = Call::Access(Access { mode, kind, address: ADDRESS, length: 1 });
             bench.lend_answer(&access);
             by_page(&mut bench, &access)?;
+            by_places(&mut bench, &access)?;
             by_block(&mut bench, &access)?;
         }
     }
@@ -32,7 +33,7 @@ pub fn run(subject: &dyn Machine, _factor: u32) -> Result<Tally, Difference> {
     Ok(bench.tally)
 }
 
-/// Ks, Kp and N by WIMG, marks and PP, in either group.
+/// Ks, Kp and N by WIMG, marks and PP, in either group, at an entry that goes with marks and bit 29.
 fn by_page(bench: &mut Bench, access: &Call) -> Result<(), Difference> {
     let page = Page::of_address(VSID, ADDRESS);
     let mut words = [0; 33];
@@ -42,12 +43,38 @@ fn by_page(bench: &mut Bench, access: &Call) -> Result<(), Difference> {
         bench.put_registers(&words);
         for low in 0..0x400 {
             let h = low >> 9;
-            let at = GROUP * group_numbers(SDR1, page)[h as usize];
+            let entry = (low >> 7 & 0b11 | low & 0b100) as usize;
+            let at = GROUP * group_numbers(SDR1, page)[h as usize] + ENTRY * entry;
             let second = 0x1234_5000 | low & 0x1FF;
             bench.table.write(at, &matching_word(page, h).to_be_bytes());
             bench.table.write(at + 4, &second.to_be_bytes());
             bench.compare(access, Lending::Table)?;
             bench.table.write(at, &[0; 8]);
+        }
+    }
+    Ok(())
+}
+
+/// A match at each of the sixteen places of a page, and an equal one at each place from there on.
+fn by_places(bench: &mut Bench, access: &Call) -> Result<(), Difference> {
+    let page = Page::of_address(VSID, ADDRESS);
+    let mut words = [0; 33];
+    words[0] = SDR1;
+    words[1] = VSID;
+    bench.put_registers(&words);
+    let groups = group_numbers(SDR1, page);
+    let at = |place: usize| GROUP * groups[place / 8] + ENTRY * (place % 8);
+    for first in 0..16 {
+        for second in first..16 {
+            for place in [first, second] {
+                let h = (place / 8) as u32;
+                bench.table.write(at(place), &matching_word(page, h).to_be_bytes());
+                bench.table.write(at(place) + 4, &0x1234_5012_u32.to_be_bytes());
+            }
+            bench.compare(access, Lending::Table)?;
+            for place in [first, second] {
+                bench.table.write(at(place), &[0; ENTRY]);
+            }
         }
     }
     Ok(())

@@ -1,12 +1,12 @@
 //! The comparison tried on models that are wrong: it has to find each.
 
 use model::bytes::Model;
-use model::flaw::{Flaw, MapFlaw};
+use model::flaw::{Flaw, MapFlaw, RecordFlaw};
 
 use crate::bench::Difference;
 use crate::lists::{self, Judges};
 use crate::tally::Tally;
-use crate::{exhaustive, lengths, packing, singles, Section};
+use crate::{edges, exhaustive, lengths, packing, singles, Section};
 
 /// The comparisons a wrong model goes through, as the library does, until one finds it.
 const SECTIONS: [Section; 5] =
@@ -17,7 +17,10 @@ const SECTIONS: [Section; 5] =
 pub struct Found {
     pub models: usize,
     pub by_map: usize,
+    pub by_edges: usize,
     pub maps: usize,
+    /// Those that the finite map, which knows no place, rightly lets pass.
+    pub left_to_table: usize,
     pub most_calls: u64,
 }
 
@@ -35,24 +38,67 @@ impl Found {
 
 pub fn run(factor: u32) -> Result<Found, Difference> {
     let mut found = Found::default();
-    for flaw in Flaw::ALL {
+    by_the_comparison(&mut found, factor)?;
+    by_the_map_alone(&mut found, factor)?;
+    at_page_edges(&mut found, factor)?;
+    of_the_map(&mut found, factor)?;
+    left_to_the_table(&mut found, factor)?;
+    Ok(found)
+}
+
+fn by_the_comparison(found: &mut Found, factor: u32) -> Result<(), Difference> {
+    let of_record =
+        [&RecordFlaw::IN_MAP[..], &RecordFlaw::IN_TABLE, &RecordFlaw::OF_PLACE].concat();
+    let of_record = of_record.into_iter().map(Flaw::Record);
+    let of_calls = Flaw::WITHIN_PAGE.into_iter().chain(Flaw::OPERANDS).chain(Flaw::ORDERS);
+    for flaw in of_calls.chain(of_record) {
         let model = Model::with(flaw);
         let outcome =
             SECTIONS.iter().try_fold(Tally::default(), |_, section| section(&model, factor));
         found.calls(outcome, &format!("{flaw:?} by the comparison"))?;
         found.models += 1;
     }
-    for flaw in Flaw::SHOWN_TO_THE_MAP {
+    Ok(())
+}
+
+fn by_the_map_alone(found: &mut Found, factor: u32) -> Result<(), Difference> {
+    let of_record = RecordFlaw::IN_MAP.into_iter().map(Flaw::Record);
+    for flaw in Flaw::AFTER_CLEAR.into_iter().chain(Flaw::OPERANDS).chain(of_record) {
         let model = Model::with(flaw);
         let outcome = lists::run_with(&model, factor, Judges::MapAlone, None);
         found.calls(outcome, &format!("{flaw:?} by the finite map"))?;
         found.by_map += 1;
     }
-    for flaw in MapFlaw::ALL {
+    Ok(())
+}
+
+fn at_page_edges(found: &mut Found, factor: u32) -> Result<(), Difference> {
+    let of_parts = RecordFlaw::OF_PARTS.into_iter().map(Flaw::Record);
+    for flaw in Flaw::OPERANDS.into_iter().chain(of_parts) {
+        let outcome = edges::run(&Model::with(flaw), factor);
+        found.calls(outcome, &format!("{flaw:?} at page edges"))?;
+        found.by_edges += 1;
+    }
+    Ok(())
+}
+
+fn of_the_map(found: &mut Found, factor: u32) -> Result<(), Difference> {
+    let of_record = RecordFlaw::IN_MAP.into_iter().map(MapFlaw::Record);
+    for flaw in MapFlaw::OF_PAGES.into_iter().chain(of_record) {
         let model = Model::default();
         let outcome = lists::run_with(&model, factor, Judges::MapAlone, Some(flaw));
         found.calls(outcome, &format!("{flaw:?} of the finite map"))?;
         found.maps += 1;
     }
-    Ok(found)
+    Ok(())
+}
+
+/// A wrong place passes the finite map, which has none to hold it to.
+fn left_to_the_table(found: &mut Found, factor: u32) -> Result<(), Difference> {
+    for flaw in RecordFlaw::OF_PLACE {
+        let model = Model::with(Flaw::Record(flaw));
+        lists::run_with(&model, factor, Judges::MapAlone, None)?;
+        found.left_to_table += 1;
+    }
+    Ok(())
 }

@@ -29,7 +29,9 @@ fn table_lengths() -> Vec<usize> {
 fn calls() -> Vec<Call> {
     let (sdr1, page) = (SDR1, PAGE);
     let elsewhere = Page { vsid: 1, ..PAGE };
-    let access = |mode, kind| Call::Access(Access { mode, kind, address: 0x00FF_A01B });
+    let operand =
+        |mode, kind, address, length| Call::Access(Access { mode, kind, address, length });
+    let access = |mode, kind| operand(mode, kind, 0x00FF_A01B, 1);
     let map = |page, pp| Call::Map { sdr1, page, rpn: 0x12345, wimg: 2, pp };
     let fields = |pp| Fields { v: 1, pp, ..Fields::default() };
     vec![
@@ -50,6 +52,11 @@ fn calls() -> Vec<Call> {
         access(0, 0),
         access(7, 0),
         access(8, 0),
+        operand(0, 1, 0x00FF_AFFF, 2),
+        operand(1, 2, 0x00FF_AFFF, 128),
+        operand(1, 1, 0x00FF_9FFF, 2),
+        operand(1, 1, 0x00FF_A01B, 0),
+        operand(7, 0, 0x00FF_AFFF, 129),
         Call::Pack(fields(3)),
         Call::Pack(fields(4)),
         Call::Unpack { first: 0x8638_0E03, second: 0x1234_5012 },
@@ -91,7 +98,7 @@ impl Stage<'_, '_> {
             }
         }
         if self.call.answer_length().is_some() {
-            for answer in 0..=answer + 12 {
+            for answer in 0..=answer + 16 {
                 self.one(REGISTER_PAGE, RIGHT, answer)?;
                 self.one(REGISTER_PAGE, 0, answer)?;
                 self.one(0, 0, answer)?;

@@ -4,7 +4,7 @@ use std::collections::BTreeMap;
 
 use model::call::{Access, Call, Page};
 use model::entry::Fields;
-use model::finite_map::{FiniteMap, Reply};
+use model::finite_map::FiniteMap;
 use model::flaw::MapFlaw;
 use model::words::word_at;
 
@@ -12,7 +12,7 @@ use crate::bench::{Before, Bench, Difference, Lending};
 use crate::machine::Machine;
 use crate::random::Random;
 use crate::region::Edge;
-use crate::scenes::{arguments, registers};
+use crate::scenes::{arguments, operands, registers};
 use crate::tally::Tally;
 
 /// Ones of the mask, how many lists, and how many calls in each.
@@ -40,18 +40,24 @@ pub fn run(subject: &dyn Machine, factor: u32) -> Result<Tally, Difference> {
             return Err(Difference::new(text));
         }
     }
-    Ok(tally)
+    let mut missing = tally.operands.missing_in_lists();
+    missing.extend(tally.decisions.missing());
+    match missing.first() {
+        None => Ok(tally),
+        Some(missing) => Err(Difference::new(format!("the lists were too short: {missing}"))),
+    }
 }
 
 /// Results that have to occur in the lists.
 #[rustfmt::skip]
-const MET: [(&str, u32); 29] = [
+const MET: [(&str, u32); 30] = [
     ("clear", 0), ("clear", 1), ("clear", 2),
     ("map", 0), ("map", 1), ("map", 2), ("map", 6), ("map", 7), ("map", 9),
     ("unmap", 0), ("unmap", 1), ("unmap", 6), ("unmap", 8), ("unmap", 11),
     ("protect", 0), ("protect", 1), ("protect", 6), ("protect", 8),
     ("look", 0), ("look", 1), ("look", 6), ("look", 8), ("look", 11),
     ("access", 0), ("access", 64), ("access", 65), ("access", 1), ("access", 6), ("access", 11),
+    ("access", 12),
 ];
 
 pub fn run_with(
@@ -73,6 +79,7 @@ pub fn run_with(
             ones,
             sdr1: 0,
             pages: Vec::new(),
+            neighbours: Vec::new(),
         };
         for _ in 0..lists * factor {
             stage.one_list(calls)?;
@@ -91,6 +98,8 @@ struct Stage<'a> {
     sdr1: u32,
     /// The few pages that the list is about.
     pages: Vec<Page>,
+    /// Those of them that an operand can lie in two of.
+    neighbours: Vec<Page>,
 }
 
 impl Stage<'_> {
@@ -105,8 +114,11 @@ impl Stage<'_> {
             let quarter = number * 4 / calls;
             let filling = matches!(quarter, 0 | 2);
             let page = self.choose_page();
-            let call = self.call(page, filling);
-            self.prepare(&call, page);
+            let mut call = self.call(page, filling);
+            match &mut call {
+                Call::Access(access) => self.choose_operand(access, page),
+                _ => self.bench.lend_answer(&call),
+            }
             match self.random.once_in(8) {
                 true => self.refused_call(call)?,
                 false => self.perform(call, Lending::Table)?,
@@ -130,12 +142,34 @@ impl Stage<'_> {
                 self.pages.push(page_of_group(random, vsid, group, n));
             }
         }
+        self.choose_neighbours(&vsids);
         self.pages.sort();
         self.pages.dedup();
     }
 
-    /// One of the pages, more often one that is not mapped.
+    /// Pages that an operand can lie in together: of any groups, at a block's end, of the same two
+    /// groups, of two segments.
+    fn choose_neighbours(&mut self, vsids: &[u32]) {
+        let random = &mut self.random;
+        let mut pages: Vec<Page> = (0..3).map(|_| random.pick(&self.pages)).collect();
+        let half_of_groups = (1 << (9 + self.ones)) - 1;
+        for page_index in [random.word() & 0x7FE0 | 0x1F, half_of_groups & 0x7FFF] {
+            pages.push(Page { vsid: random.pick(vsids), page_index });
+        }
+        pages.extend(pages.clone().into_iter().map(operands::following));
+        let vsid = random.pick(vsids);
+        pages.push(Page { vsid, page_index: 0xFFFF });
+        let in_next = [vsid, vsid ^ 0xFFFF, random.pick(vsids)];
+        pages.extend(in_next.map(|vsid| Page { vsid, page_index: 0 }));
+        self.pages.extend(&pages);
+        self.neighbours = pages;
+    }
+
+    /// One of the pages, more often a neighbour of another, or one that is not mapped.
     fn choose_page(&mut self) -> Page {
+        if self.random.once_in(3) {
+            return self.random.pick(&self.neighbours);
+        }
         let page = self.random.pick(&self.pages);
         match self.map.pages().contains_key(&page) {
             true => self.random.pick(&self.pages),
@@ -143,7 +177,7 @@ impl Stage<'_> {
         }
     }
 
-    /// A call that no rule on numbers, registers or lengths refuses.
+    /// A call that no rule on numbers, registers or lengths refuses; an access has no operand yet.
     fn call(&mut self, page: Page, filling: bool) -> Call {
         let random = &mut self.random;
         let sdr1 = self.sdr1;
@@ -156,7 +190,8 @@ impl Stage<'_> {
             9..=20 => Call::Access(Access {
                 mode: random.pick(&[1, 2, 3, 3, 5, 6, 7, 7, 0, 4]),
                 kind: random.below(3),
-                address: random.word() & 0xF000_0FFF | page.page_index << 12,
+                address: 0,
+                length: 1,
             }),
             21 if random.once_in(10) => Call::Clear { sdr1 },
             21..=23 => Call::Unmap { sdr1, page },
@@ -171,15 +206,36 @@ impl Stage<'_> {
         }
     }
 
-    /// Lends an answer and, with the page's VSID in the segment of the address, the registers.
-    fn prepare(&mut self, call: &Call, page: Page) {
-        self.bench.lend_answer(call);
-        let Call::Access(access) = call else { return };
-        let mut words = registers::well_formed(&mut self.random, self.sdr1);
-        let segment = &mut words[1 + (access.address >> 28) as usize];
-        *segment = *segment & 0xFF00_0000 | page.vsid;
-        if self.random.below(4) > 0 {
+    /// An operand in the page, or in one of two mapped neighbours, with answer and registers for it.
+    fn choose_operand(&mut self, access: &mut Access, page: Page) {
+        let mapped = self.map.pages();
+        let before_mapped = |page: &&Page| {
+            page.page_index == 0xFFFF || mapped.contains_key(&operands::following(**page))
+        };
+        let firsts: Vec<Page> = mapped.keys().filter(before_mapped).copied().collect();
+        let page = match firsts.is_empty() || self.random.once_in(3) {
+            true => page,
+            false => self.random.pick(&firsts),
+        };
+        (access.address, access.length) = operands::in_page(&mut self.random, page);
+        self.bench.lend_answer(&Call::Access(*access));
+        self.put_registers(access, page.vsid);
+    }
+
+    /// Registers with the VSID in the segment of the address, and one of the list's in the next.
+    fn put_registers(&mut self, access: &Access, vsid: u32) {
+        let random = &mut self.random;
+        let mut words = registers::well_formed(random, self.sdr1);
+        let segment = (access.address >> 28) as usize;
+        let in_next = self.neighbours.iter().filter(|page| page.page_index == 0);
+        let in_next: Vec<u32> = in_next.map(|page| page.vsid).collect();
+        put_vsid(&mut words, (segment + 1) % 16, random.pick(&in_next));
+        put_vsid(&mut words, segment, vsid);
+        if random.below(4) > 0 {
             words[17..].fill(0);
+        }
+        if random.once_in(4) {
+            operands::cover_parts(random, &mut words, access);
         }
         self.bench.put_registers(&words);
     }
@@ -187,9 +243,13 @@ impl Stage<'_> {
     /// The call spoiled in a way that is open to it: a refusal leaves the table as it was.
     fn refused_call(&mut self, call: Call) -> Result<(), Difference> {
         let random = &mut self.random;
-        match random.below(5) {
+        match random.below(6) {
             0 => {
                 let call = arguments::spoiled(random, call);
+                self.perform(call, Lending::Table)
+            }
+            5 => {
+                let call = arguments::with_spoiled_length(random, call);
                 self.perform(call, Lending::Table)
             }
             1 => {
@@ -218,7 +278,7 @@ impl Stage<'_> {
     fn refused_by_length(&mut self, call: Call) -> Result<(), Difference> {
         let random = &mut self.random;
         let sdr1 = random.word();
-        let length = random.pick(&[0, 4, 8, 12, 15, 17, 20, 32]);
+        let length = random.pick(&[0, 4, 8, 12, 15, 17, 20, 32, 47, 49, 64]);
         let lending = random.pick(&[Lending::Table, Lending::Other]);
         let no_registers = random.once_in(2);
         self.lend_other();
@@ -261,15 +321,14 @@ impl Stage<'_> {
         };
         let answer = self.bench.answer.subject_bytes();
         let written = call.answer_length() == Some(answer.len()) && number != 11;
-        let got = Reply {
-            number,
-            answer: written.then(|| std::array::from_fn(|word| word_at(answer, 4 * word))),
-        };
+        let words: Vec<u32> = answer.chunks_exact(4).map(|word| word_at(word, 0)).collect();
+        let words = written.then_some(&words[..]);
         let expected = self.map.perform(&call, &registers, lengths);
-        if got == expected {
+        if expected.allows(number, words) {
             return Ok(());
         }
-        let text = format!("the finite map\n  expected {expected:x?}\n  got      {got:x?}");
+        let got = format!("{number} {words:x?}");
+        let text = format!("the finite map\n  expected {expected:x?}\n  got      {got}");
         let before = Before { registers, places: Vec::new() };
         Err(self.bench.difference(&call, lending, &before, &text))
     }
@@ -286,6 +345,11 @@ impl Stage<'_> {
         let calls = self.bench.tally.calls;
         Err(Difference { text, calls })
     }
+}
+
+fn put_vsid(words: &mut registers::Words, segment: usize, vsid: u32) {
+    let word = &mut words[1 + segment];
+    *word = *word & 0xFF00_0000 | vsid;
 }
 
 /// A page whose hash ends in the given group number: the VSID's bits past a page index follow it.

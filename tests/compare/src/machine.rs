@@ -36,7 +36,7 @@ fn call_library(library: Mmu, call: &Call, lent: Lent) -> u32 {
         Call::Protect { sdr1, page, pp } => library.protect(sdr1, numbers(page), pp, table),
         Call::Look { sdr1, page } => library.look(sdr1, numbers(page), table, answer),
         Call::Access(access) => {
-            let numbers = [access.mode, access.kind, access.address];
+            let numbers = [access.mode, access.kind, access.address, access.length];
             library.access(registers, numbers, table, answer)
         }
         Call::Pack(fields) => library.pack(fields.list(), answer),

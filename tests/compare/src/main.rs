@@ -5,12 +5,15 @@
 mod arrangements;
 mod bench;
 mod cases;
+mod decisions;
+mod edges;
 mod exhaustive;
 mod flaws;
 mod guarded;
 mod lengths;
 mod lists;
 mod machine;
+mod operands;
 mod packing;
 mod random;
 mod region;
@@ -34,10 +37,11 @@ use tally::Tally;
 /// A comparison of some machine with the model, its random part so many times as long.
 type Section = fn(&dyn Machine, u32) -> Result<Tally, Difference>;
 
-const SECTIONS: [(&str, Empty, Section); 7] = [
+const SECTIONS: [(&str, Empty, Section); 8] = [
     ("recorded accesses", Empty::Null, vectors::run),
     ("packing", Empty::Null, packing::run),
     ("complete tables", Empty::Null, exhaustive::run),
+    ("operands at page edges", Empty::Null, edges::run),
     ("lengths, empty as NULL", Empty::Null, lengths::run),
     ("lengths, empty as lent", Empty::AsLent, lengths::run),
     ("single calls", Empty::Null, singles::run),
@@ -95,9 +99,14 @@ fn test_the_tests(factor: u32) -> Result<(), Difference> {
     println!("arrangements: {with} exist, {without} do not, as by trying all");
     let found = flaws::run(factor)?;
     println!(
-        "wrong models found: {}, {} of them by the finite map alone; wrong maps found: {}; \
-         none took more than {} calls",
-        found.models, found.by_map, found.maps, found.most_calls
+        "wrong models found: {}, {} of them by the finite map alone, {} at page edges alone; \
+         wrong maps found: {}; none took more than {} calls; {} wrong models only the table shows",
+        found.models,
+        found.by_map,
+        found.by_edges,
+        found.maps,
+        found.most_calls,
+        found.left_to_table
     );
     Ok(())
 }
@@ -127,4 +136,7 @@ fn print_results(total: &Tally) {
     let counts: Vec<_> =
         refusals.iter().map(|(number, count)| format!("{number}: {count}")).collect();
     println!("  {:<8} {}", "all", counts.join("  "));
+    let rules = total.decisions.by_rule();
+    let counts: Vec<_> = rules.iter().map(|(rule, count)| format!("{rule}: {count}")).collect();
+    println!("accesses by the rule shown: {}", counts.join("  "));
 }

@@ -1,13 +1,14 @@
 //! Single calls on garbage registers and tables.
 
 use model::call::{Access, Call, Page};
+use model::registers::Side;
 
 use crate::bench::{Bench, Difference, Lending};
 use crate::machine::Machine;
 use crate::random::Random;
 use crate::region::Edge;
 use crate::scenes::registers::Words;
-use crate::scenes::{arguments, groups, registers};
+use crate::scenes::{arguments, groups, operands, registers};
 use crate::tally::Tally;
 
 /// How many calls are made under a mask of so many ones.
@@ -44,6 +45,7 @@ pub fn run(subject: &dyn Machine, factor: u32) -> Result<Tally, Difference> {
 enum Defect {
     LentLength,
     Argument,
+    OperandLength,
     Sdr1,
     BlockShape,
     SharedBlocks,
@@ -63,9 +65,10 @@ impl Defect {
     }
 }
 
-const DEFECTS: [Defect; 7] = [
+const DEFECTS: [Defect; 8] = [
     Defect::LentLength,
     Defect::Argument,
+    Defect::OperandLength,
     Defect::Sdr1,
     Defect::BlockShape,
     Defect::SharedBlocks,
@@ -102,6 +105,9 @@ impl Stage<'_> {
         self.plant(&call, &words, lending);
         if defects.contains(&Defect::Argument) {
             call = arguments::spoiled(&mut self.random, call);
+        }
+        if defects.contains(&Defect::OperandLength) {
+            call = arguments::with_spoiled_length(&mut self.random, call);
         }
         self.bench.lend_answer(&call);
         if defects.contains(&Defect::LentLength) {
@@ -143,8 +149,10 @@ impl Stage<'_> {
     fn registers(&mut self, sdr1: u32, defects: &[Defect]) -> Words {
         let random = &mut self.random;
         let mut words = registers::well_formed(random, sdr1);
-        if random.once_in(8) {
-            registers::overlay(random, &mut words);
+        match random.below(16) {
+            0..=1 => registers::overlay(random, &mut words),
+            2..=3 => registers::adjoin(random, &mut words),
+            _ => {}
         }
         for defect in defects {
             defect.spoil(random, &mut words);
@@ -173,11 +181,12 @@ impl Stage<'_> {
                 Call::Protect { sdr1, page, pp }
             }
             22..=25 => Call::Look { sdr1, page },
-            26..=37 => Call::Access(Access {
-                mode: random.pick(&[0, 1, 2, 3, 3, 4, 5, 6, 7, 7]),
-                kind: random.below(3),
-                address: registers::address(random, words),
-            }),
+            26..=37 => {
+                let mode = random.pick(&[0, 1, 2, 3, 3, 4, 5, 6, 7, 7]);
+                let kind = random.below(3);
+                let (address, length) = operands::anywhere(random, words, Side::of_kind(kind));
+                Call::Access(Access { mode, kind, address, length })
+            }
             38 => Call::Pack(arguments::fields(random)),
             _ => Call::Unpack { first: random.word(), second: random.word() },
         }
@@ -211,32 +220,38 @@ impl Stage<'_> {
         Call::SetRegister { number, word }
     }
 
-    /// Puts entries around the page that the call is about, wherever the lent slice has its groups.
+    /// Puts entries around the pages that the call is about, wherever the lent slice has their groups.
     fn plant(&mut self, call: &Call, words: &Words, lending: Lending) {
-        let page = match *call {
+        let pages = match *call {
             Call::Access(access) => {
-                let segment = words[1 + (access.address >> 28) as usize];
-                Page::of_address(segment & 0xFF_FFFF, access.address)
+                let last = access.address.wrapping_add(access.length - 1);
+                vec![page_by_segment(words, access.address), page_by_segment(words, last)]
             }
-            _ => match call.page() {
-                None => return,
-                Some(page) => page,
-            },
+            _ => call.page().into_iter().collect(),
         };
         let mask = (1 << self.ones) - 1;
         let matches: &[u32] = match call {
             Call::Map { .. } => &groups::FEW_MATCHES,
             _ => &groups::MATCHES,
         };
-        let table = self.bench.region(lending);
-        if table.length() >= 65_536 << self.ones {
-            groups::plant(&mut self.random, table, mask, page, matches);
+        let (random, table) = (&mut self.random, self.bench.region(lending));
+        if table.length() < 65_536 << self.ones {
+            return;
+        }
+        if let Some(&page) = pages.first() {
+            groups::plant(random, table, mask, page, matches);
+        }
+        match pages[..] {
+            [page, next] if page != next => {
+                groups::plant_next(random, table, mask, [page, next], matches)
+            }
+            _ => {}
         }
     }
 
     fn spoil_lent_length(&mut self, call: &Call) {
         let random = &mut self.random;
-        let length = random.index(40);
+        let length = random.index(72);
         if call.is_lent_registers() && (call.answer_length().is_none() || random.once_in(3)) {
             let length = random.pick(&[0, 3, 4, 128, 131, 133, 136, length]);
             self.bench.registers.lend(length, Edge::End);
@@ -244,4 +259,9 @@ impl Stage<'_> {
             self.bench.answer.lend(length, Edge::End);
         }
     }
+}
+
+/// The page of an address by the VSID of its segment register.
+fn page_by_segment(words: &Words, address: u32) -> Page {
+    Page::of_address(words[1 + (address >> 28) as usize] & 0xFF_FFFF, address)
 }

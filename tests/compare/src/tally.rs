@@ -4,9 +4,13 @@ use std::collections::BTreeMap;
 
 use model::bytes::Model;
 use model::call::{Call, Lengths, Page, FETCH, LOAD, STORE};
+use model::operand::{parts, LONGEST};
 use model::registers::{sdr1_is_well_formed, table_length, Registers};
 use model::search::{contradict, first_free, matches, Place};
-use model::translation::{before_search, BeforeSearch, Outcome};
+use model::translation::{before_search, BeforeSearch};
+
+use crate::decisions::Decisions;
+use crate::operands::Operands;
 
 /// Counts of calls by what they met.
 #[derive(Default)]
@@ -20,6 +24,8 @@ pub struct Tally {
     outcomes: BTreeMap<(&'static str, u32), u64>,
     /// By call and the matches of its page.
     situations: BTreeMap<(&'static str, &'static str), u64>,
+    pub operands: Operands,
+    pub decisions: Decisions,
 }
 
 impl Tally {
@@ -37,6 +43,7 @@ impl Tally {
         for (&key, count) in &other.numbers {
             *self.numbers.entry(key).or_default() += count;
         }
+        self.decisions.add(&other.decisions);
     }
 
     /// Notes the state a call comes upon.
@@ -50,7 +57,7 @@ impl Tally {
     ) {
         let mut broken = model.broken(call, registers, lengths);
         let refused = !broken.is_empty();
-        if broken.iter().all(|number| [11, 6, 5, 1].contains(number)) {
+        if broken.iter().all(|number| [11, 6, 12, 5, 1].contains(number)) {
             broken.extend(self.note_search(call, registers, table));
         }
         if let Some((&first, later)) = broken.split_first() {
@@ -60,9 +67,12 @@ impl Tally {
         }
         if let (Call::Access(access), false) = (*call, refused) {
             let set = Registers::read(registers).expect("the length was tested");
-            let (outcome, _) = model.outcome(&set, access, table);
-            let key = (outcome_name(outcome), access.kind);
-            *self.outcomes.entry(key).or_default() += 1;
+            let ends = model.ends(&set, access, table);
+            for end in &ends {
+                *self.outcomes.entry((end.outcome.name(), access.kind)).or_default() += 1;
+            }
+            self.operands.note(&ends);
+            self.decisions.note(&set, &ends);
         }
     }
 
@@ -113,12 +123,25 @@ impl Tally {
                 }
             }
         }
+        missing.extend(self.operands.missing());
+        missing.extend(self.decisions.missing());
         missing
     }
 }
 
-/// SDR1 and the page a call searches for, where a search in a slice of this length is possible.
-pub fn page_of(call: &Call, registers: &[u8], table: usize) -> Option<(u32, Page)> {
+/// SDR1 and each page that a call searches for, part by part where it is an access.
+pub fn pages_of(call: &Call, registers: &[u8], table: usize) -> Vec<(u32, Page)> {
+    let calls = match (*call, Registers::read(registers)) {
+        (Call::Access(access), Some(set)) if (1..=LONGEST).contains(&access.length) => {
+            parts(None, &set, access).into_iter().map(Call::Access).collect()
+        }
+        _ => vec![*call],
+    };
+    calls.iter().filter_map(|call| page_of(call, registers, table)).collect()
+}
+
+/// SDR1 and the page a call searches for first, where a search in a slice of this length is possible.
+fn page_of(call: &Call, registers: &[u8], table: usize) -> Option<(u32, Page)> {
     let (sdr1, page) = match *call {
         Call::Access(access) => {
             let set = Registers::read(registers)?;
@@ -151,20 +174,6 @@ fn situation(met: &[Place]) -> &'static str {
     }
 }
 
-fn outcome_name(outcome: Outcome) -> &'static str {
-    match outcome {
-        Outcome::RealMode => "real mode",
-        Outcome::Block { .. } => "a block",
-        Outcome::BlockProtection => "block protection",
-        Outcome::NoExecute => "no execute",
-        Outcome::NoMatch => "no match",
-        Outcome::Guarded => "guarded",
-        Outcome::Protection => "protection",
-        Outcome::Page { .. } => "a page",
-        Outcome::Contradiction => "contradiction",
-    }
-}
-
 /// Every result number a call can give.
 const NUMBERS: [(&str, &[u32]); 10] = [
     ("check", &[0, 11, 2, 3, 4, 5]),
@@ -174,7 +183,7 @@ const NUMBERS: [(&str, &[u32]); 10] = [
     ("unmap", &[0, 11, 6, 2, 1, 8]),
     ("protect", &[0, 6, 2, 1, 8]),
     ("look", &[0, 11, 6, 2, 1, 8, 10]),
-    ("access", &[0, 64, 65, 11, 6, 2, 3, 4, 5, 1, 10]),
+    ("access", &[0, 64, 65, 11, 6, 12, 2, 3, 4, 5, 1, 10]),
     ("pack", &[0, 11, 6]),
     ("unpack", &[0, 11]),
 ];
@@ -195,8 +204,9 @@ const ORDERS: [(&str, &[(u32, u32)]); 9] = [
         (11, 6), (11, 2), (11, 1), (11, 8), (11, 10), (6, 2), (6, 1), (2, 1), (1, 8), (1, 10),
     ]),
     ("access", &[
-        (11, 6), (11, 2), (11, 3), (11, 4), (11, 5), (11, 1), (11, 10),
-        (6, 2), (6, 3), (6, 4), (6, 5), (6, 1),
+        (11, 6), (11, 12), (11, 2), (11, 3), (11, 4), (11, 5), (11, 1), (11, 10),
+        (6, 12), (6, 2), (6, 3), (6, 4), (6, 5), (6, 1),
+        (12, 2), (12, 3), (12, 4), (12, 5), (12, 1), (12, 10),
         (2, 3), (2, 4), (2, 5), (2, 1), (3, 4), (3, 5), (3, 1), (4, 5), (4, 1), (5, 1),
         (5, 10), (1, 10),
     ]),

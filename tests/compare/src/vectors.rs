@@ -72,7 +72,7 @@ fn fits(vector: &Vector) -> bool {
     let lengths = model::call::Lengths {
         registers: vector.registers.len(),
         table: table_length(vector.sdr1()),
-        answer: 16,
+        answer: call.answer_length().unwrap_or(0),
     };
     Model::default().broken(&call, &vector.registers, lengths).is_empty()
 }
@@ -84,8 +84,8 @@ fn parse(file: &'static str, line: &str) -> Vector {
     let decimal = |text: &str| text.parse::<u32>().expect("decimal");
     let id = next().to_string();
     let registers = bytes(next());
-    let access =
-        Access { mode: decimal(next()), kind: decimal(next()), address: hexadecimal(next()) };
+    let (mode, kind, address) = (decimal(next()), decimal(next()), hexadecimal(next()));
+    let access = Access { mode, kind, address, length: 1 };
     let mut entries = Vec::new();
     for _ in 0..decimal(next()) {
         let (group, entry) = (decimal(next()), decimal(next()));

@@ -54,6 +54,7 @@ mod c {
             mode: u32,
             kind: u32,
             address: u32,
+            length: u32,
             table: *mut u8,
             table_len: usize,
             answer: *mut u8,
@@ -144,15 +145,15 @@ impl Mmu {
         unsafe { c::mmu_look(sdr1, vsid, page_index, start, length, answer_start, answer_length) }
     }
 
-    /// `access` is mode, kind and effective address.
+    /// `access` is mode, kind, effective address and length.
     pub fn access(
         self,
         registers: &[u8],
-        access: [u32; 3],
+        access: [u32; 4],
         table: &mut [u8],
         answer: &mut [u8],
     ) -> u32 {
-        let [mode, kind, address] = access;
+        let [mode, kind, address, length] = access;
         let (start, answer_start) = (self.start_mut(table), self.start_mut(answer));
         unsafe {
             c::mmu_access(
@@ -161,6 +162,7 @@ impl Mmu {
                 mode,
                 kind,
                 address,
+                length,
                 start,
                 table.len(),
                 answer_start,

@@ -2,12 +2,17 @@
 
 use crate::call::{Access, Call, Lengths, Lent, Page};
 use crate::entry::{Fields, CHANGED, IGNORED_BITS, REFERENCED};
-use crate::flaw::Flaw;
+use crate::flaw::{Flaw, RecordFlaw};
+use crate::operand;
+use crate::record;
 use crate::registers::{put_register, Registers};
 use crate::rules;
-use crate::search::{self, Place};
+use crate::search::{self, Place, GROUP};
 use crate::translation::{self, BeforeSearch, Outcome};
-use crate::words::{put_word, put_words};
+use crate::words::{put_word, put_words, word_at};
+
+/// Where the record of the rule that decided begins in the answer of an access.
+const RECORD: usize = 32;
 
 /// The model, with the mistake it is to make if any.
 #[derive(Clone, Copy, Debug, Default)]
@@ -76,7 +81,11 @@ impl Model {
             put_word(answer, 0, number);
             return number;
         }
-        answer.fill(0);
+        let record = match call {
+            Call::Access(_) if self.has(Flaw::Record(RecordFlaw::LeftAtRefusal)) => RECORD,
+            _ => answer.len(),
+        };
+        answer[..record].fill(0);
         if !matches!(call, Call::Pack(_)) {
             put_word(answer, 0, number);
         }
@@ -87,7 +96,7 @@ impl Model {
         let free = search::first_free(sdr1, page, table);
         let mut matches = search::matches(self.flaw, sdr1, page, table);
         if let (true, Some(free)) = (self.has(Flaw::MatchUpToFree), free) {
-            matches.retain(|place| (place.h, place.at) < (free.h, free.at));
+            matches.retain(|place| (place.h, place.entry) < (free.h, free.entry));
         }
         if free.is_none() && self.has(Flaw::FullBeforeMatch) {
             return 9;
@@ -103,7 +112,7 @@ impl Model {
             return 0;
         }
         let entry = Fields { v: 1, vsid: page.vsid, h: free.h, api: page.api(), ..frame };
-        put_words(&mut table[free.at..], &entry.words());
+        put_words(&mut table[free.at()..], &entry.words());
         0
     }
 
@@ -116,7 +125,7 @@ impl Model {
         for place in &matches {
             marks |= place.second & (REFERENCED | CHANGED);
             if place.h == 0 || !self.has(Flaw::UnmapPrimaryOnly) {
-                table[place.at..place.at + search::ENTRY].fill(0);
+                table[place.at()..place.at() + search::ENTRY].fill(0);
             }
         }
         if self.has(Flaw::UnmapFirstMarks) {
@@ -139,7 +148,7 @@ impl Model {
             if self.has(Flaw::ProtectIgnoredBits) {
                 second &= !IGNORED_BITS;
             }
-            put_word(table, place.at + 4, second);
+            put_word(table, place.at() + 4, second);
         }
         0
     }
@@ -167,25 +176,54 @@ impl Model {
 
     fn access(&self, lent: Lent, access: Access) -> u32 {
         let registers = Registers::read(lent.registers).expect("the length was tested");
-        let (outcome, matches) = self.outcome(&registers, access, lent.table);
-        let marked = if self.has(Flaw::MarksEveryMatch) { 16 } else { 1 };
-        for place in matches.iter().take(marked) {
-            self.mark(outcome, access, place, lent.table);
+        let ends = self.ends(&registers, access, lent.table);
+        let told: Vec<_> = ends.iter().map(|end| (end.part, end.outcome)).collect();
+        let words = operand::answer(self.flaw, access, &told);
+        let record = self.record(&registers, &ends, lent.table);
+        let lent_groups = self.has(Flaw::MarkWritesGroup).then(|| lent.table.to_vec());
+        for (number, end) in ends.iter().enumerate() {
+            if let (Some(before), Some(place)) = (&lent_groups, end.matches.first()) {
+                let group = GROUP * place.group;
+                lent.table[group..group + GROUP].copy_from_slice(&before[group..group + GROUP]);
+            }
+            self.mark_part(&ends, number, lent.table);
         }
-        let words = translation::answer(self.flaw, outcome, access);
         put_words(lent.answer, &words);
+        if words[0] != 10 || !self.has(Flaw::Record(RecordFlaw::LeftAtRefusal)) {
+            put_words(&mut lent.answer[RECORD..], &record);
+        }
         words[0]
     }
 
-    /// How an access under well-formed registers ends, and the matches it met.
-    pub fn outcome(
-        &self,
-        registers: &Registers,
-        access: Access,
-        table: &[u8],
-    ) -> (Outcome, Vec<Place>) {
-        let (page, segment) = match translation::before_search(self.flaw, registers, access) {
-            BeforeSearch::Settled(outcome) => return (outcome, Vec::new()),
+    /// The record of the part that is shown, by the table as it is lent; zeros after a refusal.
+    fn record(&self, registers: &Registers, ends: &[End], table: &[u8]) -> [u32; 4] {
+        let flaw = RecordFlaw::of_model(self.flaw);
+        let outcomes: Vec<Outcome> = ends.iter().map(|end| end.outcome).collect();
+        let Some(speaking) = record::speaking(flaw, &outcomes) else { return [0; 4] };
+        let End { part, outcome, ref matches } = ends[speaking];
+        let [rule, mut detail] = record::rule_and_detail(flaw, registers, part, outcome);
+        if let (Some(RecordFlaw::PpOfNextEntry), 5 | 6) = (flaw, rule) {
+            let next = Place { entry: (matches[0].entry + 1) % 8, ..matches[0] };
+            detail = detail & !0b11 | word_at(table, next.at() + 4) & 0b11;
+        }
+        let [group, entry] = record::place(flaw, registers, part, outcome, matches);
+        [rule, detail, group, entry]
+    }
+
+    /// What each part of an operand comes to under well-formed registers, on the table as it is lent.
+    pub fn ends(&self, registers: &Registers, access: Access, table: &[u8]) -> Vec<End> {
+        let parts = operand::parts(self.flaw, registers, access);
+        let by_first = self.has(Flaw::SecondBySegmentOfFirst);
+        let of_part = |part: Access| match by_first {
+            true => registers.with_segment_of(access.address, part.address),
+            false => *registers,
+        };
+        parts.into_iter().map(|part| self.end(&of_part(part), part, table)).collect()
+    }
+
+    fn end(&self, registers: &Registers, part: Access, table: &[u8]) -> End {
+        let (page, segment) = match translation::before_search(self.flaw, registers, part) {
+            BeforeSearch::Settled(outcome) => return End { part, outcome, matches: Vec::new() },
             BeforeSearch::Search { page, segment } => (page, segment),
         };
         let mut matches = search::matches(self.flaw, registers.sdr1(), page, table);
@@ -195,25 +233,53 @@ impl Model {
         let outcome = match matches.first() {
             None => Outcome::NoMatch,
             Some(_) if search::contradict(self.flaw, &matches) => Outcome::Contradiction,
-            Some(first) => translation::after_match(self.flaw, segment, first.second, access),
+            Some(first) => translation::after_match(self.flaw, segment, first.second, part),
         };
-        (outcome, matches)
+        End { part, outcome, matches }
+    }
+
+    /// Marks the match that did a part, where every part is done.
+    fn mark_part(&self, ends: &[End], number: usize, table: &mut [u8]) {
+        let left_out = match number {
+            0 => self.has(Flaw::SecondMarkedOnly) && ends.len() == 2,
+            _ => self.has(Flaw::FirstMarkedOnly),
+        };
+        if left_out {
+            return;
+        }
+        let waited_for = match self.has(Flaw::FirstMarkedEarly) {
+            true => &ends[..=number],
+            false => ends,
+        };
+        let done = waited_for.iter().all(|end| end.outcome.is_done());
+        let changed_here = number == 0 || !self.has(Flaw::ChangedInFirstOnly);
+        let marked = if self.has(Flaw::MarksEveryMatch) { 16 } else { 1 };
+        for place in ends[number].matches.iter().take(marked) {
+            self.mark(done, changed_here, &ends[number], place, table);
+        }
     }
 
     /// R is set by a done access, and C too by a store.
-    fn mark(&self, outcome: Outcome, access: Access, place: &Place, table: &mut [u8]) {
-        let done = matches!(outcome, Outcome::Page { .. });
-        let stopped = outcome == Outcome::Protection;
+    fn mark(&self, done: bool, changed_here: bool, end: &End, place: &Place, table: &mut [u8]) {
+        let stopped = matches!(end.outcome, Outcome::Protection { .. });
         let mut second = place.second;
         if done || stopped && self.has(Flaw::ReferencedByFault) {
             second |= REFERENCED;
         }
-        if access.is_store() && (done || stopped && self.has(Flaw::ChangedByFault)) {
+        let changes = end.part.is_store() && changed_here;
+        if changes && (done || stopped && self.has(Flaw::ChangedByFault)) {
             second |= CHANGED;
         }
         if done && self.has(Flaw::MarkIgnoredBits) {
             second &= !IGNORED_BITS;
         }
-        put_word(table, place.at + 4, second);
+        put_word(table, place.at() + 4, second);
     }
+}
+
+/// What a part of an operand comes to, and the matches it met.
+pub struct End {
+    pub part: Access,
+    pub outcome: Outcome,
+    pub matches: Vec<Place>,
 }

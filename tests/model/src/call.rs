@@ -31,7 +31,10 @@ impl Page {
 pub struct Access {
     pub mode: u32,
     pub kind: u32,
+    /// The effective address of the operand's first byte.
     pub address: u32,
+    /// The operand's bytes.
+    pub length: u32,
 }
 
 pub const FETCH: u32 = 0;
@@ -126,7 +129,8 @@ impl Call {
     /// The length an answer has to have; pack's entry and unpack's fields are answers too.
     pub fn answer_length(&self) -> Option<usize> {
         match self {
-            Call::Unmap { .. } | Call::Look { .. } | Call::Access(_) => Some(16),
+            Call::Unmap { .. } | Call::Look { .. } => Some(16),
+            Call::Access(_) => Some(48),
             Call::Pack(_) => Some(8),
             Call::Unpack { .. } => Some(36),
             _ => None,

@@ -5,7 +5,9 @@ use std::collections::BTreeMap;
 use crate::arrangement;
 use crate::call::{Access, Call, Lengths, Page};
 use crate::entry::Fields;
-use crate::flaw::MapFlaw;
+use crate::flaw::{MapFlaw, RecordFlaw};
+use crate::operand;
+use crate::record;
 use crate::registers::Registers;
 use crate::rules;
 use crate::translation::{self, BeforeSearch, Outcome};
@@ -13,11 +15,28 @@ use crate::translation::{self, BeforeSearch, Outcome};
 /// What a page is mapped to; V, VSID, H and API are left zero here.
 type Frame = Fields;
 
-/// A call's number and, where it has an answer that is written, the answer's words.
-#[derive(Clone, Copy, Debug, PartialEq, Eq)]
+/// A call's number and, where it has an answer that is written, the answer's words; a word that
+/// follows from the table alone is none.
+#[derive(Clone, Debug, PartialEq, Eq)]
 pub struct Reply {
     pub number: u32,
-    pub answer: Option<[u32; 4]>,
+    pub answer: Option<Vec<Option<u32>>>,
+}
+
+impl Reply {
+    /// Whether a call's number and the words of its answer are these.
+    pub fn allows(&self, number: u32, answer: Option<&[u32]>) -> bool {
+        let same = |stated: &[Option<u32>], words: &[u32]| {
+            let mut pairs = stated.iter().zip(words);
+            stated.len() == words.len()
+                && pairs.all(|(one, word)| one.is_none_or(|one| one == *word))
+        };
+        self.number == number
+            && match (&self.answer, answer) {
+                (Some(stated), Some(words)) => same(stated, words),
+                (stated, words) => stated.is_none() && words.is_none(),
+            }
+    }
 }
 
 #[derive(Clone, Debug, Default)]
@@ -39,7 +58,7 @@ impl FiniteMap {
     /// One call on a table: clear, map, unmap, protect, look or access.
     pub fn perform(&mut self, call: &Call, registers: &[u8], lengths: Lengths) -> Reply {
         if let Some(&number) = rules::broken(None, call, registers, lengths).first() {
-            return refusal(call, number);
+            return self.refusal(call, number);
         }
         match *call {
             Call::Clear { .. } => {
@@ -52,14 +71,14 @@ impl FiniteMap {
             }
             Call::Unmap { page, .. } => self.unmap(call, page),
             Call::Protect { page, pp, .. } => match self.pages.get_mut(&page) {
-                None => refusal(call, 8),
+                None => self.refusal(call, 8),
                 Some(frame) => {
                     frame.pp = pp;
                     done(None)
                 }
             },
             Call::Look { page, .. } => match self.pages.get(&page) {
-                None => refusal(call, 8),
+                None => self.refusal(call, 8),
                 Some(frame) => done(Some(second_word(frame))),
             },
             Call::Access(access) => self.access(registers, access),
@@ -69,7 +88,7 @@ impl FiniteMap {
 
     fn map(&mut self, call: &Call, sdr1: u32, page: Page, frame: Frame) -> Reply {
         if self.pages.contains_key(&page) {
-            return refusal(call, 7);
+            return self.refusal(call, 7);
         }
         let with_the_new_one = self.pages.keys().copied().chain([page]);
         let choices: Vec<_> = with_the_new_one.map(|page| self.choices(sdr1, page)).collect();
@@ -79,7 +98,7 @@ impl FiniteMap {
             _ => 8,
         };
         if !arrangement::exists(&choices, capacity) {
-            return refusal(call, 9);
+            return self.refusal(call, 9);
         }
         self.pages.insert(page, frame);
         done(None)
@@ -97,7 +116,7 @@ impl FiniteMap {
 
     fn unmap(&mut self, call: &Call, page: Page) -> Reply {
         let Some(&frame) = self.pages.get(&page) else {
-            return refusal(call, 8);
+            return self.refusal(call, 8);
         };
         if self.flaw != Some(MapFlaw::UnmapKeepsPage) {
             self.pages.remove(&page);
@@ -107,29 +126,103 @@ impl FiniteMap {
 
     fn access(&mut self, registers: &[u8], access: Access) -> Reply {
         let registers = Registers::read(registers).expect("the length was tested");
-        let outcome = match translation::before_search(None, &registers, access) {
-            BeforeSearch::Settled(outcome) => outcome,
-            BeforeSearch::Search { page, segment } => match self.pages.get_mut(&page) {
-                None => Outcome::NoMatch,
-                Some(frame) => {
-                    let second = second_word(frame);
-                    let outcome = translation::after_match(None, segment, second, access);
-                    if let Outcome::Page { .. } = outcome {
-                        mark(self.flaw, frame, access);
-                    }
-                    outcome
-                }
-            },
+        let mut ends = Vec::new();
+        let mut pages = Vec::new();
+        for part in self.parts(&registers, access) {
+            let (outcome, page) = self.end(&self.registers_of(&registers, access, part), part);
+            ends.push((part, outcome));
+            pages.push(page);
+        }
+        let words = operand::answer(None, access, &ends);
+        let done = ends.iter().take_while(|(_, outcome)| outcome.is_done()).count();
+        let marked = match self.flaw {
+            Some(MapFlaw::FirstMarkedEarly) => done,
+            Some(MapFlaw::FirstMarkedOnly) if done == ends.len() => 1,
+            _ if done == ends.len() => done,
+            _ => 0,
         };
-        let words = translation::answer(None, outcome, access);
-        Reply { number: words[0], answer: Some(words) }
+        for (number, page) in pages.into_iter().take(marked).enumerate() {
+            if let Some(page) = page {
+                self.mark(number, page, access);
+            }
+        }
+        let record = self.record(&registers, &ends);
+        let answer = words.into_iter().map(Some).chain(record).collect();
+        Reply { number: words[0], answer: Some(answer) }
     }
-}
 
-fn mark(flaw: Option<MapFlaw>, frame: &mut Frame, access: Access) {
-    frame.r = 1;
-    if access.is_store() && flaw != Some(MapFlaw::StoreUnmarked) {
-        frame.c = 1;
+    /// The record of the part that is shown; where an entry was used, its place follows from the table.
+    fn record(&self, registers: &Registers, ends: &[(Access, Outcome)]) -> [Option<u32>; 4] {
+        let flaw = RecordFlaw::of_map(self.flaw);
+        let outcomes: Vec<Outcome> = ends.iter().map(|(_, outcome)| *outcome).collect();
+        let Some(speaking) = record::speaking(flaw, &outcomes) else { return [Some(0); 4] };
+        let (part, outcome) = ends[speaking];
+        let [rule, detail] = record::rule_and_detail(flaw, registers, part, outcome);
+        let zero = u32::from(record::has_place_too_many(flaw, outcome));
+        let place = (!record::has_place(outcome)).then_some(zero);
+        [Some(rule), Some(detail), place, place]
+    }
+
+    /// The number and zeros, where an answer is written at all.
+    fn refusal(&self, call: &Call, number: u32) -> Reply {
+        let written = call.answer_length().filter(|_| number != 11);
+        let answer = written.map(|length| {
+            let mut words = vec![Some(0); length / 4];
+            words[0] = Some(number);
+            if let (Call::Access(_), Some(RecordFlaw::LeftAtRefusal)) =
+                (call, RecordFlaw::of_map(self.flaw))
+            {
+                words[8] = Some(3);
+            }
+            words
+        });
+        Reply { number, answer }
+    }
+
+    fn parts(&self, registers: &Registers, access: Access) -> Vec<Access> {
+        let mut parts = operand::parts(None, registers, access);
+        if self.flaw == Some(MapFlaw::OnePage) {
+            parts.truncate(1);
+        }
+        parts
+    }
+
+    fn registers_of(&self, registers: &Registers, access: Access, part: Access) -> Registers {
+        match self.flaw {
+            Some(MapFlaw::SecondBySegmentOfFirst) => {
+                registers.with_segment_of(access.address, part.address)
+            }
+            _ => *registers,
+        }
+    }
+
+    /// What a part comes to, and the page of the map that did it.
+    fn end(&self, registers: &Registers, part: Access) -> (Outcome, Option<Page>) {
+        let (page, segment) = match translation::before_search(None, registers, part) {
+            BeforeSearch::Settled(outcome) => return (outcome, None),
+            BeforeSearch::Search { page, segment } => (page, segment),
+        };
+        match self.pages.get(&page) {
+            None => (Outcome::NoMatch, None),
+            Some(frame) => {
+                let outcome = translation::after_match(None, segment, second_word(frame), part);
+                (outcome, Some(page))
+            }
+        }
+    }
+
+    /// R of a page that did a part, and C on a store.
+    fn mark(&mut self, number: usize, page: Page, access: Access) {
+        let changed = match self.flaw {
+            Some(MapFlaw::StoreUnmarked) => false,
+            Some(MapFlaw::ChangedInFirstOnly) => number == 0,
+            _ => true,
+        };
+        let frame = self.pages.get_mut(&page).expect("the page was found");
+        frame.r = 1;
+        if access.is_store() && changed {
+            frame.c = 1;
+        }
     }
 }
 
@@ -138,10 +231,5 @@ fn second_word(frame: &Frame) -> u32 {
 }
 
 fn done(second: Option<u32>) -> Reply {
-    Reply { number: 0, answer: second.map(|word| [0, word, 0, 0]) }
-}
-
-fn refusal(call: &Call, number: u32) -> Reply {
-    let answered = call.answer_length().is_some() && number != 11;
-    Reply { number, answer: answered.then_some([number, 0, 0, 0]) }
+    Reply { number: 0, answer: second.map(|word| [0, word, 0, 0].map(Some).to_vec()) }
 }

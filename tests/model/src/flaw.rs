@@ -65,13 +65,180 @@ pub enum Flaw {
     AnswerAtEleven,
     /// Packing refuses W and I both one.
     PackRefusesWimg,
+    /// An operand of 128 bytes is refused.
+    LongestRefused,
+    /// An operand of 129 bytes is taken.
+    OneTooLongTaken,
+    /// Of an operand's length the low eight bits are looked at alone.
+    LengthLowBits,
+    /// A fetch of another length than four bytes is refused.
+    FetchOfFour,
+    /// Only the page of an operand's first byte is translated.
+    FirstPageOnly,
+    /// In real mode an operand is not taken page by page.
+    RealModeWhole,
+    /// An operand within one block is not taken page by page.
+    BlockWhole,
+    /// A page's last byte is counted with the next page.
+    EdgeEarly,
+    /// A page's first byte is counted with the page before.
+    EdgeLate,
+    /// An operand that ends with a page's last byte touches the next page.
+    EndTouchesNext,
+    /// No byte follows FFFFFFFF.
+    NoWrap,
+    /// The second page goes by the segment of the first.
+    SecondBySegmentOfFirst,
+    /// Where both pages fault the second answers.
+    SecondAnswersFirst,
+    /// A fault of the second page tells the operand's own address.
+    SecondFaultAtOperand,
+    /// A fault tells the address of its page's first byte.
+    FirstFaultAtPage,
+    /// The bytes of a done first page are told though the second faults.
+    BytesAfterFault,
+    /// Without a second page the bytes in the first are not told.
+    BytesZeroInOnePage,
+    /// The second page is told the attributes of the first.
+    SecondAttributesOfFirst,
+    /// The first page is marked before the second is translated.
+    FirstMarkedEarly,
+    /// Only the first page is marked.
+    FirstMarkedOnly,
+    /// Only the second page is marked.
+    SecondMarkedOnly,
+    /// A store over a page edge sets C in the first page alone.
+    ChangedInFirstOnly,
+    /// A mark writes the whole group as it was lent.
+    MarkWritesGroup,
     /// The second refusal is tested before the first.
     Swapped(u32, u32),
+    /// The rule that decided is shown wrong.
+    Record(RecordFlaw),
+}
+
+/// Ways to get the record of the rule that decided wrong, in the model or in the finite map.
+#[derive(Clone, Copy, Debug, PartialEq, Eq)]
+pub enum RecordFlaw {
+    /// Rules are counted from 1, as the steps are.
+    RuleAsStep,
+    /// A block's protection fault is shown as page protection.
+    BlockFaultAsProtection,
+    /// Guarded is shown as no-execute.
+    GuardedAsNoExecute,
+    /// No-execute is shown as guarded.
+    NoExecuteAsGuarded,
+    /// In real mode a block that holds the address is shown.
+    BlockInRealMode,
+    /// A fetch by a block is shown as no-execute where its segment has N.
+    NoExecuteBeforeBlock,
+    /// A load or store of a guarded page is shown as guarded.
+    GuardedData,
+    /// Blocks are counted through both sides.
+    BlockThroughSides,
+    /// A block is shown by the number of its upper register word.
+    BlockAsRegister,
+    /// A block is shown by its PP.
+    BlockPp,
+    /// PP × 4 + key is shown.
+    KeyAndPpSwapped,
+    /// The key shown is Kp for the supervisor too.
+    KeyByKp,
+    /// The PP shown is that of the next entry of the group.
+    PpOfNextEntry,
+    /// The key is shown with a guarded page too.
+    KeyWhenGuarded,
+    /// Key and PP are shown with a fault only.
+    DetailOfFaultsOnly,
+    /// The group shown is the primary one, wherever the entry stands.
+    PrimaryAlways,
+    /// The group's number has the origin before it.
+    GroupWithOrigin,
+    /// The group is shown by its first byte.
+    GroupAsByte,
+    /// Entries are counted from 1.
+    EntryFromOne,
+    /// Entries are counted through both groups.
+    EntryThroughGroups,
+    /// The last match is shown.
+    LastMatch,
+    /// A place is shown with a done access only.
+    PlaceOfDoneOnly,
+    /// The primary group is shown where there is no match.
+    NoMatchWithPlace,
+    /// The primary group is shown in real mode, by a block and for no-execute.
+    PlaceBeforeSearch,
+    /// Of a done operand over a page edge the second part is shown.
+    SecondWhenDone,
+    /// Where the second part faults the first is shown.
+    FirstForSecondFault,
+    /// Where the first part faults the second is shown.
+    SecondForFirstFault,
+    /// Contradicting matches are shown with the search's rule and their first place.
+    AtContradiction,
+    /// Where the second part's matches contradict the first part is shown.
+    FirstAtContradiction,
+    /// A refusal leaves the record as it was lent.
+    LeftAtRefusal,
+}
+
+impl RecordFlaw {
+    /// Those about rule, detail, part or refusal, which the finite map answers for.
+    #[rustfmt::skip]
+    pub const IN_MAP: [RecordFlaw; 20] = [
+        RecordFlaw::RuleAsStep, RecordFlaw::BlockFaultAsProtection, RecordFlaw::GuardedAsNoExecute,
+        RecordFlaw::NoExecuteAsGuarded, RecordFlaw::BlockInRealMode,
+        RecordFlaw::NoExecuteBeforeBlock, RecordFlaw::GuardedData, RecordFlaw::BlockThroughSides,
+        RecordFlaw::BlockAsRegister, RecordFlaw::BlockPp, RecordFlaw::KeyAndPpSwapped,
+        RecordFlaw::KeyByKp, RecordFlaw::KeyWhenGuarded, RecordFlaw::DetailOfFaultsOnly,
+        RecordFlaw::NoMatchWithPlace, RecordFlaw::PlaceBeforeSearch, RecordFlaw::SecondWhenDone,
+        RecordFlaw::FirstForSecondFault, RecordFlaw::SecondForFirstFault, RecordFlaw::LeftAtRefusal,
+    ];
+
+    /// Those that a table's bytes show alone: a neighbouring entry, or contradicting matches.
+    pub const IN_TABLE: [RecordFlaw; 3] =
+        [RecordFlaw::PpOfNextEntry, RecordFlaw::AtContradiction, RecordFlaw::FirstAtContradiction];
+
+    /// Those about the place in rules 4 to 6, which the finite map leaves to the table.
+    pub const OF_PLACE: [RecordFlaw; 7] = [
+        RecordFlaw::PrimaryAlways,
+        RecordFlaw::GroupWithOrigin,
+        RecordFlaw::GroupAsByte,
+        RecordFlaw::EntryFromOne,
+        RecordFlaw::EntryThroughGroups,
+        RecordFlaw::LastMatch,
+        RecordFlaw::PlaceOfDoneOnly,
+    ];
+
+    /// Those about which of two parts is shown.
+    pub const OF_PARTS: [RecordFlaw; 4] = [
+        RecordFlaw::SecondWhenDone,
+        RecordFlaw::FirstForSecondFault,
+        RecordFlaw::SecondForFirstFault,
+        RecordFlaw::FirstAtContradiction,
+    ];
+
+    /// The mistake about the record that a wrong model makes, if it is one.
+    pub fn of_model(flaw: Option<Flaw>) -> Option<RecordFlaw> {
+        match flaw {
+            Some(Flaw::Record(flaw)) => Some(flaw),
+            _ => None,
+        }
+    }
+
+    /// The same of a wrong finite map.
+    pub fn of_map(flaw: Option<MapFlaw>) -> Option<RecordFlaw> {
+        match flaw {
+            Some(MapFlaw::Record(flaw)) => Some(flaw),
+            _ => None,
+        }
+    }
 }
 
 impl Flaw {
+    /// Those that show in calls whose operands lie within one page.
     #[rustfmt::skip]
-    pub const ALL: [Flaw; 38] = [
+    pub const WITHIN_PAGE: [Flaw; 31] = [
         Flaw::UnmapPrimaryOnly, Flaw::UnmapFirstMarks, Flaw::HForgotten, Flaw::VsidForgotten,
         Flaw::FullAtPrimary, Flaw::FullBeforeMatch, Flaw::MatchUpToFree, Flaw::MapStoresNothing,
         Flaw::ProtectFirstOnly, Flaw::ProtectIgnoredBits, Flaw::DuplicatesByFields,
@@ -82,26 +249,36 @@ impl Flaw {
         Flaw::BlocksOfAnyState, Flaw::OffBlockJudged, Flaw::OneSegmentJudged,
         Flaw::RealModeUnchecked, Flaw::RefusalKeepsAnswer, Flaw::AnswerAtEleven,
         Flaw::PackRefusesWimg,
-        Flaw::Swapped(11, 6), Flaw::Swapped(6, 2), Flaw::Swapped(2, 3), Flaw::Swapped(3, 4),
-        Flaw::Swapped(4, 5), Flaw::Swapped(5, 1), Flaw::Swapped(2, 1),
     ];
 
-    /// Those that show after a clear, where no duplicate and no ignored bit ever stands in the table:
-    /// the finite map has to find them without the model's help.
-    pub const SHOWN_TO_THE_MAP: [Flaw; 13] = [
-        Flaw::UnmapPrimaryOnly,
-        Flaw::HForgotten,
-        Flaw::VsidForgotten,
-        Flaw::FullAtPrimary,
-        Flaw::FullBeforeMatch,
-        Flaw::MatchUpToFree,
-        Flaw::MapStoresNothing,
-        Flaw::KpForSupervisor,
-        Flaw::ChangedByFault,
-        Flaw::ReferencedByFault,
-        Flaw::NeverMatches,
-        Flaw::OneFrame,
-        Flaw::RefusesAll,
+    /// Those of them that show after a clear, where no duplicate and no ignored bit ever stands in
+    /// the table: the finite map has to find them without the model's help.
+    #[rustfmt::skip]
+    pub const AFTER_CLEAR: [Flaw; 13] = [
+        Flaw::UnmapPrimaryOnly, Flaw::HForgotten, Flaw::VsidForgotten, Flaw::FullAtPrimary,
+        Flaw::FullBeforeMatch, Flaw::MatchUpToFree, Flaw::MapStoresNothing,
+        Flaw::KpForSupervisor, Flaw::ChangedByFault, Flaw::ReferencedByFault,
+        Flaw::NeverMatches, Flaw::OneFrame, Flaw::RefusesAll,
+    ];
+
+    /// Those about an operand's length and pages: the finite map has to find them too.
+    #[rustfmt::skip]
+    pub const OPERANDS: [Flaw; 23] = [
+        Flaw::LongestRefused, Flaw::OneTooLongTaken, Flaw::LengthLowBits, Flaw::FetchOfFour,
+        Flaw::FirstPageOnly, Flaw::RealModeWhole, Flaw::BlockWhole, Flaw::EdgeEarly,
+        Flaw::EdgeLate, Flaw::EndTouchesNext, Flaw::NoWrap, Flaw::SecondBySegmentOfFirst,
+        Flaw::SecondAnswersFirst, Flaw::SecondFaultAtOperand, Flaw::FirstFaultAtPage,
+        Flaw::BytesAfterFault, Flaw::BytesZeroInOnePage, Flaw::SecondAttributesOfFirst,
+        Flaw::FirstMarkedEarly, Flaw::FirstMarkedOnly, Flaw::SecondMarkedOnly,
+        Flaw::ChangedInFirstOnly, Flaw::MarkWritesGroup,
+    ];
+
+    /// Refusals in another order.
+    #[rustfmt::skip]
+    pub const ORDERS: [Flaw; 10] = [
+        Flaw::Swapped(11, 6), Flaw::Swapped(6, 2), Flaw::Swapped(2, 3), Flaw::Swapped(3, 4),
+        Flaw::Swapped(4, 5), Flaw::Swapped(5, 1), Flaw::Swapped(2, 1),
+        Flaw::Swapped(11, 12), Flaw::Swapped(6, 12), Flaw::Swapped(12, 2),
     ];
 }
 
@@ -118,14 +295,32 @@ pub enum MapFlaw {
     UnmapKeepsPage,
     /// A store does not set C.
     StoreUnmarked,
+    /// An operand has one page.
+    OnePage,
+    /// The second page goes by the segment of the first.
+    SecondBySegmentOfFirst,
+    /// The first page is marked before the second is looked for.
+    FirstMarkedEarly,
+    /// Only the first page is marked.
+    FirstMarkedOnly,
+    /// A store over a page edge sets C in the first page alone.
+    ChangedInFirstOnly,
+    /// The rule that decided is shown wrong.
+    Record(RecordFlaw),
 }
 
 impl MapFlaw {
-    pub const ALL: [MapFlaw; 5] = [
+    /// Those about pages and marks.
+    pub const OF_PAGES: [MapFlaw; 10] = [
         MapFlaw::GroupOfSeven,
         MapFlaw::GroupOfNine,
         MapFlaw::PrimaryOnly,
         MapFlaw::UnmapKeepsPage,
         MapFlaw::StoreUnmarked,
+        MapFlaw::OnePage,
+        MapFlaw::SecondBySegmentOfFirst,
+        MapFlaw::FirstMarkedEarly,
+        MapFlaw::FirstMarkedOnly,
+        MapFlaw::ChangedInFirstOnly,
     ];
 }

@@ -1,6 +1,7 @@
-//! Document 01 written twice in plain Rust, from its text alone: the calls on bytes (`bytes`), and
-//! the finite map (`finite_map`). They share the rules on numbers, registers and lengths and the
-//! steps of an access that need no table; hash, search and room are written in each on its own.
+//! Document 01 and requests 1 and 2 written twice in plain Rust, from their text alone: the calls on
+//! bytes (`bytes`), and the finite map (`finite_map`). They share the rules on numbers, registers and
+//! lengths, the parts of an operand, the steps of an access that need no table, and the rule and
+//! detail of a record; hash, search, room, marks and places are written in each on its own.
 
 pub mod arrangement;
 pub mod bytes;
@@ -8,6 +9,8 @@ pub mod call;
 pub mod entry;
 pub mod finite_map;
 pub mod flaw;
+pub mod operand;
+pub mod record;
 pub mod registers;
 pub mod rules;
 pub mod search;

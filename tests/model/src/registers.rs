@@ -1,5 +1,6 @@
 //! The register words and what the rules ask of them.
 
+use crate::call::FETCH;
 use crate::words::{bits, ones_at_low_end, put_word, word_at};
 
 pub const REGISTER_PAGE: usize = 132;
@@ -19,6 +20,24 @@ pub fn table_length(sdr1: u32) -> usize {
 pub enum Side {
     Instruction,
     Data,
+}
+
+impl Side {
+    /// The number of the register word that its first block begins with.
+    pub fn first_register(self) -> usize {
+        match self {
+            Side::Instruction => 17,
+            Side::Data => 25,
+        }
+    }
+
+    /// The side of a kind of access.
+    pub fn of_kind(kind: u32) -> Side {
+        match kind {
+            FETCH => Side::Instruction,
+            _ => Side::Data,
+        }
+    }
 }
 
 /// The register set, read from its page.
@@ -53,12 +72,17 @@ impl Registers {
         Segment(self.0[1 + bits(address, 0, 3) as usize])
     }
 
+    /// The set with the segment register of one address in the place of another's.
+    pub fn with_segment_of(self, from: u32, to: u32) -> Registers {
+        self.with_word(1 + bits(to, 0, 3), self.segment(from).0)
+    }
+
     pub fn segments(&self) -> impl Iterator<Item = Segment> + '_ {
         self.0[1..17].iter().map(|&word| Segment(word))
     }
 
     pub fn blocks(&self, side: Side) -> [Block; 4] {
-        let first = if side == Side::Instruction { 17 } else { 25 };
+        let first = side.first_register();
         std::array::from_fn(|pair| Block {
             upper: self.0[first + 2 * pair],
             lower: self.0[first + 2 * pair + 1],
@@ -100,12 +124,20 @@ impl Segment {
         bits(self.0, 0, 0) == 0 && bits(self.0, 4, 7) == 0
     }
 
-    pub fn supervisor_key(self) -> u32 {
+    fn supervisor_key(self) -> u32 {
         bits(self.0, 1, 1)
     }
 
     pub fn problem_key(self) -> u32 {
         bits(self.0, 2, 2)
+    }
+
+    /// The key that an access goes by.
+    pub fn key(self, problem_state: bool) -> u32 {
+        match problem_state {
+            true => self.problem_key(),
+            false => self.supervisor_key(),
+        }
     }
 
     pub fn no_execute(self) -> bool {

@@ -2,6 +2,7 @@
 
 use crate::call::{Call, Lengths, Page};
 use crate::flaw::Flaw;
+use crate::operand;
 use crate::registers::{sdr1_is_well_formed, table_length, Block, Registers, REGISTER_PAGE};
 
 /// The numbers a call can be refused with before its table is searched, first tested first.
@@ -12,7 +13,7 @@ fn order(call: &Call) -> &'static [u32] {
         Call::Clear { .. } => &[2, 1],
         Call::Map { .. } | Call::Protect { .. } => &[6, 2, 1],
         Call::Unmap { .. } | Call::Look { .. } => &[11, 6, 2, 1],
-        Call::Access(_) => &[11, 6, 2, 3, 4, 5, 1],
+        Call::Access(_) => &[11, 6, 12, 2, 3, 4, 5, 1],
         Call::Pack(_) => &[11, 6],
         Call::Unpack { .. } => &[11],
     }
@@ -25,13 +26,14 @@ pub fn broken(flaw: Option<Flaw>, call: &Call, registers: &[u8], lengths: Length
         swap(&mut numbers, earlier, later);
     }
     if flaw == Some(Flaw::RealModeUnchecked) && is_untranslated(call) {
-        numbers.truncate(2);
+        numbers.truncate(3);
     }
     let judged = judged_set(call, registers);
     let sdr1 = call.sdr1().or(judged.map(|set| set.sdr1()));
     numbers.retain(|&number| match number {
         11 => length_is_wrong(call, lengths),
         6 => !arguments_in_range(flaw, call),
+        12 => !operand_in_range(flaw, call),
         2 => sdr1.is_some_and(|sdr1| !sdr1_is_well_formed(sdr1)),
         1 => sdr1.is_some_and(|sdr1| lengths.table != table_length(sdr1)),
         _ => judged.is_some_and(|set| breaks_register_rule(flaw, number, call, &set)),
@@ -82,6 +84,18 @@ fn arguments_in_range(flaw: Option<Flaw>, call: &Call) -> bool {
             Call::Pack(fields) => fields.in_range(),
             _ => true,
         }
+}
+
+/// Whether an access names 1 to 128 bytes.
+fn operand_in_range(flaw: Option<Flaw>, call: &Call) -> bool {
+    let Call::Access(access) = *call else { return true };
+    let longest = match flaw {
+        Some(Flaw::LongestRefused) => operand::LONGEST - 1,
+        Some(Flaw::OneTooLongTaken) => operand::LONGEST + 1,
+        _ => operand::LONGEST,
+    };
+    let fits = (1..=longest).contains(&operand::length(flaw, access));
+    fits && (flaw != Some(Flaw::FetchOfFour) || !access.is_fetch() || access.length == 4)
 }
 
 fn has_w_and_i(wimg: u32) -> bool {

@@ -20,8 +20,10 @@ pub fn group_numbers(sdr1: u32, page: Page) -> [usize; 2] {
 /// An entry on a page's way through the table.
 #[derive(Clone, Copy, Debug)]
 pub struct Place {
-    /// The entry's first byte.
-    pub at: usize,
+    /// The group's number in the table.
+    pub group: usize,
+    /// The entry's number in the group, 0 to 7.
+    pub entry: usize,
     /// 0 in the primary group, 1 in the secondary.
     pub h: u32,
     pub first: u32,
@@ -29,6 +31,11 @@ pub struct Place {
 }
 
 impl Place {
+    /// The entry's first byte.
+    pub fn at(&self) -> usize {
+        GROUP * self.group + ENTRY * self.entry
+    }
+
     pub fn is_free(&self) -> bool {
         bits(self.first, 0, 0) == 0
     }
@@ -49,7 +56,8 @@ pub fn places(sdr1: u32, page: Page, table: &[u8]) -> Vec<Place> {
         for entry in 0..8 {
             let at = GROUP * group + ENTRY * entry;
             places.push(Place {
-                at,
+                group,
+                entry,
                 h: h as u32,
                 first: word_at(table, at),
                 second: word_at(table, at + 4),

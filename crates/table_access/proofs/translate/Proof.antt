@@ -1,17 +1,19 @@
--- `table_access::translate` meets its contract: a refusal and an outcome answer as the definition does, on the words that were read.
+-- `table_access::translate` meets its contract: a refusal and an operand answer as the definition does, on the words that were read.
 use borrow.Author.Needs.{needs}
-use mathlib.Core.Path.{_≡_, sym, ap, _∙_}
+use mathlib.Core.Path.{_≡_, sym, ap, ap₂, _∙_}
 use mathlib.Core.List.{List}
 use Prim.Native.Nat.{ℕ}
 use lib.ListN.{length}
 use Rattle.registers.specs.Rules.{firstBroken}
 use Rattle.registers.specs.Set.{registerWords}
-use Rattle.translation.specs.Steps.{beforeSearch}
+use Rattle.translation.specs.Operand.{stopped}
+use Rattle.translation.specs.Decision.{decisionOf}
 use Rattle.translation.specs.declared.Answer.{Answer}
+use Rattle.translation.specs.declared.decision.Decision.{Decision}
+use Rattle.translation.specs.declared.operand.OperandAnswer.{OperandAnswer}
 use Rattle.translation.proofs.Answers.{answer-refused}
-use Rattle.translation.proofs.Steps.{wanted-in-range}
 use Rattle.calls.specs.Answers.{accessAnswer}
-use Rattle.calls.specs.OnBytes.{ended}
+use Rattle.calls.specs.OnBytes.{ended, bytesDo}
 use Rattle.calls.proofs.Access.{rulesThen, then-kept, access-refused, access-taken}
 use Rattle.table_access.proofs.translate.Statement.{statement}
 use Rattle.table_access.proofs.translate.Tie as tie
@@ -19,11 +21,14 @@ use Rattle.table_access.proofs.translate.Tie as tie
 -- the words that were read are the register page's
 number-is : (c : tie.After-refusal) →
     let start = c .before .before .before .before .before .before .before in
-    c .refusal .result ≡ firstBroken (rulesThen (registerWords (start .args .registers .now)) (start .args .mode) (start .args .kind) (length (start .args .table .now)))
+    let a = start .args in
+    c .refusal .result
+    ≡ firstBroken (rulesThen (registerWords (a .registers .now)) (a .asked .mode) (a .asked .kind) (a .asked .length) (length (a .table .now)))
 number-is c =
     let read = c .before .before .before in
     let a = read .before .before .before .before .args in
-    c .refusal .ensures ∙ ap (λ (words : List ℕ). firstBroken (rulesThen words (a .mode) (a .kind) (length (a .table .now)))) (read .read-words .ensures)
+    c .refusal .ensures
+    ∙ ap (λ (words : List ℕ). firstBroken (rulesThen words (a .asked .mode) (a .asked .kind) (a .asked .length) (length (a .table .now)))) (read .read-words .ensures)
 
 slice-aggregate-read-words : tie.Need-slice-aggregate-read-words
 slice-aggregate-read-words c = search needs
@@ -37,51 +42,71 @@ refusal-requires c κs = search needs
 answer-of-requires : tie.Need-answer-of-requires
 answer-of-requires c κs = search needs
 
+nothing-requires : tie.Need-nothing-requires
+nothing-requires c κs = search needs
+
+decision-of-requires : tie.Need-decision-of-requires
+decision-of-requires c κs = search needs
+
+stopped-requires : tie.Need-stopped-requires
+stopped-requires c κs = search needs
+
 returns : tie.Need-returns
+unfolding decisionOf
 returns c answer right =
-    let at-refusal = c .before .before in
+    let at-answer = c .before .before .before in
+    let then1 = at-answer .before in
+    let at-refusal = then1 .before in
     let start = at-refusal .before .before .before .before .before .before .before in
     let a = start .args in
     let number = at-refusal .refusal .result in
-    ap (λ (r : Answer). ended (r .result) (a .table .now) (accessAnswer r)) (c .answer-of .ensures ∙ answer-refused (a .kind) (a .address) number)
-    ∙ sym (access-refused (record { registers = a .registers .now; mode = a .mode; kind = a .kind; address = a .address; answer = answer }) (a .table .now) (start .pre) right number (number-is at-refusal) (c .before .if1 .taken))
+    ap (λ (r : OperandAnswer). ended (r .part .result) (a .table .now) (accessAnswer r))
+    (c .stopped .ensures
+    ∙ ap₂ (λ (x : Answer) (d : Decision). stopped x d) (at-answer .answer-of .ensures ∙ answer-refused (a .asked .kind) (a .asked .address) number) (c .before .decision-of .ensures))
+    ∙ sym (access-refused (record {
+      registers = a .registers .now;
+      mode = a .asked .mode;
+      kind = a .asked .kind;
+      address = a .asked .address;
+      length = a .asked .length;
+      answer = answer;
+    }) (a .table .now) (start .pre) right number (number-is at-refusal) (then1 .if1 .taken))
 
-before-search-requires : tie.Need-before-search-requires
-before-search-requires c κs = search needs
+-- the words that were read pass the rules
+kept : (c : tie.Else1) →
+    let a = c .before .before .before .before .before .before .before .before .args in
+    firstBroken (rulesThen (registerWords (a .registers .now)) (a .asked .mode) (a .asked .kind) (a .asked .length) (length (a .table .now))) ≡ 0
+kept c = sym (number-is (c .before)) ∙ c .if1 .left
 
-array-read-decided : tie.Need-array-read-decided
-array-read-decided c = search needs
-
-decided-requires : tie.Need-decided-requires
-decided-requires c κs =
-    let at-before = c .before in
-    let at-else = at-before .before .before in
-    let at-refusal = at-else .before in
-    let read = at-refusal .before .before .before in
+by-parts-requires : tie.Need-by-parts-requires
+by-parts-requires c κs =
+    let else1 = c .before .before in
+    let read = else1 .before .before .before .before in
     let a = read .before .before .before .before .args in
-    let words = registerWords (a .registers .now) in
-    let (shape, right) = then-kept words (a .mode) (a .kind) (length (a .table .now)) (sym (number-is at-refusal) ∙ at-else .if1 .left) in
-    rw (read .read-words .ensures)
-    (shape, right, λ wanted e. wanted-in-range 4 11 words (a .mode) (a .kind) (a .address) wanted (sym (at-before .before-search .ensures ∙ ap (λ (l : List ℕ). beforeSearch 4 11 l (a .mode) (a .kind) (a .address)) (read .read-words .ensures)) ∙ e))
-
-answer-of-requires-2 : tie.Need-answer-of-requires-2
-answer-of-requires-2 c κs = search needs
+    let all = then-kept (registerWords (a .registers .now)) (a .asked .mode) (a .asked .kind) (a .asked .length) (length (a .table .now)) (kept else1) in
+    rw (read .read-words .ensures) (all .1, all .2)
 
 same-length : tie.Need-same-length
 same-length c = search needs
 
 returns-2 : tie.Need-returns-2
+unfolding bytesDo
 returns-2 c answer right =
-    let at-decided = c .before .before .before in
-    let at-before = at-decided .before .before in
-    let at-refusal = at-before .before .before .before in
-    let read = at-refusal .before .before .before in
+    let at-parts = c .before .before in
+    let else1 = at-parts .before .before .before in
+    let read = else1 .before .before .before .before in
     let start = read .before .before .before .before in
     let a = start .args in
-    let told = rw (at-before .before-search .ensures, read .read-words .ensures) at (at-decided .decided .ensures) in
-    rw (c .answer-of2 .ensures, told .1 (a .address))
-    (sym (access-taken (record { registers = a .registers .now; mode = a .mode; kind = a .kind; address = a .address; answer = answer }) (a .table .now) (start .pre) right
-    (sym (number-is at-refusal) ∙ at-before .before .before .if1 .left) (at-decided .decided .result) (told .0)))
+    let parts = rw (read .read-words .ensures) at (at-parts .by-parts .ensures) in
+    ap₂ (λ (r : OperandAnswer) (u : List ℕ). ended (r .part .result) u (accessAnswer r)) (parts .0) (parts .1)
+    ∙ sym (access-taken (record {
+      registers = a .registers .now;
+      mode = a .asked .mode;
+      kind = a .asked .kind;
+      address = a .asked .address;
+      length = a .asked .length;
+      answer = answer;
+    }) (a .table .now) (start .pre) right (kept else1))
 
 pub translate-spec : {M : Type 1} → statement M
 translate-spec =
@@ -91,10 +116,10 @@ translate-spec =
     read-words-requires
     refusal-requires
     answer-of-requires
+    nothing-requires
+    decision-of-requires
+    stopped-requires
     returns
-    before-search-requires
-    array-read-decided
-    decided-requires
-    answer-of-requires-2
+    by-parts-requires
     same-length
     returns-2)

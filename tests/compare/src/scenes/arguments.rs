@@ -2,6 +2,7 @@
 
 use model::call::{Access, Call, Page};
 use model::entry::{Fields, WIDTHS};
+use model::operand::LONGEST;
 use model::registers::sdr1_is_well_formed;
 
 use crate::random::Random;
@@ -108,6 +109,32 @@ fn spoiled_access(random: &mut Random, access: Access) -> Access {
         _ => access.kind = past(random, 3),
     }
     access
+}
+
+/// A length that an operand may have, often at an end of the range.
+pub fn length(random: &mut Random) -> u32 {
+    match random.below(3) {
+        0 => random.pick(&[1, 1, 2, 4, 8, 127, 128]),
+        _ => 1 + random.below(LONGEST),
+    }
+}
+
+/// A length that no operand may have: 0, just too long, or right in its low bits alone.
+pub fn spoiled_length(random: &mut Random) -> u32 {
+    let right_below = 1 << (8 + random.below(24)) | 1 + random.below(LONGEST);
+    let longer = past(random, LONGEST + 1);
+    random.pick(&[0, 0, LONGEST + 1, 257, 0x8000_0001, right_below, longer])
+}
+
+/// The call with an operand of wrong length, where it is an access.
+pub fn with_spoiled_length(random: &mut Random, call: Call) -> Call {
+    match call {
+        Call::Access(access) => {
+            let length = spoiled_length(random);
+            Call::Access(Access { length, ..access })
+        }
+        _ => call,
+    }
 }
 
 /// The call with another SDR1, where it brings one itself.

@@ -14,23 +14,52 @@ pub const FEW_MATCHES: [u32; 6] = [0, 0, 0, 0, 1, 2];
 
 /// Fills both groups of a page, and puts entries that would match into groups that are not its own.
 pub fn plant(random: &mut Random, table: &mut Region, sdr1: u32, page: Page, matches: &[u32]) {
-    let groups = group_numbers(sdr1, page);
     let second = random.word();
-    let matches = random.pick(matches);
     let free = random.pick(&[0, 0, 1, 8, 15]);
-    for (h, group) in groups.into_iter().enumerate() {
+    for (h, group) in group_numbers(sdr1, page).into_iter().enumerate() {
         for entry in 0..8 {
             let first = other_entry(random, page, h as u32, free);
             let any = random.word();
             put_entry(table, group, entry, [first, random.pick(&[second, any])]);
         }
     }
+    plant_matches(random, table, sdr1, page, second, matches);
+    if random.once_in(2) {
+        plant_astray(random, table, sdr1, page, second);
+    }
+}
+
+/// The same for the page that follows: groups that are the first page's too get its matches alone.
+pub fn plant_next(
+    random: &mut Random,
+    table: &mut Region,
+    sdr1: u32,
+    [page, next]: [Page; 2],
+    matches: &[u32],
+) {
+    let (groups, of_next) = (group_numbers(sdr1, page), group_numbers(sdr1, next));
+    if groups.contains(&of_next[0]) {
+        let second = random.word();
+        plant_matches(random, table, sdr1, next, second, matches);
+    } else {
+        plant(random, table, sdr1, next, matches);
+    }
+}
+
+/// So many matches of a page as one of these numbers says.
+fn plant_matches(
+    random: &mut Random,
+    table: &mut Region,
+    sdr1: u32,
+    page: Page,
+    second: u32,
+    matches: &[u32],
+) {
+    let groups = group_numbers(sdr1, page);
+    let matches = random.pick(matches);
     for words in matching_entries(random, page, second, matches) {
         let h = (words[0] >> 6 & 1) as usize;
         put_entry(table, groups[h], random.index(8), words);
-    }
-    if random.once_in(2) {
-        plant_astray(random, table, sdr1, page, second);
     }
 }
 

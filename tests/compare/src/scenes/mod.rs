@@ -1,5 +1,6 @@
-//! What calls come upon: registers, groups of entries, arguments, and ways to spoil each.
+//! What calls come upon: registers, groups of entries, arguments, operands, and ways to spoil each.
 
 pub mod arguments;
 pub mod groups;
+pub mod operands;
 pub mod registers;

@@ -6,7 +6,7 @@ use crate::random::Random;
 
 pub type Words = [u32; 33];
 
-const FIRST_BLOCK: usize = 17;
+pub const FIRST_BLOCK: usize = 17;
 
 fn side_of(number: usize) -> Side {
     if number < 25 {
@@ -100,6 +100,31 @@ pub fn overlay(random: &mut Random, words: &mut Words) {
     words[side + 5] = lower ^ 0b11;
 }
 
+/// Puts a block of 128 KB over an address, as the same pair of both sides.
+pub fn cover(random: &mut Random, words: &mut Words, pair: usize, address: u32) {
+    for side in [FIRST_BLOCK, 25] {
+        let mut block = block_on(random, side_of(side));
+        block.upper = address & 0xFFFE_0000 | 0b11;
+        put_block(words, side + 2 * pair, block);
+    }
+}
+
+/// Makes one block of a side end where another begins.
+pub fn adjoin(random: &mut Random, words: &mut Words) {
+    let side = random.pick(&[FIRST_BLOCK, 25]);
+    let length = (1 << random.below(11)) - 1;
+    let twice = length << 1 | 1;
+    let start = (random.word() >> 17) & !twice;
+    for (number, start) in [(side, start), (side + 6, start | length + 1)] {
+        let mut block = block_on(random, side_of(side));
+        block.upper = start << 17 | length << 2 | random.pick(&[0b11, 0b11, 0b01, 0b10]);
+        block.lower &= !(length << 17);
+        put_block(words, number, block);
+    }
+    words[side + 2] &= !0b11;
+    words[side + 4] &= !0b11;
+}
+
 /// Breaks one rule of a block's shape in a pair that is on.
 pub fn spoil_block(random: &mut Random, words: &mut Words) {
     let number = FIRST_BLOCK + 2 * random.index(8);
@@ -147,21 +172,4 @@ pub fn share_blocks(random: &mut Random, words: &mut Words) {
 pub fn spoil_segment(random: &mut Random, words: &mut Words) {
     let segment = 1 + random.index(16);
     words[segment] |= random.pick(&[1 << 31, 1 << 27, 1 << 26, 1 << 25, 1 << 24]);
-}
-
-/// An effective address: anywhere, or at an end of a block.
-pub fn address(random: &mut Random, words: &Words) -> u32 {
-    if random.below(3) > 0 {
-        return random.word();
-    }
-    let upper = words[FIRST_BLOCK + 2 * random.index(8)];
-    let start = upper & 0xFFFE_0000;
-    let length = (upper & 0x1FFC) << 15 | 0x1_FFFF;
-    match random.below(5) {
-        0 => start,
-        1 => start.wrapping_sub(1),
-        2 => start.wrapping_add(length),
-        3 => start.wrapping_add(length).wrapping_add(1),
-        _ => start.wrapping_add(random.word() & length),
-    }
 }

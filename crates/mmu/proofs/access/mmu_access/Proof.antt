@@ -1,4 +1,4 @@
--- `mmu::access::mmu_access` meets its contract: a wrong length is refused, and else it writes the four words of what the access answers.
+-- `mmu::access::mmu_access` meets its contract: a wrong length is refused, and else it writes the twelve words of what the access answers.
 use borrow.Author.Needs.{needs}
 use borrow.Author.Tests.{eqb-true, not-true, not-false}
 use mathlib.Core.Path.{_≡_, sym}
@@ -12,16 +12,16 @@ use Rattle.mmu.proofs.access.mmu_access.Tie as tie
 -- past the refusal of a length both lengths are right
 lengths : (c : tie.Else1) →
     let start = c .before .before .before .before in
-    (length (start .args .registers .now) ≡ 132) × (length (start .args .answer .now) ≡ 16)
+    (length (start .args .registers .now) ≡ 132) × (length (start .args .answer .now) ≡ 48)
 lengths c =
     let right = both _ _ (not-false _ (c .if1 .left)) in
-    (eqb-true _ 132 (right .0), eqb-true _ 16 (right .1))
+    (eqb-true _ 132 (right .0), eqb-true _ 48 (right .1))
 
 returns : tie.Need-returns
 returns c =
     let a = c .before .before .before .before .args in
     sym
-    (access-wrong-length (record { registers = a .registers .now; mode = a .mode; kind = a .kind; address = a .address; answer = a .answer .now }) (a .table .now)
+    (access-wrong-length (record { registers = a .registers .now; mode = a .mode; kind = a .kind; address = a .address; length = a .length; answer = a .answer .now }) (a .table .now)
     (not-true _ (c .if1 .taken)))
 
 translate-requires : tie.Need-translate-requires
@@ -31,7 +31,7 @@ slice-aggregate-write-words : tie.Need-slice-aggregate-write-words
 slice-aggregate-write-words c = search needs
 
 write-words-requires : tie.Need-write-words-requires
-write-words-requires c κs = lengths (c .before .before .before .before .before .before) .1
+write-words-requires c κs = lengths (c .before .before .before .before .before .before .before .before) .1
 
 same-length : tie.Need-same-length
 same-length c = search needs
@@ -42,7 +42,7 @@ same-length-2 c = search needs
 returns-2 : tie.Need-returns-2
 unfolding accessAnswer
 returns-2 c =
-    let at-translate = c .before .before .before .before .before .before .before in
+    let at-translate = c .before .before .before .before .before .before .before .before .before in
     let at-else = at-translate .before .before in
     let a = at-else .before .before .before .before .args in
     rw (c .before .before .write-words .ensures) (at-translate .translate .ensures (a .answer .now) (lengths at-else .1))

@@ -1,0 +1,2 @@
+-- Laws of an operand's parts that the functions' proofs cite.
+pub mod Told

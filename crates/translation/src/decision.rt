@@ -1,0 +1,86 @@
+// The rule that decided a part of an operand, and what it went by.
+use crate::Outcome;
+ghost use mathlib.Core.Path.{_≡_};
+ghost use mathlib.Core.Bool.{false};
+ghost use Rattle.translation.specs.Decision.{decided, byEntry, keyAndPP, decisionOf};
+
+// The number of the rule; the block's number in rule 1, key × 4 + PP in rules 5 and 6; the numbers of the group and the entry in rules 4 to 6.
+pub struct Decision {
+    pub rule: u32,
+    pub detail: u32,
+    pub group: u32,
+    pub entry: u32,
+}
+
+// What a search went by: the key of the segment, and the group and the number of the first match.
+pub struct Used {
+    pub key: bool,
+    pub group: u32,
+    pub entry: u32,
+}
+
+impl Used {
+    // What a part goes by that no search decides.
+    pub fn nothing() -> Self
+        ensures { λ r. ⌜ r ≡ record { key = false; group = 0; entry = 0 } ⌝ }
+    {
+        Self {
+            key: false,
+            group: 0,
+            entry: 0,
+        }
+    }
+}
+
+// A decision in which no entry plays a part.
+fn decided(rule: u32, detail: u32) -> Decision
+    ensures { λ r. ⌜ r ≡ decided rule detail ⌝ }
+{
+    Decision {
+        rule,
+        detail,
+        group: 0,
+        entry: 0,
+    }
+}
+
+// A decision by the first match.
+fn by_entry(rule: u32, detail: u32, used: Used) -> Decision
+    ensures { λ r. ⌜ r ≡ byEntry rule detail used ⌝ }
+{
+    Decision {
+        rule,
+        detail,
+        group: used.group,
+        entry: used.entry,
+    }
+}
+
+// Key × 4 + PP, by the second word of an entry.
+fn key_and_pp(key: bool, second: u32) -> u32
+    ensures { λ r. ⌜ r ≡ keyAndPP key second ⌝ }
+{
+    let pp = second % 4;
+    if key { 4 + pp } else { pp }
+}
+
+// The decision that an outcome shows.
+pub fn decision_of(used: Used, outcome: Outcome) -> Decision
+    ensures { λ r. ⌜ r ≡ decisionOf used outcome ⌝ }
+{
+    match outcome {
+        Outcome::Real => decided(numbers::RULE_REAL, 0),
+        Outcome::Block(pair, _, _) => decided(numbers::RULE_BLOCK, pair),
+        Outcome::BlockProtection(pair) => decided(numbers::RULE_BLOCK, pair),
+        Outcome::NoExecute => decided(numbers::RULE_NO_EXECUTE, 0),
+        Outcome::NoMatch => decided(numbers::RULE_NO_MATCH, 0),
+        Outcome::Guarded => by_entry(numbers::RULE_GUARDED, 0, used),
+        Outcome::Protection(second) => by_entry(
+            numbers::RULE_PROTECTION,
+            key_and_pp(used.key, second),
+            used,
+        ),
+        Outcome::Done(second) => by_entry(numbers::RULE_DONE, key_and_pp(used.key, second), used),
+        Outcome::Refused(_) => decided(0, 0),
+    }
+}

@@ -5,17 +5,27 @@ use mathlib.Core.Logic.{⊎-elim}
 use mathlib.Core.List.{List, [], _∷_, List·Memᴰ, List·Memᴰ·head, List·Memᴰ·tail, List·Memᴰ·not-nil, List·Memᴰ·cases-cons}
 use Prim.Native.Nat.{ℕ}
 use borrow.Author.Tests.{eqb-true, eq-eqb, not-false, not-true}
+use Rattle.words.proofs.Tests.{both}
+use Rattle.entry.specs.Entry.{rpnOf, wimgOf, ppOf}
 use Rattle.tables.specs.Matches.{Match}
 use Rattle.matches.specs.Search.{agree, anyMatch, contradict}
 
--- a word agrees with itself, and words that agree with one agree with each other
+-- a word agrees with itself
 pub agree-self : (u : ℕ) → agree u u ≡ true
 unfolding agree
-agree-self u = eq-eqb u u refl
+agree-self u = simp (eq-eqb (rpnOf u) (rpnOf u) refl, eq-eqb (wimgOf u) (wimgOf u) refl, eq-eqb (ppOf u) (ppOf u) refl)
 
-pub agree-both : (x u v : ℕ) → agree x u ≡ true → agree x v ≡ true → agree u v ≡ true
+-- words that agree agree with the same others
+pub agree-alike : (u v : ℕ) → agree u v ≡ true → (x : ℕ) → agree u x ≡ agree v x
 unfolding agree
-agree-both x u v a b = eq-eqb u v (sym (eqb-true x u a) ∙ eqb-true x v b)
+agree-alike u v a x =
+    let (upper, pp) = both _ _ a in
+    let (rpn, wimg) = both _ _ upper in
+    rw (eqb-true (rpnOf u) (rpnOf v) rpn, eqb-true (wimgOf u) (wimgOf v) wimg, eqb-true (ppOf u) (ppOf v) pp)
+
+-- words that agree with one agree with each other
+pub agree-both : (x u v : ℕ) → agree x u ≡ true → agree x v ≡ true → agree u v ≡ true
+agree-both x u v a b = sym (agree-alike x u a v) ∙ b
 
 -- some match passes a test, or none does
 module _ (test : Match → Bool) where

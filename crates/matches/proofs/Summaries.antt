@@ -9,6 +9,7 @@ use borrow.Author.Tests.{eqb-true, ne-eqb, le-leb, lt-leb}
 use Rattle.entry.specs.Entry.{referenced, changed, withMarks}
 use Rattle.entry.proofs.Marks.{marks-referenced, marks-changed, marks-own, marks-again}
 use Rattle.tables.specs.Matches.{Match}
+use Rattle.matches.proofs.Agreement.{agree-alike}
 use Rattle.matches.specs.Search.{agree, anyMatch, contradict, merged, each, placeOf, summary, found, inSecondary, entryOf}
 use Rattle.matches.specs.declared.Summary.{Summary}
 
@@ -42,6 +43,11 @@ isChanged m = changed (m .second)
 any-append : (test : Match → Bool) (ms ns : List Match) → anyMatch test (ms ++ ns) ≡ (anyMatch test ms || anyMatch test ns)
 any-append test [] ns = refl
 any-append test (m ∷ ms) ns = ap (λ (b : Bool). test m || b) (any-append test ms ns) ∙ sym (or-assoc (test m) (anyMatch test ms) (anyMatch test ns))
+
+-- words that agree disagree with the same matches
+any-alike : (u v : ℕ) → agree u v ≡ true → (ms : List Match) → anyMatch (disagrees u) ms ≡ anyMatch (disagrees v) ms
+any-alike u v a [] = refl
+any-alike u v a (m ∷ ms) = ap₂ (λ (b d : Bool). not b || d) (agree-alike u v a (m .second)) (any-alike u v a ms)
 
 -- a match that is in the list already tells a test nothing new
 any-own : (test : Match → Bool) (m : Match) (ms : List Match) → anyMatch test (m ∷ ms) || test m ≡ anyMatch test (m ∷ ms)
@@ -77,15 +83,14 @@ module _ (m : Match) (ms : List Match) (n : Match) (ns : List Match) where
 
   -- the others agree with the second list's first as they do with the first list's, where these two agree
   pub contradict-append : contradict m (ms ++ n ∷ ns) ≡ ((contradict m ms || contradict n ns) || disagrees (m .second) n)
-  unfolding contradict agree
-  contradict-append = any-append (disagrees (m .second)) ms (n ∷ ns) ∙ by-test (eqb (m .second) (n .second)) refl
+  unfolding contradict
+  contradict-append = any-append (disagrees (m .second)) ms (n ∷ ns) ∙ by-test (agree (m .second) (n .second)) refl
     where
-      by-test : (t : Bool) → eqb (m .second) (n .second) ≡ t
+      by-test : (t : Bool) → agree (m .second) (n .second) ≡ t
           → (anyMatch (disagrees (m .second)) ms || (disagrees (m .second) n || anyMatch (disagrees (m .second)) ns))
           ≡ ((anyMatch (disagrees (m .second)) ms || anyMatch (disagrees (n .second)) ns) || disagrees (m .second) n)
       by-test true e =
-          let same : m .second ≡ n .second = eqb-true (m .second) (n .second) e in
-          rw (e, ← same) (sym (or-false (anyMatch (disagrees (m .second)) ms || anyMatch (disagrees (m .second)) ns)))
+          rw (e, ← any-alike (m .second) (n .second) e ns) (sym (or-false (anyMatch (disagrees (m .second)) ms || anyMatch (disagrees (m .second)) ns)))
       by-test false e =
           rw e (or-true (anyMatch (disagrees (m .second)) ms)
           ∙ sym (or-true (anyMatch (disagrees (m .second)) ms || anyMatch (disagrees (n .second)) ns)))

@@ -1,10 +1,10 @@
 -- The search for a page's matches (rules 4), and what one pass over them tells.
 use Prim.Native.Nat.{ℕ, _+_, _%_}
-use mathlib.Core.Bool.{Bool, true, false, cond, not, _||_}
+use mathlib.Core.Bool.{Bool, true, false, cond, not, _&&_, _||_}
 use mathlib.Core.List.{List, [], _∷_, _++_, foldr}
 use lib.Dec.{eqb, leb}
 use Rattle.numbers.specs.Numbers.{groupEntries}
-use Rattle.entry.specs.Entry.{matches, referenced, changed, withMarks}
+use Rattle.entry.specs.Entry.{matches, rpnOf, wimgOf, ppOf, referenced, changed, withMarks}
 use Rattle.tables.specs.Matches.{Match, matchesBelow}
 use Rattle.groups.specs.Group.{firstAt, secondAt}
 use Rattle.matches.specs.declared.Summary.{Summary}
@@ -21,9 +21,9 @@ groupMatches secondary vsid api group = matchesBelow (matches vsid (hOf secondar
 unfoldable pub pairMatches : ℕ → ℕ → List ℕ → List ℕ → List Match
 pairMatches vsid api primary secondary = groupMatches false vsid api primary ++ groupMatches true vsid api secondary
 
--- the second words of two matches agree: they are equal in every bit
+-- the second words of two matches agree: RPN, WIMG and PP are equal; R, C and the ignored bits may differ
 unfoldable pub agree : ℕ → ℕ → Bool
-agree second other = eqb second other
+agree second other = eqb (rpnOf second) (rpnOf other) && eqb (wimgOf second) (wimgOf other) && eqb (ppOf second) (ppOf other)
 
 -- some match of a list passes a test
 abbrev pub anyMatch : (Match → Bool) → List Match → Bool

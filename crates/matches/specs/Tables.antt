@@ -2,7 +2,7 @@
 -- of the other H.
 use Prim.Native.Nat.{ℕ}
 use mathlib.Core.Bool.{Bool, true, false}
-use mathlib.Core.List.{[], _∷_, map}
+use mathlib.Core.List.{List, [], _∷_, _++_, map}
 use lib.Bits.{bitXor}
 use lib.ListN.{replicate}
 use Rattle.words.specs.Rows.{Hold, eachBit}
@@ -18,6 +18,10 @@ matched secondary entry first second = record { secondary = secondary; entry = e
 abbrev pub told : ℕ → ℕ → ℕ → Bool → Bool → Summary
 told place second merged several differs = record { place = place; second = second; merged = merged; several = several; differs = differs }
 
+-- the bits in which second words that agree may differ: the ignored ones and the marks, bits 20 to 24, and bit 29
+abbrev pub mayDiffer : List Bool
+mayDiffer = replicate 20 false ++ replicate 5 true ++ replicate 4 false ++ true ∷ replicate 2 false
+
 pub record MatchesTables : Type 0 where
   -- every match is found, in order, and H tells which
   pub all-found : Hold (
@@ -32,25 +36,36 @@ pub record MatchesTables : Type 0 where
       ∷ (groupMatches false 0x0C701C 2 example, [])
       ∷ []
       )
-  -- second words that differ in one bit do not agree, whichever bit it is
+  -- second words that differ in one bit agree if it is one of bits 20 to 24 or bit 29, and do not if it is another
   pub agreement : Hold (
-      (map (λ bit. agree 0x12345E96 (bitXor 0x12345E96 bit)) eachBit, replicate 32 false)
-      ∷ (map (λ bit. agree (bitXor 0x12345E96 bit) 0x12345E96) eachBit, replicate 32 false)
+      (map (λ bit. agree 0x12345E96 (bitXor 0x12345E96 bit)) eachBit, mayDiffer)
+      ∷ (map (λ bit. agree (bitXor 0x12345E96 bit) 0x12345E96) eachBit, mayDiffer)
+      ∷ (map (λ bit. agree 0 bit) eachBit, mayDiffer)
+      ∷ (agree 0x12345012 0x12345F96 ∷ agree 0x12345E96 0x12345112 ∷ [], true ∷ true ∷ [])
       ∷ (agree 0x12345E96 0x12345E96 ∷ agree 0 0 ∷ agree 0xFFFFFFFF 0xFFFFFFFF ∷ [], true ∷ true ∷ true ∷ [])
       ∷ []
       )
-  -- the first match in search order, its second word with R and C of any, a further one, and one that contradicts; equal ones do not contradict
+  -- the first match in search order, its second word with R and C of any, a further one, and whether they contradict: by RPN, WIMG or PP, in one
+  -- group or across both, the second or a third; not by R, C or an ignored bit
   pub summaries : Hold (
-      (summary (pairMatches 0x0C701C 3 example example), told 17 0x12345E96 0x12345F96 true true)
-      ∷ (summary (pairMatches 0x0C701C 3 (mixed 0x86380E03 0x12345112 0 0 0 0) example), told 17 0x12345112 0x12345112 true true)
-      ∷ (summary (pairMatches 0x0C701C 3 (mixed 0x86380E03 0x12345012 0 0 0 0) example), told 17 0x12345012 0x12345012 true false)
+      (summary (pairMatches 0x0C701C 3 example example), told 17 0x12345E96 0x12345F96 true false)
+      ∷ (summary (pairMatches 0x0C701C 3 (mixed 0x86380E03 0x12345112 0 0 0 0) example), told 17 0x12345112 0x12345112 true false)
+      ∷ (summary (pairMatches 0x0C701C 3 (mixed 0x86380E03 0x12345011 0 0 0 0) example), told 17 0x12345011 0x12345011 true true)
       ∷ (summary (pairMatches 0x0C701C 3 full example), told 24 0x12345012 0x12345012 false false)
       ∷ (summary (matched false 1 0x86380E03 0x12345E96 ∷ matched false 3 0x86380E03 0x12345E96 ∷ []), told 17 0x12345E96 0x12345E96 true false)
-      ∷ (summary (matched false 6 0x86380E03 0x12345112 ∷ matched true 0 0x86380E43 0x12345012 ∷ []), told 22 0x12345112 0x12345112 true true)
-      ∷ (summary (matched true 0 0x86380E43 0x12345012 ∷ matched true 6 0x86380E43 0x12345E96 ∷ []), told 24 0x12345012 0x12345092 true true)
+      ∷ (summary (matched false 6 0x86380E03 0x12345112 ∷ matched true 0 0x86380E43 0x12344012 ∷ []), told 22 0x12345112 0x12345112 true true)
+      ∷ (summary (matched true 0 0x86380E43 0x12345012 ∷ matched true 6 0x86380E43 0x12345E9E ∷ []), told 24 0x12345012 0x12345092 true true)
       ∷ (
-        summary (matched false 1 0x86380E03 0x12345012 ∷ matched false 2 0x86380E03 0x12345016 ∷ matched true 0 0x86380E43 0x12345012 ∷ []),
+        summary (matched false 1 0x86380E03 0x12345012 ∷ matched false 2 0x86380E03 0x12345016 ∷ matched true 0 0x86380E43 0x12345013 ∷ []),
         told 17 0x12345012 0x12345012 true true,
+      )
+      ∷ (
+        summary (matched false 1 0x86380E03 0x12345012 ∷ matched false 2 0x86380E03 0x12345113 ∷ matched false 4 0x86380E03 0x12345093 ∷ []),
+        told 17 0x12345012 0x12345192 true true,
+      )
+      ∷ (
+        summary (matched false 1 0x86380E03 0x12345012 ∷ matched false 2 0x86380E03 0x12345113 ∷ matched true 0 0x86380E43 0x12345012 ∷ []),
+        told 17 0x12345012 0x12345112 true true,
       )
       ∷ (summary (pairMatches 0x0C701C 2 example example), told 0 0 0 false false)
       ∷ []

@@ -9,11 +9,13 @@ ghost use Rattle.tables.specs.Matches.{Match};
 ghost use Rattle.groups.specs.Group.{groupOf};
 ghost use Rattle.matches.specs.Search.{groupMatches, pairMatches, agree, placeOf, summary, found, inSecondary, entryOf};
 
-// Whether the second words of two matches agree.
+// Whether the second words of two matches agree: RPN, WIMG and PP are equal. R, C and the ignored bits may differ.
 pub fn words_agree(second: u32, other: u32) -> bool
     ensures { λ r. ⌜ r ≡ agree second other ⌝ }
 {
-    second == other
+    (second >> 12 == other >> 12)
+        & ((second >> 3) & 0xF == (other >> 3) & 0xF)
+        & (second & 3 == other & 3)
 }
 
 // What a search tells of a page's matches: the first one's place (0 for none, else its entry's number and 16, or 24 in the secondary group) and

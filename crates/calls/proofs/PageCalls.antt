@@ -219,9 +219,6 @@ module _ (x : Match) (xs : List Match) (s : Summary) (told : Summarised x xs s) 
   pub contradict-is : contradict x xs ≡ s .differs
   contradict-is = sym (told .differs)
 
-  pub merged-is : merged x xs ≡ s .merged
-  merged-is = sym (told .merged)
-
 -- the place of a free entry, as the definition on tables gives it
 abbrev pub placeOption : Place → Option (Bool × ℕ)
 placeOption (Entry secondary i) = some (secondary, i)
@@ -233,8 +230,11 @@ module _ (k : ℕ) (t : List ℕ) (page : Page) where
   abbrev pub ownGroup : Bool → List ℕ
   ownGroup secondary = groupOf t (groupNumber (10 + k) secondary page)
 
+  abbrev pub pageMatches : List Match
+  pageMatches = pairMatches (page .vsid) (apiOf (page .index)) (ownGroup false) (ownGroup true)
+
   abbrev pub pageSearch : Summary
-  pageSearch = summary (pairMatches (page .vsid) (apiOf (page .index)) (ownGroup false) (ownGroup true))
+  pageSearch = summary pageMatches
 
   pub free-place-is : freePlace (layout k) t page ≡ placeOption (groups.firstFreePlace (ownGroup false) (ownGroup true))
   unfolding freePlace freeEntry groups.firstFreePlace groups.firstFree groups.entryFree firstOf
@@ -317,12 +317,14 @@ module _ (k : ℕ) (t : List ℕ) (page : Page) where
 
     -- unmap and protect of a page that has a match, whose groups lie in the table
     module _ (inside : (b : Bool) → 64 * groupNumber (10 + k) b page + 64 ≤ length t) (f : found s ≡ true) where
-      pub unmap-done : (sdr1 : ℕ) (answer : List ℕ)
-          → bytesDo k (toUnmap sdr1 page answer) t ≡ ended 0 (editedBoth Clear) (wordAnswer 0 (s .merged))
+      pub unmap-done : (sdr1 : ℕ) (answer : List ℕ) (word : ℕ)
+          → ((x : Match) (xs : List Match) → pageMatches ≡ x ∷ xs → s ≡ summary (x ∷ xs) → word ≡ merged x xs)
+          → bytesDo k (toUnmap sdr1 page answer) t ≡ ended 0 (editedBoth Clear) (wordAnswer 0 word)
       unfolding bytesDo edited
-      unmap-done sdr1 answer =
+      unmap-done sdr1 answer word is =
           let m = matched f in
-          rw (edit-is Clear inside, m .are, merged-is (m .x) (m .xs) s (m .told))
+          let own : pageMatches ≡ m .x ∷ m .xs = sym (matches-by-groups k t page) ∙ m .are in
+          rw (edit-is Clear inside, m .are, is (m .x) (m .xs) own (e ∙ ap summary own))
 
       pub protect-done : (sdr1 pp : ℕ) → bytesDo k (toProtect sdr1 page pp) t ≡ ended 0 (editedBoth (Protect pp)) []
       unfolding bytesDo edited

@@ -1,12 +1,13 @@
 // Hash, groups and entries in groups: a page's two groups, the free entry, the entry writer, and the clear of a table.
 ghost use mathlib.Core.Path.{_≡_};
 ghost use mathlib.Core.Bool.{true};
+ghost use mathlib.Core.List.{List};
 ghost use Prim.Native.Nat.{ℕ, _+_, _-_, _*_, _<_, _≤_, _^_};
 ghost use lib.ListN.{length, replicate};
 ghost use Rattle.numbers.specs.Numbers.{groupSize, groupEntries};
 ghost use Rattle.register_words.specs.Sdr1.{sdr1Shape, hashBits};
 ghost use Rattle.groups.specs.Hash.{hashOf, groupsOf, groupAddress};
-ghost use Rattle.groups.specs.Group.{groupOf, firstOf, putEntry, putAt, firstFreePlace};
+ghost use Rattle.groups.specs.Group.{firstOf, putEntry, putAt, firstFree, firstFreePlace};
 
 // The numbers of the two groups of a hash.
 pub struct Groups {
@@ -45,17 +46,30 @@ pub enum Place {
     Full,
 }
 
-// The first free entry in search order. The search ends there.
-pub fn find_free(table: &[u8], primary: usize, secondary: usize) -> Place
-    requires { ⌜ (groupSize * primary + groupSize ≤ length (now table)) × (groupSize * secondary + groupSize ≤ length (now table)) ⌝ }
-    ensures { λ r. ⌜ r ≡ firstFreePlace (groupOf (now (table .entry)) primary) (groupOf (now (table .entry)) secondary) ⌝ }
+// The first entry of a group with V = 0, or 8 where none has.
+pub fn first_free(group: &[u8]) -> usize
+    requires { ⌜ length (now group) ≡ groupSize ⌝ }
+    ensures { λ r. ⌜ r ≡ firstFree (now (group .entry)) ⌝ }
+{
+    let mut i = 0;
+    while numbers::ENTRY_SIZE * i < group.len() {
+        if entry::is_free(words::read_word(group, numbers::ENTRY_SIZE * i)) {
+            return i;
+        }
+        i += 1;
+    }
+    numbers::GROUP_ENTRIES
+}
+
+// The first free entry in search order, by the first of each group (8 where there is none).
+pub fn free_place(primary: usize, secondary: usize) -> Place
+    ensures { λ r. ⌜ ((p s : List ℕ) → primary ≡ firstFree p → secondary ≡ firstFree s → r ≡ firstFreePlace p s) ⌝ }
 {
     let mut found = Place::Full;
     'search: for h in 0..2u32 {
-        let group = if h == 0 { primary } else { secondary };
-        let from = group * numbers::GROUP_SIZE;
+        let free = if h == 0 { primary } else { secondary };
         for entry in 0..numbers::GROUP_ENTRIES {
-            if entry::is_free(words::read_word(table, from + numbers::ENTRY_SIZE * entry)) {
+            if entry == free {
                 found = Place::Entry(h == 1, entry);
                 break 'search;
             }

@@ -2,12 +2,13 @@
 use mathlib.Core.Path.{_≡_, refl, sym, ap, _∙_}
 use mathlib.Core.Logic.{⊎-elim}
 use mathlib.Core.Bool.{Bool, true, false, cond}
-use mathlib.Core.List.{List, [], _∷_, _++_, append-nil, List·Memᴰ, List·Memᴰ·append-cases, List·Memᴰ·eq-of-singleton, List·Memᴰ·not-nil}
+use mathlib.Core.List.{List, [], _∷_, _++_, append-nil, append-assoc, List·Memᴰ, List·Memᴰ·append-cases, List·Memᴰ·eq-of-singleton, List·Memᴰ·not-nil}
 use Prim.Native.Nat.{ℕ, zero, suc, _+_, _^_, _≤_, _<_}
 use native.Mathlib.Numerals.{add-one}
 use native.Mathlib.Omega.{arith}
 use mir.Val.{boolByte}
-use lib.Dec.{eqb, lit<}
+use lib.Dec.{eqb, leb, lit<}
+use borrow.Author.Tests.{leb-true, leb-false}
 use Rattle.words.specs.Words.{swapped}
 use Rattle.entry.specs.Entry.{firstWord, matches, apiOf}
 use Rattle.entry.proofs.Packing.{first-lt}
@@ -16,7 +17,7 @@ use Rattle.tables.specs.Matches.{Match, matchesBelow}
 use Rattle.groups.specs.Page.{Page}
 use Rattle.groups.specs.Hash.{groupNumber}
 use Rattle.groups.specs.Group.{firstAt, secondAt}
-use Rattle.matches.specs.Search.{hOf, groupMatches, pairMatches}
+use Rattle.matches.specs.Search.{hOf, Wanted, groupMatches, pairMatches}
 use Rattle.groups.proofs.Hash.{one-page}
 
 -- entry i of a group, as a match
@@ -42,6 +43,11 @@ word-matches secondary vsid api wanted first same vsid-lt api-lt is told =
     ∙ sym (match-whole vsid h api vsid-lt (h-lt secondary) api-lt first (told .0))
     ∙ ap (λ (g : ℕ). matches vsid g api first) (h-is secondary)
 
+pub wanted-matches : (secondary : Bool) (vsid api wanted first : ℕ) (same : Bool) → Wanted secondary vsid api wanted
+    → (first < 2 ^ 32) × ((w : ℕ) → w < 2 ^ 32 → wanted ≡ swapped w → same ≡ eqb first w) → same ≡ matches vsid (hOf secondary) api first
+wanted-matches secondary vsid api wanted first same is told =
+    word-matches secondary vsid api wanted first same (is .0) (is .1) (is .2 ∙ ap (λ (h : ℕ). swapped (firstWord 1 vsid h api)) (sym (h-is secondary))) told
+
 -- a match is an entry of the group that matches
 pub record IsMatch (secondary : Bool) (vsid api : ℕ) (group : List ℕ) (n : ℕ) (m : Match) : Type 0 where
   pub entry-lt : m .entry < n
@@ -61,6 +67,26 @@ module _ (secondary : Bool) (vsid api : ℕ) (group : List ℕ) where
   pub matches-same : (i : ℕ) → matches vsid (hOf secondary) api (firstAt group i) ≡ false → matchesTo (i + 1) ≡ matchesTo i
   unfolding matchesBelow
   matches-same i e = rw (add-one, e) (append-nil (matchesTo i))
+
+  -- entries more add matches behind those that there are
+  pub matches-extend : (i n : ℕ) → i ≤ n → (rest : List Match) × (matchesTo n ≡ matchesTo i ++ rest)
+  unfolding matchesBelow
+  matches-extend i n l = go n l
+    where
+      here : (m : ℕ) → i ≡ m → (rest : List Match) × (matchesTo m ≡ matchesTo i ++ rest)
+      here m e = ([], ap matchesTo (sym e) ∙ sym (append-nil (matchesTo i)))
+
+      more : (m : ℕ) → i ≤ suc m → (i ≤ m → (rest : List Match) × (matchesTo m ≡ matchesTo i ++ rest)) → (t : Bool) → leb i m ≡ t
+          → (rest : List Match) × (matchesTo (suc m) ≡ matchesTo i ++ rest)
+      more m k before true e =
+          let (rest, is) = before (leb-true i m e) in
+          let last = cond (matches vsid (hOf secondary) api (firstAt group m)) (entryAt secondary group m ∷ []) [] in
+          (rest ++ last, ap (λ (ms : List Match). ms ++ last) is ∙ append-assoc (matchesTo i) rest last)
+      more m k before false e = here (suc m) (omega (arith, k, leb-false i m e))
+
+      go : (m : ℕ) → i ≤ m → (rest : List Match) × (matchesTo m ≡ matchesTo i ++ rest)
+      go zero k = here zero (omega (arith, k))
+      go (suc m) k = more m k (go m) (leb i m) refl
 
   pub match-is : (n : ℕ) (m : Match) → List·Memᴰ m (matchesTo n) → IsMatch secondary vsid api group n m
   unfolding matchesBelow

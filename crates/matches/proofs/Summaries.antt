@@ -10,7 +10,7 @@ use Rattle.entry.specs.Entry.{referenced, changed, withMarks}
 use Rattle.entry.proofs.Marks.{marks-referenced, marks-changed, marks-own, marks-again}
 use Rattle.tables.specs.Matches.{Match}
 use Rattle.matches.proofs.Agreement.{agree-alike}
-use Rattle.matches.specs.Search.{agree, anyMatch, contradict, merged, each, placeOf, summary, found, inSecondary, entryOf}
+use Rattle.matches.specs.Search.{agree, anyMatch, contradict, marksOf, merged, each, placeOf, onlyPlace, summary, found, inSecondary, entryOf}
 use Rattle.matches.specs.declared.Summary.{Summary}
 
 or-true : (b : Bool) → b || true ≡ true
@@ -66,21 +66,29 @@ pub merged-changed : (m : Match) (ms : List Match) → changed (merged m ms) ≡
 unfolding merged
 merged-changed m ms = marks-changed _ _ (m .second) ∙ any-own isChanged m ms
 
--- ---- one list after the other: the first keeps its place and second word, and the others' marks are merged in
+-- the marks of two lists, one after the other
+pub marks-append : (ms ns : List Match) (second : ℕ) → marksOf (ms ++ ns) second ≡ marksOf ns (marksOf ms second)
+marks-append ms ns second =
+    ap₂ (λ (r c : Bool). withMarks r c second) (either isReferenced) (either isChanged)
+    ∙ sym (marks-again (anyMatch isReferenced ns) (anyMatch isChanged ns) (anyMatch isReferenced ms) (anyMatch isChanged ms) second)
+  where
+    either : (test : Match → Bool) → anyMatch test (ms ++ ns) ≡ (anyMatch test ns || anyMatch test ms)
+    either test = any-append test ms ns ∙ or-swap (anyMatch test ms) (anyMatch test ns)
+
+pub marks-none : (second : ℕ) → marksOf [] second ≡ second
+unfolding withMarks
+marks-none second = refl
+
+-- one match more
+pub marks-more : (ms : List Match) (m : Match) (word merged second : ℕ) (r c : Bool) → merged ≡ marksOf ms word → second ≡ m .second → r ≡ referenced second
+    → c ≡ changed second → withMarks r c merged ≡ marksOf (ms ++ m ∷ []) word
+marks-more ms m word merged second r c is own e f =
+    rw (is, e, f, own)
+    (sym (marks-append ms (m ∷ []) word ∙ ap₂ (λ (a b : Bool). withMarks a b (marksOf ms word)) (or-false (isReferenced m)) (or-false (isChanged m))))
+
+-- ---- one list after the other: the first keeps its place and second word
 
 module _ (m : Match) (ms : List Match) (n : Match) (ns : List Match) where
-  merged-both : merged m (ms ++ n ∷ ns) ≡ withMarks (anyMatch isReferenced (n ∷ ns)) (anyMatch isChanged (n ∷ ns)) (merged m ms)
-  unfolding merged
-  merged-both =
-      ap₂ (λ (a b : Bool). withMarks a b (m .second)) (either isReferenced) (either isChanged)
-      ∙ sym (marks-again (anyMatch isReferenced (n ∷ ns)) (anyMatch isChanged (n ∷ ns)) (anyMatch isReferenced (m ∷ ms)) (anyMatch isChanged (m ∷ ms)) (m .second))
-    where
-      either : (test : Match → Bool) → anyMatch test (m ∷ ms ++ n ∷ ns) ≡ (anyMatch test (n ∷ ns) || anyMatch test (m ∷ ms))
-      either test = any-append test (m ∷ ms) (n ∷ ns) ∙ or-swap (anyMatch test (m ∷ ms)) (anyMatch test (n ∷ ns))
-
-  pub merged-append : merged m (ms ++ n ∷ ns) ≡ withMarks (referenced (merged n ns)) (changed (merged n ns)) (merged m ms)
-  merged-append = rw (merged-referenced n ns, merged-changed n ns) merged-both
-
   -- the others agree with the second list's first as they do with the first list's, where these two agree
   pub contradict-append : contradict m (ms ++ n ∷ ns) ≡ ((contradict m ms || contradict n ns) || disagrees (m .second) n)
   unfolding contradict
@@ -108,27 +116,25 @@ summary-none = refl
 pub record Summarised (m : Match) (ms : List Match) (r : Summary) : Type 0 where
   pub place : r .place ≡ placeOf m
   pub second : r .second ≡ m .second
-  pub merged : r .merged ≡ merged m ms
   pub several : r .several ≡ anyMatch each ms
   pub differs : r .differs ≡ contradict m ms
 
 pub summarised : (m : Match) (ms : List Match) → Summarised m ms (summary (m ∷ ms))
 unfolding summary
-summarised m ms = record { place = refl; second = refl; merged = refl; several = refl; differs = refl }
+summarised m ms = record { place = refl; second = refl; several = refl; differs = refl }
 
 -- of two lists that both have a match
 summary-append : (m : Match) (ms : List Match) (n : Match) (ns : List Match) → summary (m ∷ ms ++ n ∷ ns) ≡ record {
   place = summary (m ∷ ms) .place;
   second = summary (m ∷ ms) .second;
-  merged = withMarks (referenced (summary (n ∷ ns) .merged)) (changed (summary (n ∷ ns) .merged)) (summary (m ∷ ms) .merged);
   several = true;
   differs = (summary (m ∷ ms) .differs || summary (n ∷ ns) .differs) || not (agree (summary (m ∷ ms) .second) (summary (n ∷ ns) .second));
 }
 unfolding summary
-summary-append m ms n ns = rw (merged-append m ms n ns, several-append ms n ns, contradict-append m ms n ns)
+summary-append m ms n ns = rw (several-append ms n ns, contradict-append m ms n ns)
 
 -- the place of a match is not 0, and 0 is that of none
-no-place : (m : Match) → placeOf m ≡ 0 → ⊥
+pub no-place : (m : Match) → placeOf m ≡ 0 → ⊥
 no-place m z = go (m .secondary) z
   where
     go : (b : Bool) → cond b 24 16 + m .entry ≡ 0 → ⊥
@@ -143,6 +149,14 @@ pub place-found : (s : Summary) (m : Match) → s .place ≡ placeOf m → found
 unfolding found
 place-found s m e = rw (e, ne-eqb (placeOf m) 0 (no-place m))
 
+-- a place tells the entry's number
+pub place-number : (m : Match) → m .entry < 8 → placeOf m % 8 ≡ m .entry
+place-number m l = go (m .secondary)
+  where
+    go : (b : Bool) → (cond b 24 16 + m .entry) % 8 ≡ m .entry
+    go true = omega (arith, l)
+    go false = omega (arith, l)
+
 -- the place tells the group and the entry's number
 module _ (s : Summary) (m : Match) (e : s .place ≡ placeOf m) (l : m .entry < 8) where
   pub place-secondary : inSecondary s ≡ m .secondary
@@ -155,20 +169,16 @@ module _ (s : Summary) (m : Match) (e : s .place ≡ placeOf m) (l : m .entry < 
 
   pub place-entry : entryOf s ≡ m .entry
   unfolding entryOf
-  place-entry = rw e (go (m .secondary))
-    where
-      go : (b : Bool) → (cond b 24 16 + m .entry) % 8 ≡ m .entry
-      go true = omega arith
-      go false = omega arith
+  place-entry = rw e (place-number m l)
 
 -- one match alone: its marks merged are its own
 pub merged-one : (m : Match) → merged m [] ≡ m .second
 unfolding merged
 merged-one m = ap₂ (λ (r c : Bool). withMarks r c (m .second)) (or-false (isReferenced m)) (or-false (isChanged m)) ∙ marks-own (m .second)
 
-pub summary-one : (m : Match) → summary (m ∷ []) ≡ record { place = placeOf m; second = m .second; merged = m .second; several = false; differs = false }
+pub summary-one : (m : Match) → summary (m ∷ []) ≡ record { place = placeOf m; second = m .second; several = false; differs = false }
 unfolding summary contradict
-summary-one m = rw (merged-one m)
+summary-one m = refl
 
 -- ---- two searches, one after the other
 
@@ -192,7 +202,6 @@ module _ (s r : Summary) (ms ns : List Match) (e : s ≡ summary ms) (f : r ≡ 
   joined = record {
     place = s .place;
     second = s .second;
-    merged = withMarks (referenced (r .merged)) (changed (r .merged)) (s .merged);
     several = true;
     differs = (s .differs || r .differs) || not (agree (s .second) (r .second));
   }
@@ -204,6 +213,27 @@ module _ (s r : Summary) (ms ns : List Match) (e : s ≡ summary ms) (f : r ≡ 
       go [] k u v = absurd (p (ap (λ (x : Summary). x .place) u ∙ nowhere))
       go (m ∷ l) [] u v = absurd (q (ap (λ (x : Summary). x .place) v ∙ nowhere))
       go (m ∷ l) (n ∷ k) u v = rw (u, v) (sym (summary-append m l n k))
+
+-- ---- the place of the only match
+
+pub only-none : (ms : List Match) → onlyPlace ms ≡ 0 → ms ≡ []
+only-none [] e = refl
+only-none (m ∷ []) e = absurd (no-place m e)
+only-none (m ∷ n ∷ ms) e = absurd (omega (arith, e))
+
+-- what a search tells of none or one
+pub only-told : (ms : List Match) (place second : ℕ) → place ≡ onlyPlace ms → (place ≡ 1 → ⊥) → (ms ≡ [] → second ≡ 0)
+    → ((m : Match) → ms ≡ m ∷ [] → second ≡ m .second) → record { place = place; second = second; several = false; differs = false } ≡ summary ms
+unfolding summary contradict
+only-told [] place second e single none own = rw (e, none refl)
+only-told (m ∷ []) place second e single none own = rw (e, own m refl)
+only-told (m ∷ n ∷ ms) place second e single none own = absurd (single e)
+
+-- one match more, where there is one already
+pub only-several : (ms : List Match) (x : Match) (rest : List Match) → (onlyPlace ms ≡ 0 → ⊥) → onlyPlace ((ms ++ x ∷ []) ++ rest) ≡ 1
+only-several [] x rest some = absurd (some refl)
+only-several (m ∷ []) x rest some = refl
+only-several (m ∷ n ∷ ms) x rest some = refl
 
 -- a match without a further one is alone
 pub alone : (ms : List Match) → anyMatch each ms ≡ false → ms ≡ []

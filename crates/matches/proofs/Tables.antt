@@ -9,6 +9,8 @@ matches-tables = record {
   all-found = record { equal = refl };
   agreement = record { equal = refl };
   summaries = record { equal = refl };
+  merged-words = record { equal = refl };
+  group-searches = record { equal = refl };
   told-places = record { equal = refl };
   told-entries = record { equal = refl };
 }

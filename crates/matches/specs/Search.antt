@@ -1,17 +1,25 @@
 -- The search for a page's matches (rules 4), and what one pass over them tells.
-use Prim.Native.Nat.{ℕ, _+_, _%_}
+use Prim.Native.Nat.{ℕ, _+_, _%_, _^_, _<_}
+use mathlib.Core.Path.{_≡_}
 use mathlib.Core.Bool.{Bool, true, false, cond, not, _&&_, _||_}
 use mathlib.Core.List.{List, [], _∷_, _++_, foldr}
 use lib.Dec.{eqb, leb}
 use Rattle.numbers.specs.Numbers.{groupEntries}
-use Rattle.entry.specs.Entry.{matches, rpnOf, wimgOf, ppOf, referenced, changed, withMarks}
+use Rattle.words.specs.Words.{swapped}
+use Rattle.entry.specs.Entry.{firstWord, matches, rpnOf, wimgOf, ppOf, referenced, changed, withMarks}
 use Rattle.tables.specs.Matches.{Match, matchesBelow}
-use Rattle.groups.specs.Group.{firstAt, secondAt}
+use Rattle.groups.specs.Group.{firstAt, secondAt, firstFree}
 use Rattle.matches.specs.declared.Summary.{Summary}
+use Rattle.matches.specs.declared.GroupSearch.{GroupSearch}
+use Rattle.matches.specs.declared.PairSearch.{PairSearch}
 
 -- H of an entry: 0 in the primary group (false), 1 in the secondary (true)
 abbrev pub hOf : Bool → ℕ
 hOf secondary = cond secondary 1 0
+
+-- the word that the first words of a group's entries are compared with: V = 1, VSID, H and API packed, its bytes reversed as the machine reads them
+abbrev pub Wanted : Bool → ℕ → ℕ → ℕ → Type 0
+Wanted secondary vsid api wanted = (vsid < 2 ^ 24) × (api < 2 ^ 6) × (wanted ≡ swapped (firstWord 1 vsid (hOf secondary) api))
 
 -- the matches in the 64 bytes of a page's primary (false) or secondary (true) group, in order
 unfoldable pub groupMatches : Bool → ℕ → ℕ → List ℕ → List Match
@@ -33,9 +41,13 @@ anyMatch test ms = foldr (λ m others. test m || others) false ms
 unfoldable pub contradict : Match → List Match → Bool
 contradict m ms = anyMatch (λ x. not (agree (m .second) (x .second))) ms
 
+-- a second word with R and C each set if any match of a list has it
+abbrev pub marksOf : List Match → ℕ → ℕ
+marksOf ms second = withMarks (anyMatch (λ x. referenced (x .second)) ms) (anyMatch (λ x. changed (x .second)) ms) second
+
 -- the first match's second word, with R and C each set if any match had it
 unfoldable pub merged : Match → List Match → ℕ
-merged m ms = withMarks (anyMatch (λ x. referenced (x .second)) (m ∷ ms)) (anyMatch (λ x. changed (x .second)) (m ∷ ms)) (m .second)
+merged m ms = marksOf (m ∷ ms) (m .second)
 
 -- every match passes
 abbrev pub each : Match → Bool
@@ -45,17 +57,25 @@ each m = true
 abbrev pub placeOf : Match → ℕ
 placeOf m = cond (m .secondary) 24 16 + m .entry
 
--- what the search tells of the matches of a list: the first one's place and second word, that word merged with the others' marks, whether there
--- are others, and whether they contradict
+-- what the search tells of the matches of a list: the first one's place and second word, whether there are others, and whether they contradict
 unfoldable pub summary : List Match → Summary
-summary [] = record { place = 0; second = 0; merged = 0; several = false; differs = false }
-summary (m ∷ ms) = record {
-  place = placeOf m;
-  second = m .second;
-  merged = merged m ms;
-  several = anyMatch each ms;
-  differs = contradict m ms;
-}
+summary [] = record { place = 0; second = 0; several = false; differs = false }
+summary (m ∷ ms) = record { place = placeOf m; second = m .second; several = anyMatch each ms; differs = contradict m ms }
+
+-- what the search of one group tells, for any 64 bytes, H, VSID and API: the matches, and the first entry with V = 0, or 8 where none has
+unfoldable pub groupSearch : Bool → ℕ → ℕ → List ℕ → GroupSearch
+groupSearch secondary vsid api group = record { matches = summary (groupMatches secondary vsid api group); free = firstFree group }
+
+-- what the search of both groups tells: the matches in search order, and the first entry with V = 0 of each
+unfoldable pub pairSearch : ℕ → ℕ → List ℕ → List ℕ → PairSearch
+pairSearch vsid api primary secondary =
+    record { matches = summary (pairMatches vsid api primary secondary); primary = firstFree primary; secondary = firstFree secondary }
+
+-- the place of the only match of a list: 0 where there is none, and 1, which is no place, where there are several
+abbrev pub onlyPlace : List Match → ℕ
+onlyPlace [] = 0
+onlyPlace (m ∷ []) = placeOf m
+onlyPlace (m ∷ n ∷ ms) = 1
 
 -- whether a search found a match, whether the first is in the secondary group, and its entry's number
 unfoldable pub found : Summary → Bool

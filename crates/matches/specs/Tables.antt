@@ -7,16 +7,21 @@ use lib.Bits.{bitXor}
 use lib.ListN.{replicate}
 use Rattle.words.specs.Rows.{Hold, eachBit}
 use Rattle.tables.specs.Matches.{Match}
-use Rattle.groups.specs.Tables.{mixed, example, full}
-use Rattle.matches.specs.Search.{groupMatches, pairMatches, agree, summary, found, inSecondary, entryOf}
+use Rattle.groups.specs.Tables.{mixed, example, full, last}
+use Rattle.matches.specs.Search.{groupMatches, pairMatches, agree, merged, summary, groupSearch, found, inSecondary, entryOf}
 use Rattle.matches.specs.declared.Summary.{Summary}
+use Rattle.matches.specs.declared.GroupSearch.{GroupSearch}
 
 abbrev pub matched : Bool → ℕ → ℕ → ℕ → Match
 matched secondary entry first second = record { secondary = secondary; entry = entry; first = first; second = second }
 
--- what a search tells: place and second word of the first match, that word merged, whether there is a further match, whether one contradicts
-abbrev pub told : ℕ → ℕ → ℕ → Bool → Bool → Summary
-told place second merged several differs = record { place = place; second = second; merged = merged; several = several; differs = differs }
+-- what a search tells: place and second word of the first match, whether there is a further match, whether one contradicts
+abbrev pub told : ℕ → ℕ → Bool → Bool → Summary
+told place second several differs = record { place = place; second = second; several = several; differs = differs }
+
+-- what the search of one group tells, with its first free entry
+abbrev pub toldWith : Summary → ℕ → GroupSearch
+toldWith found free = record { matches = found; free = free }
 
 -- the bits in which second words that agree may differ: the ignored ones and the marks, bits 20 to 24, and bit 29
 abbrev pub mayDiffer : List Bool
@@ -48,35 +53,58 @@ pub record MatchesTables : Type 0 where
   -- the first match in search order, its second word with R and C of any, a further one, and whether they contradict: by RPN, WIMG or PP, in one
   -- group or across both, the second or a third; not by R, C or an ignored bit
   pub summaries : Hold (
-      (summary (pairMatches 0x0C701C 3 example example), told 17 0x12345E96 0x12345F96 true false)
-      ∷ (summary (pairMatches 0x0C701C 3 (mixed 0x86380E03 0x12345112 0 0 0 0) example), told 17 0x12345112 0x12345112 true false)
-      ∷ (summary (pairMatches 0x0C701C 3 (mixed 0x86380E03 0x12345011 0 0 0 0) example), told 17 0x12345011 0x12345011 true true)
-      ∷ (summary (pairMatches 0x0C701C 3 full example), told 24 0x12345012 0x12345012 false false)
-      ∷ (summary (matched false 1 0x86380E03 0x12345E96 ∷ matched false 3 0x86380E03 0x12345E96 ∷ []), told 17 0x12345E96 0x12345E96 true false)
-      ∷ (summary (matched false 6 0x86380E03 0x12345112 ∷ matched true 0 0x86380E43 0x12344012 ∷ []), told 22 0x12345112 0x12345112 true true)
-      ∷ (summary (matched true 0 0x86380E43 0x12345012 ∷ matched true 6 0x86380E43 0x12345E9E ∷ []), told 24 0x12345012 0x12345092 true true)
+      (summary (pairMatches 0x0C701C 3 example example), told 17 0x12345E96 true false)
+      ∷ (summary (pairMatches 0x0C701C 3 (mixed 0x86380E03 0x12345112 0 0 0 0) example), told 17 0x12345112 true false)
+      ∷ (summary (pairMatches 0x0C701C 3 (mixed 0x86380E03 0x12345011 0 0 0 0) example), told 17 0x12345011 true true)
+      ∷ (summary (pairMatches 0x0C701C 3 full example), told 24 0x12345012 false false)
+      ∷ (summary (matched false 1 0x86380E03 0x12345E96 ∷ matched false 3 0x86380E03 0x12345E96 ∷ []), told 17 0x12345E96 true false)
+      ∷ (summary (matched false 6 0x86380E03 0x12345112 ∷ matched true 0 0x86380E43 0x12344012 ∷ []), told 22 0x12345112 true true)
+      ∷ (summary (matched true 0 0x86380E43 0x12345012 ∷ matched true 6 0x86380E43 0x12345E9E ∷ []), told 24 0x12345012 true true)
       ∷ (
         summary (matched false 1 0x86380E03 0x12345012 ∷ matched false 2 0x86380E03 0x12345016 ∷ matched true 0 0x86380E43 0x12345013 ∷ []),
-        told 17 0x12345012 0x12345012 true true,
+        told 17 0x12345012 true true,
       )
       ∷ (
         summary (matched false 1 0x86380E03 0x12345012 ∷ matched false 2 0x86380E03 0x12345113 ∷ matched false 4 0x86380E03 0x12345093 ∷ []),
-        told 17 0x12345012 0x12345192 true true,
+        told 17 0x12345012 true true,
       )
       ∷ (
         summary (matched false 1 0x86380E03 0x12345012 ∷ matched false 2 0x86380E03 0x12345113 ∷ matched true 0 0x86380E43 0x12345012 ∷ []),
-        told 17 0x12345012 0x12345112 true true,
+        told 17 0x12345012 true true,
       )
-      ∷ (summary (pairMatches 0x0C701C 2 example example), told 0 0 0 false false)
+      ∷ (summary (pairMatches 0x0C701C 2 example example), told 0 0 false false)
+      ∷ []
+      )
+  -- the first's second word with R and C of any
+  pub merged-words : Hold (
+      (merged (matched false 1 0x86380E03 0x12345E96) (matched false 6 0x86380E03 0x12345112 ∷ []), 0x12345F96)
+      ∷ (merged (matched true 0 0x86380E43 0x12345012) (matched true 6 0x86380E43 0x12345E9E ∷ []), 0x12345092)
+      ∷ (merged (matched false 1 0x86380E03 0x12345012) (matched false 2 0x86380E03 0x12345113 ∷ matched true 0 0x86380E43 0x12345093 ∷ []), 0x12345192)
+      ∷ (merged (matched false 1 0x86380E03 0x12345012) [], 0x12345012)
+      ∷ []
+      )
+  -- the search of one group: a match behind free entries is seen, and the first entry with V = 0 is told, wherever the matches stand; 8 where there
+  -- is none
+  pub group-searches : Hold (
+      (groupSearch false 0x0C701C 3 example, toldWith (told 17 0x12345E96 true false) 2)
+      ∷ (groupSearch true 0x0C701C 3 example, toldWith (told 24 0x12345012 false false) 2)
+      ∷ (groupSearch true 0xFFFFFF 63 example, toldWith (told 31 0xFFFFFFFF false false) 2)
+      ∷ (groupSearch false 0x0C701C 3 (mixed 0 0 0 0 0x86380E03 0x12345112), toldWith (told 22 0x12345112 false false) 1)
+      ∷ (groupSearch false 0x0C701C 3 (mixed 0x86380E03 0x12345012 0 0 0x86380E03 0x12345011), toldWith (told 17 0x12345012 true true) 2)
+      ∷ (groupSearch false 0x0C701C 2 example, toldWith (told 0 0 false false) 2)
+      ∷ (groupSearch false 0xFFFFFF 63 full, toldWith (told 0 0 false false) 8)
+      ∷ (groupSearch true 0xFFFFFF 63 full, toldWith (told 24 0xFFFFFFFF true false) 8)
+      ∷ (groupSearch true 0xFFFFFF 63 last, toldWith (told 24 0xFFFFFFFF true false) 7)
+      ∷ (groupSearch false 0 0 (replicate 64 0), toldWith (told 0 0 false false) 0)
       ∷ []
       )
   -- what a place tells: a match, its group, its entry's number
   pub told-places : Hold (
-      (map (λ place. found (told place 0 0 false false)) (0 ∷ 16 ∷ 23 ∷ 24 ∷ 31 ∷ []), false ∷ true ∷ true ∷ true ∷ true ∷ [])
-      ∷ (map (λ place. inSecondary (told place 0 0 false false)) (0 ∷ 16 ∷ 23 ∷ 24 ∷ 31 ∷ []), false ∷ false ∷ false ∷ true ∷ true ∷ [])
+      (map (λ place. found (told place 0 false false)) (0 ∷ 16 ∷ 23 ∷ 24 ∷ 31 ∷ []), false ∷ true ∷ true ∷ true ∷ true ∷ [])
+      ∷ (map (λ place. inSecondary (told place 0 false false)) (0 ∷ 16 ∷ 23 ∷ 24 ∷ 31 ∷ []), false ∷ false ∷ false ∷ true ∷ true ∷ [])
       ∷ []
       )
   pub told-entries : Hold (
-      (map (λ place. entryOf (told place 0 0 false false)) (16 ∷ 17 ∷ 20 ∷ 23 ∷ 24 ∷ 25 ∷ 28 ∷ 31 ∷ []), 0 ∷ 1 ∷ 4 ∷ 7 ∷ 0 ∷ 1 ∷ 4 ∷ 7 ∷ [])
+      (map (λ place. entryOf (told place 0 false false)) (16 ∷ 17 ∷ 20 ∷ 23 ∷ 24 ∷ 25 ∷ 28 ∷ 31 ∷ []), 0 ∷ 1 ∷ 4 ∷ 7 ∷ 0 ∷ 1 ∷ 4 ∷ 7 ∷ [])
       ∷ []
       )

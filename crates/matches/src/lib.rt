@@ -1,13 +1,13 @@
-// The matches of a page in its two groups: the search for them, and what one pass tells.
+// The matches of a page in its two groups: the search of one group, which tells all that a call asks of it, and what two of them come to.
 ghost use mathlib.Core.Path.{_≡_};
 ghost use mathlib.Core.Bool.{true, false};
 ghost use mathlib.Core.List.{List, [], _∷_, _++_};
-ghost use Prim.Native.Nat.{_+_, _*_, _<_, _≤_, _^_};
+ghost use Prim.Native.Nat.{ℕ, _+_, _*_, _<_, _≤_, _^_};
 ghost use lib.ListN.{length};
 ghost use Rattle.numbers.specs.Numbers.{groupSize};
 ghost use Rattle.tables.specs.Matches.{Match};
 ghost use Rattle.groups.specs.Group.{groupOf};
-ghost use Rattle.matches.specs.Search.{groupMatches, pairMatches, agree, placeOf, summary, found, inSecondary, entryOf};
+ghost use Rattle.matches.specs.Search.{Wanted, groupMatches, pairMatches, agree, marksOf, merged, placeOf, onlyPlace, summary, groupSearch, pairSearch, found, inSecondary, entryOf};
 
 // Whether the second words of two matches agree: RPN, WIMG and PP are equal. R, C and the ignored bits may differ.
 pub fn words_agree(second: u32, other: u32) -> bool
@@ -19,11 +19,10 @@ pub fn words_agree(second: u32, other: u32) -> bool
 }
 
 // What a search tells of a page's matches: the first one's place (0 for none, else its entry's number and 16, or 24 in the secondary group) and
-// second word, that word merged with the marks of the others, whether there are others, and whether an other's second word does not agree.
+// second word, whether there are others, and whether an other's second word does not agree.
 pub struct Summary {
     pub place: usize,
     pub second: u32,
-    pub merged: u32,
     pub several: bool,
     pub differs: bool,
 }
@@ -36,7 +35,6 @@ impl Summary {
         Self {
             place: 0,
             second: 0,
-            merged: 0,
             several: false,
             differs: false,
         }
@@ -49,7 +47,6 @@ impl Summary {
         Self {
             place,
             second,
-            merged: second,
             several: false,
             differs: false,
         }
@@ -86,33 +83,98 @@ impl Summary {
         if further.place == 0 {
             return self;
         }
-        let r = entry::is_referenced(further.merged);
-        let c = entry::is_changed(further.merged);
         Self {
             place: self.place,
             second: self.second,
-            merged: entry::with_marks(self.merged, r, c),
             several: true,
             differs: self.differs | further.differs | !words_agree(self.second, further.second),
         }
     }
 }
 
-// The matches of one group: the primary with H = 0, the secondary with H = 1.
-pub fn search_group(group: &[u8], secondary: bool, vsid: u32, api: u32) -> Summary
-    requires { ⌜ (length (now group) ≡ groupSize) × (vsid < 2 ^ 24) × (api < 2 ^ 6) ⌝ }
-    ensures { λ r. ⌜ r ≡ summary (groupMatches secondary vsid api (now (group .entry))) ⌝ }
+// What the search of one group tells: its matches, and its first entry with V = 0 (8 where none has).
+pub struct GroupSearch {
+    pub matches: Summary,
+    pub free: usize,
+}
+
+// Stands for a place where a group has several matches.
+const SEVERAL: usize = 1;
+
+// The place of a group's only match: 0 where it has none, and SEVERAL where it has more than one.
+fn only_place(group: &[u8], secondary: bool, wanted: u32) -> usize
+    requires { ⌜ length (now group) ≡ groupSize ⌝ }
+    ensures { λ r. ⌜ ((vsid api : ℕ) → Wanted secondary vsid api wanted → r ≡ onlyPlace (groupMatches secondary vsid api (now (group .entry)))) ⌝ }
 {
-    let wanted = entry::match_word(vsid, secondary as u32, api);
     let start = if secondary { 24 } else { 16 };
-    let mut search = Summary::nothing();
+    let mut place = 0;
+    let mut i = 0;
+    while numbers::ENTRY_SIZE * i < group.len() {
+        if words::is_word(group, numbers::ENTRY_SIZE * i, wanted) {
+            if place != 0 {
+                return SEVERAL;
+            }
+            place = start + i;
+        }
+        i += 1;
+    }
+    place
+}
+
+// The matches of a group that has several, and a word with R and C each set if any of them has it.
+pub struct Duplicates {
+    pub matches: Summary,
+    pub merged: u32,
+}
+
+// Every match of one group, and the word with their marks.
+fn every_match(group: &[u8], secondary: bool, wanted: u32, word: u32) -> Duplicates
+    requires { ⌜ length (now group) ≡ groupSize ⌝ }
+    ensures { λ r. ⌜ ((vsid api : ℕ) → Wanted secondary vsid api wanted
+        → (r .matches ≡ summary (groupMatches secondary vsid api (now (group .entry))))
+        × (r .merged ≡ marksOf (groupMatches secondary vsid api (now (group .entry))) word)) ⌝ }
+{
+    let start = if secondary { 24 } else { 16 };
+    let mut matches = Summary::nothing();
+    let mut merged = word;
     for i in 0..numbers::GROUP_ENTRIES {
         if words::is_word(group, numbers::ENTRY_SIZE * i, wanted) {
             let second = words::read_word(group, numbers::ENTRY_SIZE * i + 4);
-            search = search.then(Summary::one(start + i, second));
+            matches = matches.then(Summary::one(start + i, second));
+            let r = entry::is_referenced(second);
+            let c = entry::is_changed(second);
+            merged = entry::with_marks(merged, r, c);
         }
     }
-    search
+    Duplicates { matches, merged }
+}
+
+// The search of one group, the primary with H = 0 or the secondary with H = 1: all that a call asks of it.
+pub fn search_group(group: &[u8], secondary: bool, wanted: u32) -> GroupSearch
+    requires { ⌜ length (now group) ≡ groupSize ⌝ }
+    ensures { λ r. ⌜ ((vsid api : ℕ) → Wanted secondary vsid api wanted → r ≡ groupSearch secondary vsid api (now (group .entry))) ⌝ }
+{
+    let free = groups::first_free(group);
+    let place = only_place(group, secondary, wanted);
+    if place == SEVERAL {
+        let duplicates = every_match(group, secondary, wanted, 0);
+        let matches = duplicates.matches;
+        return GroupSearch { matches, free };
+    }
+    let second = if place == 0 {
+        0
+    } else {
+        words::read_word(group, numbers::ENTRY_SIZE * (place % 8) + 4)
+    };
+    GroupSearch {
+        matches: Summary {
+            place,
+            second,
+            several: false,
+            differs: false,
+        },
+        free,
+    }
 }
 
 // The matches of both groups, in search order.
@@ -122,8 +184,71 @@ pub fn search_both(table: &[u8], primary: usize, secondary: usize, vsid: u32, ap
 {
     let from = primary * numbers::GROUP_SIZE;
     let to = from + numbers::GROUP_SIZE;
-    let first = search_group(&table[from..to], false, vsid, api);
+    let first = search_group(&table[from..to], false, entry::match_word(vsid, 0, api));
     let next = secondary * numbers::GROUP_SIZE;
     let end = next + numbers::GROUP_SIZE;
-    first.then(search_group(&table[next..end], true, vsid, api))
+    let other = search_group(&table[next..end], true, entry::match_word(vsid, 1, api));
+    let further = other.matches;
+    let matches = first.matches;
+    matches.then(further)
+}
+
+// What the search of both groups tells that looks for a free entry too: the matches, and the first entry with V = 0 of each group.
+pub struct PairSearch {
+    pub matches: Summary,
+    pub primary: usize,
+    pub secondary: usize,
+}
+
+// The matches of both groups, in search order, and the first free entry of each.
+pub fn search_places(
+    table: &[u8],
+    primary: usize,
+    secondary: usize,
+    vsid: u32,
+    api: u32,
+) -> PairSearch
+    requires { ⌜ (groupSize * primary + groupSize ≤ length (now table)) × (groupSize * secondary + groupSize ≤ length (now table)) × (vsid < 2 ^ 24) × (api < 2 ^ 6) ⌝ }
+    ensures { λ r. ⌜ r ≡ pairSearch vsid api (groupOf (now (table .entry)) primary) (groupOf (now (table .entry)) secondary) ⌝ }
+{
+    let from = primary * numbers::GROUP_SIZE;
+    let to = from + numbers::GROUP_SIZE;
+    let first = search_group(&table[from..to], false, entry::match_word(vsid, 0, api));
+    let next = secondary * numbers::GROUP_SIZE;
+    let end = next + numbers::GROUP_SIZE;
+    let other = search_group(&table[next..end], true, entry::match_word(vsid, 1, api));
+    let further = other.matches;
+    let matches = first.matches;
+    PairSearch {
+        matches: matches.then(further),
+        primary: first.free,
+        secondary: other.free,
+    }
+}
+
+// The second word of a page's first match, with R and C each set if any match that the search found has it.
+pub fn merged_word(
+    table: &[u8],
+    primary: usize,
+    secondary: usize,
+    vsid: u32,
+    api: u32,
+    search: Summary,
+) -> u32
+    requires { ⌜ (groupSize * primary + groupSize ≤ length (now table)) × (groupSize * secondary + groupSize ≤ length (now table)) × (vsid < 2 ^ 24) × (api < 2 ^ 6) ⌝ }
+    ensures { λ r. ⌜ ((m : Match) (ms : List Match) → pairMatches vsid api (groupOf (now (table .entry)) primary) (groupOf (now (table .entry)) secondary) ≡ m ∷ ms
+        → search ≡ summary (m ∷ ms) → r ≡ merged m ms) ⌝ }
+{
+    if !search.several {
+        return search.second;
+    }
+    let from = primary * numbers::GROUP_SIZE;
+    let to = from + numbers::GROUP_SIZE;
+    let wanted = entry::match_word(vsid, 0, api);
+    let first = every_match(&table[from..to], false, wanted, search.second);
+    let next = secondary * numbers::GROUP_SIZE;
+    let end = next + numbers::GROUP_SIZE;
+    let further = entry::match_word(vsid, 1, api);
+    let other = every_match(&table[next..end], true, further, first.merged);
+    other.merged
 }

@@ -80,11 +80,12 @@ pub fn map_page(
         ≡ bytesDo (maskOnes sdr1) (mapPage (record { sdr1 = sdr1; page = record { vsid = vsid; index = index }; rpn = rpn; wimg = wimg; pp = pp })) (now (table .entry)) ⌝ }
 {
     let at = locate(sdr1, vsid, index);
-    let search = matches::search_both(table, at.primary, at.secondary, vsid, at.api);
-    if search.found() {
+    let search = matches::search_places(table, at.primary, at.secondary, vsid, at.api);
+    let matches = search.matches;
+    if matches.found() {
         return numbers::REFUSED_MAPPED;
     }
-    match groups::find_free(table, at.primary, at.secondary) {
+    match groups::free_place(search.primary, search.secondary) {
         groups::Place::Entry(secondary, entry) => {
             let first = entry::first_word(1, vsid, secondary as u32, at.api);
             let second = entry::second_word(rpn, 0, 0, wimg, pp);
@@ -109,6 +110,7 @@ pub fn unmap_page(sdr1: u32, vsid: u32, index: u32, table: &mut [u8]) -> WordAns
             word: 0,
         };
     }
+    let word = matches::merged_word(table, at.primary, at.secondary, vsid, at.api, search);
     edits::edit_found(
         table,
         at.primary,
@@ -120,7 +122,7 @@ pub fn unmap_page(sdr1: u32, vsid: u32, index: u32, table: &mut [u8]) -> WordAns
     );
     WordAnswer {
         result: numbers::DONE,
-        word: search.merged,
+        word,
     }
 }
 

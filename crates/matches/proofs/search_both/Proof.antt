@@ -4,7 +4,8 @@ use mathlib.Core.Path.{ap, _∙_}
 use mathlib.Core.Bool.{true, false}
 use mathlib.Core.List.{List}
 use Rattle.groups.specs.Group.{groupOf}
-use Rattle.matches.specs.Search.{groupMatches, pairMatches, summary}
+use Rattle.matches.specs.Search.{groupMatches, pairMatches, groupSearch}
+use Rattle.matches.specs.declared.GroupSearch.{GroupSearch}
 use Rattle.groups.proofs.Lent.{lent-group}
 use borrow.Author.Needs.{needs}
 use Rattle.matches.proofs.search_both.Statement.{statement}
@@ -25,6 +26,9 @@ part-search-group-start c = search needs
 part-search-group-end : tie.Need-part-search-group-end
 part-search-group-end c = search needs
 
+match-word-requires : tie.Need-match-word-requires
+match-word-requires c κs = search needs
+
 search-group-requires : tie.Need-search-group-requires
 search-group-requires c κs = search needs
 
@@ -43,6 +47,9 @@ part-search-group-start-2 c = search needs
 part-search-group-end-2 : tie.Need-part-search-group-end-2
 part-search-group-end-2 c = search needs
 
+match-word-requires-2 : tie.Need-match-word-requires-2
+match-word-requires-2 c κs = search needs
+
 search-group-requires-2 : tie.Need-search-group-requires-2
 search-group-requires-2 c κs = search needs
 
@@ -50,15 +57,18 @@ then-requires : tie.Need-then-requires
 then-requires c κs = search needs
 
 returns : tie.Need-returns
-unfolding pairMatches
+unfolding pairMatches groupSearch
 returns c =
-    let second = c .before in
-    let first = second .before .before in
-    let a = first .before .before .before .args in
+    let second = c .before .before .before in
+    let first = second .before .before .before in
+    let a = first .before .before .before .before .args in
+    let pre = first .before .before .before .before .pre in
     let t = a .table .now in
     c .then .ensures (groupMatches false (a .vsid) (a .api) (groupOf t (a .primary))) (groupMatches true (a .vsid) (a .api) (groupOf t (a .secondary)))
-    (first .search-group .ensures ∙ ap (λ (group : List ℕ). summary (groupMatches false (a .vsid) (a .api) group)) (lent-group t (a .primary)))
-    (second .search-group2 .ensures ∙ ap (λ (group : List ℕ). summary (groupMatches true (a .vsid) (a .api) group)) (lent-group t (a .secondary)))
+    (ap (λ (s : GroupSearch). s .matches) (first .search-group .ensures (a .vsid) (a .api) (pre .2, pre .3, first .before .match-word .ensures)
+    ∙ ap (groupSearch false (a .vsid) (a .api)) (lent-group t (a .primary))))
+    (ap (λ (s : GroupSearch). s .matches) (second .search-group2 .ensures (a .vsid) (a .api) (pre .2, pre .3, second .before .match-word2 .ensures)
+    ∙ ap (groupSearch true (a .vsid) (a .api)) (lent-group t (a .secondary))))
 
 pub search-both-spec : {M : Type 1} → statement M
 search-both-spec =
@@ -69,12 +79,14 @@ search-both-spec =
     sub-search-group
     part-search-group-start
     part-search-group-end
+    match-word-requires
     search-group-requires
     mul-next
     add-end
     sub-search-group-2
     part-search-group-start-2
     part-search-group-end-2
+    match-word-requires-2
     search-group-requires-2
     then-requires
     returns)

@@ -20,7 +20,7 @@ use Rattle.groups.proofs.Hash.{group-lt, own-groups-differ, within-table}
 use Rattle.groups.proofs.Free.{PlaceCase, in-primary, in-secondary, nowhere, place-case}
 use Rattle.matches.proofs.Matches.{h-is}
 use Rattle.calls.specs.OnBytes.{entryWord}
-use Rattle.calls.proofs.PageCalls.{ownGroup, pageSearch, editedBoth}
+use Rattle.calls.proofs.PageCalls.{ownGroup, pageMatches, pageSearch, editedBoth}
 use Rattle.page_calls.specs.declared.located.Located.{Located}
 
 -- what `locate` answers
@@ -62,9 +62,12 @@ module _ (sdr1 : ℕ) (page : Page) where
     group-inside lent shape right b g q = rw (group-is b g q) (inside lent shape right b)
 
     module _ (t : List ℕ) where
+      pub pair-is : pairMatches (page .vsid) (at .api) (groupOf t (at .primary)) (groupOf t (at .secondary)) ≡ pageMatches (maskOnes sdr1) t page
+      pair-is = ap (λ (l : Located). pairMatches (page .vsid) (l .api) (groupOf t (l .primary)) (groupOf t (l .secondary))) e
+
       pub search-is : (s : Summary) → s ≡ summary (pairMatches (page .vsid) (at .api) (groupOf t (at .primary)) (groupOf t (at .secondary)))
           → s ≡ pageSearch (maskOnes sdr1) t page
-      search-is s q = q ∙ ap (λ (l : Located). summary (pairMatches (page .vsid) (l .api) (groupOf t (l .primary)) (groupOf t (l .secondary)))) e
+      search-is s q = q ∙ ap summary pair-is
 
       pub free-is : (place found : Place) → place ≡ firstFreePlace (groupOf t (at .primary)) (groupOf t (at .secondary)) → place ≡ found
           → firstFreePlace (ownGroup (maskOnes sdr1) t page false) (ownGroup (maskOnes sdr1) t page true) ≡ found

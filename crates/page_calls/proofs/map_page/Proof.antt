@@ -5,10 +5,13 @@ use Prim.Native.Nat.{ℕ}
 use native.Mathlib.Omega.{arith}
 use Rattle.entry.specs.Entry.{secondWord}
 use Rattle.register_words.specs.Sdr1.{maskOnes}
+use Rattle.groups.specs.Group.{groupOf, firstFreePlace}
+use Rattle.matches.specs.Search.{pairSearch}
+use Rattle.matches.specs.declared.PairSearch.{PairSearch}
 use Rattle.calls.specs.OnBytes.{ended}
 use Rattle.calls.proofs.PageCalls.{pageSearch, map-matched, map-full, map-placed}
 use Rattle.matches.proofs.Matches.{h-lt}
-use Rattle.page_calls.proofs.located.AtPage.{both-inside, searchable, api-lt, group-inside, search-is, free-is, placed-is, place-lt}
+use Rattle.page_calls.proofs.located.AtPage.{searchable, api-lt, group-inside, search-is, free-is, placed-is, place-lt}
 use borrow.Author.Needs.{needs}
 use Rattle.page_calls.proofs.map_page.Statement.{statement}
 use Rattle.page_calls.proofs.map_page.Tie as tie
@@ -16,16 +19,28 @@ use Rattle.page_calls.proofs.map_page.Tie as tie
 locate-requires : tie.Need-locate-requires
 locate-requires c κs = search needs
 
-search-both-requires : tie.Need-search-both-requires
-search-both-requires c κs =
+search-places-requires : tie.Need-search-places-requires
+search-places-requires c κs =
     let start = c .before .before .before in
     searchable _ _ _ (c .before .locate .ensures) _ (start .pre .0) (start .pre .1) (start .pre .2) (start .pre .3)
 
 -- the search is the page's
-told : (c : tie.After-search-both) →
+told : (c : tie.After-search-places) →
     let a = c .before .before .before .before .args in
-    c .search-both .result ≡ pageSearch (maskOnes (a .sdr1)) (a .table .now) (record { vsid = a .vsid; index = a .index })
-told c = search-is _ _ _ (c .before .before .locate .ensures) _ _ (c .search-both .ensures)
+    c .search-places .result .matches ≡ pageSearch (maskOnes (a .sdr1)) (a .table .now) (record { vsid = a .vsid; index = a .index })
+unfolding pairSearch
+told c = search-is _ _ _ (c .before .before .locate .ensures) _ _ (ap (λ (s : PairSearch). s .matches) (c .search-places .ensures))
+
+-- the free place is that of the page's groups
+placed : (c : tie.After-free-place) →
+    let s = c .before .before .before .before in
+    let l = s .before .before in
+    let t = l .before .before .args .table .now in
+    c .free-place .result ≡ firstFreePlace (groupOf t (l .locate .result .primary)) (groupOf t (l .locate .result .secondary))
+unfolding pairSearch
+placed c =
+    let told = c .before .before .before .before .search-places .ensures in
+    c .free-place .ensures _ _ (ap (λ (s : PairSearch). s .primary) told) (ap (λ (s : PairSearch). s .secondary) told)
 
 found-requires : tie.Need-found-requires
 found-requires c κs = search needs
@@ -34,13 +49,10 @@ same-length : tie.Need-same-length
 same-length c = search needs
 
 returns : tie.Need-returns
-returns c = sym (map-matched _ _ _ _ (told (c .before .before)) _ _ _ _ (sym (c .before .found .ensures) ∙ c .if1 .taken))
+returns c = sym (map-matched _ _ _ _ (told (c .before .before .before)) _ _ _ _ (sym (c .before .found .ensures) ∙ c .if1 .taken))
 
-find-free-requires : tie.Need-find-free-requires
-find-free-requires c κs =
-    let l = c .before .before .before .before .before in
-    let start = l .before .before in
-    both-inside _ _ _ (l .locate .ensures) _ (start .pre .0) (start .pre .1)
+free-place-requires : tie.Need-free-place-requires
+free-place-requires c κs = search needs
 
 enum-known-secondary : tie.Need-enum-known-secondary
 enum-known-secondary c = search needs
@@ -66,7 +78,7 @@ put-entry-requires c κs =
     let free = place .before .before in
     let l = free .before .before .before .before .before .before in
     let start = l .before .before in (
-      place-lt _ _ _ _ _ (free .find-free .ensures) (place .secondary .given .1),
+      place-lt _ _ _ _ _ (placed free) (place .secondary .given .1),
       group-inside _ _ _ (l .locate .ensures) _ (start .pre .0) (start .pre .1) (place .secondary .given .0 .0) _ (c .group .ensures),
     )
 
@@ -84,8 +96,8 @@ returns-2 c =
     let first = second .before in
     let place = first .before .before in
     let free = place .before .before in
-    let none = free .before .before in
-    let s = none .before .before in
+    let none = free .before in
+    let s = none .before .before .before in
     let l = s .before .before in
     let a = l .before .before .args in
     let secondary = place .secondary .given .0 .0 in
@@ -93,7 +105,7 @@ returns-2 c =
     ap (λ (t : List ℕ). ended 0 t [])
     (placed-is _ _ _ (l .locate .ensures) _ secondary entry (g .group .result) (first .first-word .result) (second .second-word .result)
     (secondWord (a .rpn) 0 0 (a .wimg) (a .pp)) _ (g .group .ensures) (first .first-word .ensures) (second .second-word .ensures) (put .put-entry .ensures))
-    ∙ sym (map-placed _ _ _ _ (told s) _ _ _ _ (sym (none .before .found .ensures) ∙ none .if1 .left) secondary entry (free-is _ _ _ (l .locate .ensures) _ _ _ (free .find-free .ensures) (place .secondary .given .1)))
+    ∙ sym (map-placed _ _ _ _ (told s) _ _ _ _ (sym (none .before .found .ensures) ∙ none .if1 .left) secondary entry (free-is _ _ _ (l .locate .ensures) _ _ _ (placed free) (place .secondary .given .1)))
 
 same-length-3 : tie.Need-same-length-3
 same-length-3 c = search needs
@@ -101,21 +113,21 @@ same-length-3 c = search needs
 returns-3 : tie.Need-returns-3
 returns-3 c =
     let free = c .before .before in
-    let none = free .before .before in
-    let s = none .before .before in
+    let none = free .before in
+    let s = none .before .before .before in
     let l = s .before .before in
-    sym (map-full _ _ _ _ (told s) _ _ _ _ (sym (none .before .found .ensures) ∙ none .if1 .left) (free-is _ _ _ (l .locate .ensures) _ _ _ (free .find-free .ensures) (c .enum-told .given .1)))
+    sym (map-full _ _ _ _ (told s) _ _ _ _ (sym (none .before .found .ensures) ∙ none .if1 .left) (free-is _ _ _ (l .locate .ensures) _ _ _ (placed free) (c .enum-told .given .1)))
 
 pub map-page-spec : {M : Type 1} → statement M
 map-page-spec =
     tie.close
     (tie.spec
     locate-requires
-    search-both-requires
+    search-places-requires
     found-requires
     same-length
     returns
-    find-free-requires
+    free-place-requires
     enum-known-secondary
     cast-first-word
     first-word-requires

@@ -8,7 +8,7 @@ use Rattle.edits.specs.declared.Edit.the-variants.{Clear}
 use Rattle.calls.specs.Answers.{wordAnswer}
 use Rattle.calls.specs.OnBytes.{ended}
 use Rattle.calls.proofs.PageCalls.{pageSearch, unmap-missing, unmap-done}
-use Rattle.page_calls.proofs.located.AtPage.{inside, searchable, groups-apart, search-is, edited-is}
+use Rattle.page_calls.proofs.located.AtPage.{inside, searchable, groups-apart, pair-is, search-is, edited-is}
 use borrow.Author.Needs.{needs}
 use Rattle.page_calls.proofs.unmap_page.Statement.{statement}
 use Rattle.page_calls.proofs.unmap_page.Tie as tie
@@ -36,13 +36,19 @@ same-length c = search needs
 returns : tie.Need-returns
 returns c = sym (unmap-missing _ _ _ _ (told (c .before .before)) _ _ (sym (c .before .found .ensures) ∙ not-true _ (c .if1 .taken)))
 
+merged-word-requires : tie.Need-merged-word-requires
+merged-word-requires c κs =
+    let l = c .before .before .before .before .before in
+    let start = l .before .before in
+    searchable _ _ _ (l .locate .ensures) _ (start .pre .0) (start .pre .1) (start .pre .2) (start .pre .3)
+
 edit-found-requires : tie.Need-edit-found-requires
 edit-found-requires c κs =
-    let told = c .before .before in
+    let told = c .before .before .before .before in
     let l = told .before .before .before in
     let start = l .before .before in
     let (first, second, vsid, api) = searchable _ _ _ (l .locate .ensures) _ (start .pre .0) (start .pre .1) (start .pre .2) (start .pre .3) in
-    (search needs, first, second, vsid, api, groups-apart _ _ _ (l .locate .ensures), sym (told .found .ensures) ∙ not-false _ (c .before .if1 .left), told .before .search-both .ensures)
+    (search needs, first, second, vsid, api, groups-apart _ _ _ (l .locate .ensures), sym (told .found .ensures) ∙ not-false _ (c .before .before .before .if1 .left), told .before .search-both .ensures)
 
 same-length-2 : tie.Need-same-length-2
 same-length-2 c = search needs
@@ -50,12 +56,13 @@ same-length-2 c = search needs
 returns-2 : tie.Need-returns-2
 returns-2 c =
     let e = c .before .before in
-    let found = e .before .before .before in
+    let w = e .before .before in
+    let found = w .before .before .before in
     let s = found .before in
     let l = s .before .before in
     let start = l .before .before in
-    ap (λ (t : List ℕ). ended 0 t (wordAnswer 0 (s .search-both .result .merged))) (edited-is _ _ _ (l .locate .ensures) _ Clear _ (e .edit-found .ensures))
-    ∙ sym (unmap-done _ _ _ _ (told s) (inside _ _ _ (start .pre .0) (start .pre .1)) (sym (found .found .ensures) ∙ not-false _ (e .before .before .if1 .left)) _ _)
+    ap (λ (t : List ℕ). ended 0 t (wordAnswer 0 (w .merged-word .result))) (edited-is _ _ _ (l .locate .ensures) _ Clear _ (e .edit-found .ensures))
+    ∙ sym (unmap-done _ _ _ _ (told s) (inside _ _ _ (start .pre .0) (start .pre .1)) (sym (found .found .ensures) ∙ not-false _ (w .before .before .if1 .left)) _ _ _ (λ x xs are is. w .merged-word .ensures x xs (pair-is _ _ _ (l .locate .ensures) _ ∙ are) is))
 
 pub unmap-page-spec : {M : Type 1} → statement M
 unmap-page-spec =
@@ -66,6 +73,7 @@ unmap-page-spec =
     found-requires
     same-length
     returns
+    merged-word-requires
     edit-found-requires
     same-length-2
     returns-2)

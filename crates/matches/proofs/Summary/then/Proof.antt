@@ -1,4 +1,4 @@
--- `matches::Summary::then` meets its contract: where one list is empty the other's search stands, and else the further marks are merged in.
+-- `matches::Summary::then` meets its contract: where one list is empty the other's search stands, and else the first's place and word stand.
 use Rattle.matches.proofs.Summaries.{first-empty, second-empty, both-found}
 use borrow.Author.Needs.{needs}
 use Rattle.matches.proofs.Summary.then.Statement.{statement}
@@ -10,25 +10,13 @@ returns c ms ns e f = first-empty _ _ ms ns e f (c .if1 .taken)
 returns-2 : tie.Need-returns-2
 returns-2 c ms ns e f = second-empty _ _ ms ns e f (c .if2 .taken)
 
-is-referenced-requires : tie.Need-is-referenced-requires
-is-referenced-requires c κs = search needs
-
-is-changed-requires : tie.Need-is-changed-requires
-is-changed-requires c κs = search needs
-
-with-marks-requires : tie.Need-with-marks-requires
-with-marks-requires c κs = search needs
-
 words-agree-requires : tie.Need-words-agree-requires
 words-agree-requires c κs = search needs
 
 returns-3 : tie.Need-returns-3
 returns-3 c ms ns e f =
-    let marked = c .before .before .before in
-    let changed = marked .before in
-    let referenced = changed .before in
-    let at-if = referenced .before in
-    rw (c .words-agree .ensures, marked .with-marks .ensures, changed .is-changed .ensures, referenced .is-referenced .ensures)
+    let at-if = c .before .before .before in
+    rw (c .words-agree .ensures)
     (both-found _ _ ms ns e f (at-if .before .before .if1 .left) (at-if .if2 .left))
 
 pub then-spec : {M : Type 1} → statement M
@@ -37,8 +25,5 @@ then-spec =
     (tie.spec
     returns
     returns-2
-    is-referenced-requires
-    is-changed-requires
-    with-marks-requires
     words-agree-requires
     returns-3)

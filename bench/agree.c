@@ -56,6 +56,9 @@ static unsigned long edges_done, edges_faulted;
 /* Accesses that were done or faulted, by the rule shown. */
 static unsigned long rules[MMU_RULE_DONE + 1];
 
+/* Looks at a page whose matches are not equal: how many were done, and how many refused as contradicting. */
+static unsigned long unequal_done, unequal_refused;
+
 /* ---- Random numbers --------------------------------------------------------------------------- */
 
 static uint32_t any(void)
@@ -159,11 +162,24 @@ static void spoil_registers(void)
 
 /* ---- Tables ----------------------------------------------------------------------------------- */
 
-/* An entry of a page in one of its groups, or nearly one, as another writer could have left it. */
-static void plant_entry(uint32_t sdr1)
+/* A second word: any, the same for many, that with marks and ignored bits turned, or with one bit, often a low one. */
+static uint32_t random_second(void)
 {
-    uint32_t vsid = random_vsid();
-    uint32_t page = random_page();
+    switch (below(4)) {
+    case 0:
+        return any();
+    case 1:
+        return 0x12345012u;
+    case 2:
+        return 0x12345012u ^ (any() & 0xF84u);
+    default:
+        return 0x12345012u ^ 1u << below(below(2) ? 8 : 32);
+    }
+}
+
+/* An entry of a page in one of its groups, or nearly one, as another writer could have left it. */
+static void plant_entry(uint32_t sdr1, uint32_t vsid, uint32_t page)
+{
     uint32_t mask = (sdr1 & MMU_SDR1_MASK) << 10 | 0x3FF;
     uint32_t h = below(2);
     uint32_t group = ((vsid ^ page) & mask) ^ (h ? mask : 0);
@@ -172,8 +188,34 @@ static void plant_entry(uint32_t sdr1)
     if (below(4) == 0)
         first ^= 1u << below(32);
     mmu_put_word(lent[0].table, at, first);
-    mmu_put_word(lent[0].table, at + 4, below(2) ? any() : 0x12345012u);
+    mmu_put_word(lent[0].table, at + 4, random_second());
     memcpy(lent[1].table + at, lent[0].table + at, MMU_ENTRY_SIZE);
+}
+
+/* One to three entries of one page. */
+static void plant_page(uint32_t sdr1)
+{
+    uint32_t vsid = random_vsid(), page = random_page(), i;
+    for (i = below(3) + 1; i > 0; i--)
+        plant_entry(sdr1, vsid, page);
+}
+
+/* Whether the matches of a page differ in some bit of their second words. */
+static int unequal(uint32_t sdr1, uint32_t vsid, uint32_t page)
+{
+    uint32_t mask = (sdr1 & MMU_SDR1_MASK) << 10 | 0x3FF, seconds = 0, first = 0, i;
+    int differ = 0;
+    for (i = 0; i < 16; i++) {
+        uint32_t group = ((vsid ^ page) & mask) ^ (i < 8 ? 0 : mask);
+        uint32_t word = MMU_FIRST_V | vsid << MMU_FIRST_VSID_SHIFT | (i < 8 ? 0 : 0x40u) | page >> 10;
+        size_t at = MMU_ENTRY_OFFSET(group, i % 8);
+        if (mmu_get_word(lent[0].table, at) != word)
+            continue;
+        if (seconds++ == 0)
+            first = mmu_get_word(lent[0].table, at + 4);
+        differ |= mmu_get_word(lent[0].table, at + 4) != first;
+    }
+    return differ;
 }
 
 /* ---- Calls ------------------------------------------------------------------------------------ */
@@ -317,6 +359,10 @@ static void step(uint32_t sdr1)
     seen[q.call][numbers[0] < 66 ? numbers[0] : 0]++;
     if (q.call == ACCESS)
         note_answer(&q, numbers[0]);
+    if (q.call == LOOK && numbers[0] == MMU_DONE)
+        unequal_done += unequal(q.sdr1, q.vsid, q.page_index);
+    if (q.call == LOOK && numbers[0] == MMU_REFUSED_CONTRADICTION)
+        unequal_refused += unequal(q.sdr1, q.vsid, q.page_index);
 }
 
 /* A round: one SDR1, one register page, some entries of others, then many calls. */
@@ -332,7 +378,7 @@ static void start_round(uint32_t sdr1)
     if (below(2))
         spoil_registers();
     for (i = (int)below(40); i > 0; i--)
-        plant_entry(sdr1);
+        plant_page(sdr1);
 }
 
 static int report(int small)
@@ -348,6 +394,8 @@ static int report(int small)
     }
     printf("over a page edge: %lu done, %lu faults of the second page\n", edges_done, edges_faulted);
     missed += (edges_done == 0) + (edges_faulted == 0);
+    printf("looks at unequal matches: %lu done, %lu refused\n", unequal_done, unequal_refused);
+    missed += (unequal_done == 0) + (unequal_refused == 0);
     printf("by rule:");
     for (i = 0; i <= (int)MMU_RULE_DONE; i++) {
         printf(" %d:%lu", i, rules[i]);

@@ -22,6 +22,9 @@ enum { REGISTERS = 132, SEGMENTS = 4, INSTRUCTION_PAIRS = 68, DATA_PAIRS = 100, 
 #define PROTECTION 0x08000000u
 #define STORING 0x02000000u
 
+/* RPN, WIMG and PP of a second word: matches of a page agree where these are equal. */
+#define AGREED 0xFFFFF07Bu
+
 /* ---- Words ------------------------------------------------------------------------------------ */
 
 INLINE uint32_t word_at(const uint8_t *bytes)
@@ -236,7 +239,7 @@ INLINE int group_has(const struct group *group, uint32_t word)
 
 /*
  * The matches of a page: the first one's place in search order, or NONE, its second word as it lies in memory, and
- * whether another's differs; V, VSID and API are equal in all.
+ * whether another's does not agree; V, VSID and API are equal in all.
  */
 struct matches {
     uint32_t place, second;
@@ -251,7 +254,7 @@ INLINE void note_match(struct matches *matches, const uint8_t *entry, uint32_t p
     if (matches->place == NONE) {
         matches->place = place;
         matches->second = second;
-    } else if (second != matches->second) {
+    } else if ((second ^ matches->second) & raw_of(AGREED)) {
         matches->contradict = 1;
     }
 }

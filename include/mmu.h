@@ -20,7 +20,7 @@ extern "C" {
 
 /* The version; CHANGELOG.md says what a caller must change from one to the next. */
 #define MMU_VERSION_MAJOR 0
-#define MMU_VERSION_MINOR 4
+#define MMU_VERSION_MINOR 5
 
 /* ---- Results ---------------------------------------------------------------------------------- */
 
@@ -38,7 +38,7 @@ extern "C" {
 #define MMU_REFUSED_MAPPED 7u         /* Map: the page matches already. */
 #define MMU_REFUSED_NO_MATCH 8u       /* The page has no match (unmap, protect, look). */
 #define MMU_REFUSED_FULL 9u           /* Map: all 16 entries of the page's two groups have V = 1. */
-#define MMU_REFUSED_CONTRADICTION 10u /* Contradicting matches: they differ in more than H (access, look). */
+#define MMU_REFUSED_CONTRADICTION 10u /* Contradicting matches: RPN, WIMG or PP differs (access, look). */
 #define MMU_REFUSED_LENT_LENGTH 11u   /* Registers, answer, entry or fields of another length; nothing is written. */
 #define MMU_REFUSED_OPERAND_LENGTH 12u /* Access: an operand of 0 or over MMU_LONGEST_OPERAND bytes. */
 

@@ -471,7 +471,7 @@ static void put_entry(struct lent *l, uint32_t group, uint32_t entry, uint32_t f
 /*
  * Segment 0 with Kp, segment 1 with N; two instruction blocks and three data blocks, one of the supervisor's and one of
  * the user's at the same address; page 0FFA of PP 1 in its primary group, 0FFB guarded in its secondary one, 0FFC of
- * PP 0 in both.
+ * PP 0 in both, and 0FFE in both with another PP in each.
  */
 static struct lent lend_rules(void)
 {
@@ -489,10 +489,12 @@ static struct lent lend_rules(void)
     put_entry(&l, 0x018, 7, 0x86380E43u, 0x6789A00Au);
     put_entry(&l, 0x3E0, 2, 0x86380E03u, 0x0BCDE010u);
     put_entry(&l, 0x01F, 0, 0x86380E43u, 0x0BCDE010u);
+    put_entry(&l, 0x3E2, 4, 0x86380E03u, 0x0BCDF011u);
+    put_entry(&l, 0x01D, 1, 0x86380E43u, 0x0BCDF012u);
     return l;
 }
 
-/* In this order: the load of page 0FFC marks the first of its two entries, which then contradict. */
+/* In this order: the load of page 0FFC marks the first of its two entries, which agree all the same. */
 static const struct rule_case rule_cases[] = {
     { 0, MMU_STORE, 0x00FFD000u, 128, 0, 0, 0, 0, 0 },
     { 5, MMU_FETCH, 0xA0000000u, 1, 0, 0, 0, 0, 0 },
@@ -517,8 +519,11 @@ static const struct rule_case rule_cases[] = {
     { 7, MMU_LOAD, 0x00FFBFFEu, 8, 64, 5, 4, 0x3E0, 2 },
     { 3, MMU_STORE, 0x00FFCFFEu, 8, 64, 3, 0, 0, 0 },
     { 3, MMU_LOAD, 0x00FFC000u, 4, 0, 6, 0, 0x3E0, 2 },
-    { 3, MMU_LOAD, 0x00FFC000u, 4, 10, 0, 0, 0, 0 },
-    { 3, MMU_LOAD, 0x00FFBFFEu, 8, 10, 0, 0, 0, 0 },
+    { 3, MMU_STORE, 0x00FFC000u, 4, 0, 6, 0, 0x3E0, 2 },
+    { 3, MMU_LOAD, 0x00FFBFFEu, 8, 0, 6, 2, 0x018, 7 },
+    { 3, MMU_LOAD, 0x00FFE000u, 4, 10, 0, 0, 0, 0 },
+    { 3, MMU_LOAD, 0x00FFEFFEu, 8, 10, 0, 0, 0, 0 },
+    { 3, MMU_LOAD, 0x00FFDFFEu, 8, 64, 3, 0, 0, 0 },
     { 3, MMU_LOAD, 0x00FFC000u, 0, 12, 0, 0, 0, 0 },
     { 8, MMU_LOAD, 0x00FFC000u, 4, 6, 0, 0, 0, 0 },
 };
@@ -558,7 +563,11 @@ static void test_page_edge(void)
                && second_is(&l, 0x6789A000u, 5, 2, 6), "store over the edge", got);
     expect(mmu_get_word(first, 4) == 0x12345192u && mmu_get_word(second, 4) == 0x6789A1AAu, "both are marked", got);
     mmu_put_word(second, 8, mmu_get_word(second, 0));
-    mmu_put_word(second, 12, 0x6789A12Au);
+    mmu_put_word(second, 12, 0x6789A02Eu);
+    remember(&l.table);
+    got = access_operand(&l, MMU_MODE_DR, MMU_LOAD, edge - 2, 8);
+    expect(got == 0 && unchanged(&l.table), "duplicates after the edge without R, C and with bit 29", got);
+    mmu_put_word(second, 12, 0x6789A12Bu);
     remember(&l.table);
     got = access_operand(&l, MMU_MODE_DR, MMU_LOAD, edge - 2, 8);
     expect(access_refused(&l, got, 10), "contradicting matches after the edge", got);
@@ -586,24 +595,44 @@ static void test_full_groups(void)
     give_back_all(&l);
 }
 
-/* Two matches: equal but for H they serve, else access and look refuse and unmap takes both. */
-static void test_contradiction(void)
+/*
+ * Two matches that differ in one bit: by a bit of RPN, WIMG or PP access and look refuse them, else the first serves
+ * and is marked alone; unmap takes both and tells the marks of both.
+ */
+static void test_two_matches(uint32_t bit)
 {
+    static const uint32_t agreed = 0xFFFFF07Bu;
     struct lent l = lend_right();
     uint8_t *primary = l.table.bytes + 0x3E6 * MMU_GROUP_SIZE, *secondary = l.table.bytes + 0x019 * MMU_GROUP_SIZE;
-    mmu_put_word(primary, 8, 0x86380E03u);
-    mmu_put_word(primary, 12, 0x12345012u);
-    mmu_put_word(secondary, 56, 0x86380E43u);
-    mmu_put_word(secondary, 60, 0x12345012u);
-    expect(look(&l, SDR1, VSID, PAGE) == 0 && answer_is(&l.answer, 0, 0x12345012u, 0, 0), "look at duplicates", 0);
-    mmu_put_word(secondary, 60, 0x12345092u);
+    uint32_t first = 0x12345012u, other = first ^ bit;
+    put_entry(&l, 0x3E6, 1, 0x86380E03u, first);
+    put_entry(&l, 0x019, 7, 0x86380E43u, other);
     remember(&l.table);
-    expect(refused(&l, look(&l, SDR1, VSID, PAGE), 10), "look at contradicting matches", 10);
-    expect(access_refused(&l, access_at(&l, MMU_MODE_DR, MMU_LOAD, ADDRESS), 10), "access to contradicting matches", 10);
-    expect(unmap(&l, SDR1, VSID, PAGE) == 0 && answer_is(&l.answer, 0, 0x12345092u, 0, 0), "unmap of both", 0);
+    expect(map(&l, SDR1, VSID, PAGE, 1, 2, 2) == 7 && unchanged(&l.table), "map of a page with two matches", bit);
+    if (bit & agreed) {
+        expect(refused(&l, look(&l, SDR1, VSID, PAGE), 10), "look at contradicting matches", bit);
+        expect(access_refused(&l, access_at(&l, MMU_MODE_DR, MMU_LOAD, ADDRESS), 10), "load from such", bit);
+    } else {
+        expect(look(&l, SDR1, VSID, PAGE) == 0 && answer_is(&l.answer, 0, first, 0, 0), "look at duplicates", bit);
+        expect(access_at(&l, MMU_MODE_DR, MMU_LOAD, ADDRESS) == 0
+                   && answer_is(&l.access_answer, 0, 0x1234501Bu, 2, ADDRESS), "load from duplicates", bit);
+        first |= MMU_SECOND_R;
+        expect(mmu_get_word(primary, 12) == first && mmu_get_word(secondary, 60) == other, "the first is marked", bit);
+    }
+    first |= other & (MMU_SECOND_R | MMU_SECOND_C);
+    expect(unmap(&l, SDR1, VSID, PAGE) == 0 && answer_is(&l.answer, 0, first, 0, 0), "unmap of both", bit);
     memset(l.table.before, 0, l.table.len);
-    expect(unchanged(&l.table), "unmap zeroes both matches", 0);
+    expect(unchanged(&l.table), "unmap zeroes both matches", bit);
     give_back_all(&l);
+}
+
+/* Equal matches, and those that differ in each bit by itself. */
+static void test_duplicates(void)
+{
+    int bit;
+    test_two_matches(0);
+    for (bit = 0; bit < 32; bit++)
+        test_two_matches(1u << bit);
 }
 
 static void test_packing(void)
@@ -704,7 +733,7 @@ int main(int argc, char **argv)
     test_rules();
     test_page_edge();
     test_full_groups();
-    test_contradiction();
+    test_duplicates();
     test_packing();
     test_random_numbers(argc > 1 ? atol(argv[1]) : 2000);
     printf("bad_input: %lu checks, %lu failed\n", checks, failures);

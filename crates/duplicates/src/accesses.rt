@@ -65,6 +65,6 @@ fn in_a_row() -> bool {
 
 // An access after another.
 pub fn touched() {
-    // Equal duplicates in both groups: a load, a load and a store on one table are all done, and the first alone has their marks. Source: rules 4.
+    // Equal duplicates in both groups: a load, a load and a store on one table are all done, and the first alone has their marks. Source: rules 4; request 3's own example.
     line(860, in_a_row());
 }

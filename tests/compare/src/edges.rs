@@ -53,8 +53,8 @@ const SCENES: [Scene; 13] = [
 ];
 
 /// Entries of a page by their second words: none; each PP; guarded; marked; with ignored bits;
-/// duplicates, equal and contradicting.
-const PAGES: [&[u32]; 12] = [
+/// duplicates that are equal, that agree by R, by C and by ignored bits, that contradict.
+const PAGES: [&[u32]; 14] = [
     &[],
     &[0x1234_5010],
     &[0x1234_5011],
@@ -66,6 +66,8 @@ const PAGES: [&[u32]; 12] = [
     &[0x1234_5E16],
     &[0x1234_5012, 0x1234_5012],
     &[0x1234_5012, 0x1234_5112],
+    &[0x1234_5192, 0x1234_5112],
+    &[0x1234_5012, 0x1234_5F96],
     &[0x1234_5012, 0x6789_A012],
 ];
 

@@ -23,10 +23,11 @@ pub fn run(subject: &dyn Machine, _factor: u32) -> Result<Tally, Difference> {
             let access = Call::Access(Access { mode, kind, address: ADDRESS, length: 1 });
             bench.lend_answer(&access);
             by_page(&mut bench, &access)?;
-            by_places(&mut bench, &access)?;
+            by_places(&mut bench, &access, &SOME_WORDS)?;
             by_block(&mut bench, &access)?;
         }
     }
+    duplicates(&mut bench)?;
     sdr1_words(&mut bench)?;
     block_lengths(&mut bench)?;
     single_bits(&mut bench)?;
@@ -55,8 +56,32 @@ fn by_page(bench: &mut Bench, access: &Call) -> Result<(), Difference> {
     Ok(())
 }
 
-/// A match at each of the sixteen places of a page, and an equal one at each place from there on.
-fn by_places(bench: &mut Bench, access: &Call) -> Result<(), Difference> {
+/// The second word of a match.
+const SECOND: u32 = 0x1234_5012;
+/// Second words of another match: equal, with marks and ignored bits, and of another frame.
+const SOME_WORDS: [u32; 3] = [SECOND, SECOND | 0xF84, SECOND ^ 0x1000];
+
+/// Two matches at every two places that differ in each bit by itself: looked at, loaded from, unmapped.
+fn duplicates(bench: &mut Bench) -> Result<(), Difference> {
+    let every_bit: Vec<u32> = (0..32).map(|bit| SECOND ^ 1 << bit).collect();
+    let page = Page::of_address(VSID, ADDRESS);
+    let load = Access { mode: 1, kind: 1, address: ADDRESS, length: 1 };
+    for call in [
+        Call::Look { sdr1: SDR1, page },
+        Call::Access(load),
+        Call::Access(Access { kind: 2, ..load }),
+        Call::Unmap { sdr1: SDR1, page },
+        Call::Protect { sdr1: SDR1, page, pp: 3 },
+    ] {
+        bench.lend_answer(&call);
+        by_places(bench, &call, &every_bit)?;
+    }
+    Ok(())
+}
+
+/// A match at each of the sixteen places of a page, and one with each of these second words at each place
+/// from there on.
+fn by_places(bench: &mut Bench, call: &Call, others: &[u32]) -> Result<(), Difference> {
     let page = Page::of_address(VSID, ADDRESS);
     let mut words = [0; 33];
     words[0] = SDR1;
@@ -65,15 +90,17 @@ fn by_places(bench: &mut Bench, access: &Call) -> Result<(), Difference> {
     let groups = group_numbers(SDR1, page);
     let at = |place: usize| GROUP * groups[place / 8] + ENTRY * (place % 8);
     for first in 0..16 {
-        for second in first..16 {
-            for place in [first, second] {
-                let h = (place / 8) as u32;
-                bench.table.write(at(place), &matching_word(page, h).to_be_bytes());
-                bench.table.write(at(place) + 4, &0x1234_5012_u32.to_be_bytes());
-            }
-            bench.compare(access, Lending::Table)?;
-            for place in [first, second] {
-                bench.table.write(at(place), &[0; ENTRY]);
+        for later in first..16 {
+            for &other in others {
+                for (place, second) in [(first, SECOND), (later, other)] {
+                    let h = (place / 8) as u32;
+                    bench.table.write(at(place), &matching_word(page, h).to_be_bytes());
+                    bench.table.write(at(place) + 4, &second.to_be_bytes());
+                }
+                bench.compare(call, Lending::Table)?;
+                for place in [first, later] {
+                    bench.table.write(at(place), &[0; ENTRY]);
+                }
             }
         }
     }

@@ -50,7 +50,8 @@ fn by_the_comparison(found: &mut Found, factor: u32) -> Result<(), Difference> {
     let of_record =
         [&RecordFlaw::IN_MAP[..], &RecordFlaw::IN_TABLE, &RecordFlaw::OF_PLACE].concat();
     let of_record = of_record.into_iter().map(Flaw::Record);
-    let of_calls = Flaw::WITHIN_PAGE.into_iter().chain(Flaw::OPERANDS).chain(Flaw::ORDERS);
+    let of_pages = Flaw::WITHIN_PAGE.into_iter().chain(Flaw::DUPLICATES);
+    let of_calls = of_pages.chain(Flaw::OPERANDS).chain(Flaw::ORDERS);
     for flaw in of_calls.chain(of_record) {
         let model = Model::with(flaw);
         let outcome =

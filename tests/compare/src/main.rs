@@ -6,6 +6,7 @@ mod arrangements;
 mod bench;
 mod cases;
 mod decisions;
+mod duplicates;
 mod edges;
 mod exhaustive;
 mod flaws;
@@ -139,4 +140,9 @@ fn print_results(total: &Tally) {
     let rules = total.decisions.by_rule();
     let counts: Vec<_> = rules.iter().map(|(rule, count)| format!("{rule}: {count}")).collect();
     println!("accesses by the rule shown: {}", counts.join("  "));
+    let fields = total.duplicates.by_field();
+    let counts: Vec<_> = fields.iter().map(|(field, count)| format!("{field}: {count}")).collect();
+    let (equal, unequal) = (total.duplicates.equal, total.duplicates.unequal);
+    println!("searches with several matches: {equal} equal, {unequal} not equal");
+    println!("  that differ in one field alone: {}", counts.join("  "));
 }

@@ -10,6 +10,7 @@ use model::search::{contradict, first_free, matches, Place};
 use model::translation::{before_search, BeforeSearch};
 
 use crate::decisions::Decisions;
+use crate::duplicates::Duplicates;
 use crate::operands::Operands;
 
 /// Counts of calls by what they met.
@@ -26,6 +27,7 @@ pub struct Tally {
     situations: BTreeMap<(&'static str, &'static str), u64>,
     pub operands: Operands,
     pub decisions: Decisions,
+    pub duplicates: Duplicates,
 }
 
 impl Tally {
@@ -44,6 +46,7 @@ impl Tally {
             *self.numbers.entry(key).or_default() += count;
         }
         self.decisions.add(&other.decisions);
+        self.duplicates.add(&other.duplicates);
     }
 
     /// Notes the state a call comes upon.
@@ -63,6 +66,11 @@ impl Tally {
         if let Some((&first, later)) = broken.split_first() {
             for &second in later {
                 *self.orders.entry((call.name(), first, second)).or_default() += 1;
+            }
+        }
+        if !refused {
+            for (sdr1, page) in pages_of(call, registers, table.len()) {
+                self.duplicates.note(call.name(), &matches(None, sdr1, page, table));
             }
         }
         if let (Call::Access(access), false) = (*call, refused) {
@@ -125,6 +133,7 @@ impl Tally {
         }
         missing.extend(self.operands.missing());
         missing.extend(self.decisions.missing());
+        missing.extend(self.duplicates.missing());
         missing
     }
 }

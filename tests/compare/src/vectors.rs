@@ -15,6 +15,9 @@ const FILES: [(&str, &str, usize); 2] = [
     ("qemu-970-fetch.txt", include_str!("../../vectors/qemu-970-fetch.txt"), 64),
 ];
 
+/// How many lines search for a page with several matches; in each they are equal.
+const WITH_DUPLICATES: u64 = 36;
+
 struct Vector {
     file: &'static str,
     id: String,
@@ -56,6 +59,11 @@ pub fn run(subject: &dyn Machine, _factor: u32) -> Result<Tally, Difference> {
             replay(&mut bench, vector)?;
         }
         tally = bench.tally;
+    }
+    let (equal, unequal) = (tally.duplicates.equal, tally.duplicates.unequal);
+    if (equal, unequal) != (WITH_DUPLICATES, 0) {
+        let text = format!("{equal} lines have equal duplicates, {unequal} have others");
+        return Err(Difference::new(text));
     }
     Ok(tally)
 }

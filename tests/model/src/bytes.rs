@@ -121,9 +121,8 @@ impl Model {
         let Some(first) = matches.first() else {
             return self.answer_number(8, answer);
         };
-        let mut marks = 0;
+        let mut marks = marks_of(&matches);
         for place in &matches {
-            marks |= place.second & (REFERENCED | CHANGED);
             if place.h == 0 || !self.has(Flaw::UnmapPrimaryOnly) {
                 table[place.at()..place.at() + search::ENTRY].fill(0);
             }
@@ -164,6 +163,9 @@ impl Model {
         let mut second = first.second;
         if self.has(Flaw::LookIgnoredBits) {
             second &= !IGNORED_BITS;
+        }
+        if self.has(Flaw::LookJoinsMarks) {
+            second |= marks_of(&matches);
         }
         put_words(answer, &[0, second, 0, 0]);
         0
@@ -273,8 +275,19 @@ impl Model {
         if done && self.has(Flaw::MarkIgnoredBits) {
             second &= !IGNORED_BITS;
         }
+        if done && self.has(Flaw::MarksJoined) {
+            second |= marks_of(&end.matches);
+        }
+        if done && self.has(Flaw::MarkLeftToLater) {
+            second &= !marks_of(&end.matches[1..]) | place.second;
+        }
         put_word(table, place.at() + 4, second);
     }
+}
+
+/// R and C, each set if one of these matches has it.
+fn marks_of(matches: &[Place]) -> u32 {
+    matches.iter().fold(0, |marks, place| marks | place.second & (REFERENCED | CHANGED))
 }
 
 /// What a part of an operand comes to, and the matches it met.

@@ -6,8 +6,6 @@ use crate::words::{bits, ending_at};
 pub const IGNORED_BITS: u32 = 0x0000_0E04;
 pub const REFERENCED: u32 = 0x0000_0100;
 pub const CHANGED: u32 = 0x0000_0080;
-/// Bit 25 of the first word.
-pub const H_BIT: u32 = 0x0000_0040;
 
 #[derive(Clone, Copy, Debug, Default, PartialEq, Eq)]
 pub struct Fields {

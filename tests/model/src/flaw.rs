@@ -23,10 +23,36 @@ pub enum Flaw {
     ProtectFirstOnly,
     /// Protect clears the ignored bits.
     ProtectIgnoredBits,
-    /// Matches that differ in ignored bits alone do not contradict.
-    DuplicatesByFields,
+    /// Duplicates agree where RPN is equal.
+    AgreeByRpnAlone,
+    /// Duplicates agree where WIMG and PP are equal.
+    AgreeWithoutRpn,
+    /// Duplicates agree where RPN and PP are equal.
+    AgreeWithoutWimg,
+    /// Duplicates agree where RPN and WIMG are equal.
+    AgreeWithoutPp,
+    /// Duplicates agree where their second words are equal in every bit.
+    AgreeByWord,
+    /// Duplicates have to be equal in this bit too: R, C or an ignored one.
+    AgreeByBitToo(u32),
+    /// A third match is not compared.
+    ThirdNotCompared,
+    /// Of the matches after the first the last alone is compared.
+    LastAloneCompared,
+    /// Matches of the two groups are not compared with each other.
+    GroupsNotCompared,
+    /// Matches of one group are not compared with each other.
+    OneGroupNotCompared,
+    /// The first match is not compared, each other one is with the next.
+    LaterPairsOnly,
     /// An access marks every match.
     MarksEveryMatch,
+    /// A mark that a later match has is not set in the first.
+    MarkLeftToLater,
+    /// An access puts the marks of all matches into the first.
+    MarksJoined,
+    /// Look answers the marks of all matches.
+    LookJoinsMarks,
     /// Marking clears the ignored bits.
     MarkIgnoredBits,
     /// Look answers the ignored bits as zero.
@@ -238,10 +264,10 @@ impl RecordFlaw {
 impl Flaw {
     /// Those that show in calls whose operands lie within one page.
     #[rustfmt::skip]
-    pub const WITHIN_PAGE: [Flaw; 31] = [
+    pub const WITHIN_PAGE: [Flaw; 30] = [
         Flaw::UnmapPrimaryOnly, Flaw::UnmapFirstMarks, Flaw::HForgotten, Flaw::VsidForgotten,
         Flaw::FullAtPrimary, Flaw::FullBeforeMatch, Flaw::MatchUpToFree, Flaw::MapStoresNothing,
-        Flaw::ProtectFirstOnly, Flaw::ProtectIgnoredBits, Flaw::DuplicatesByFields,
+        Flaw::ProtectFirstOnly, Flaw::ProtectIgnoredBits,
         Flaw::MarksEveryMatch, Flaw::MarkIgnoredBits, Flaw::LookIgnoredBits,
         Flaw::KpForSupervisor, Flaw::ChangedByFault, Flaw::ReferencedByFault,
         Flaw::GuardedLast, Flaw::NoExecuteLate, Flaw::FetchUnprotected, Flaw::StoreFaultBit,
@@ -259,6 +285,18 @@ impl Flaw {
         Flaw::FullBeforeMatch, Flaw::MatchUpToFree, Flaw::MapStoresNothing,
         Flaw::KpForSupervisor, Flaw::ChangedByFault, Flaw::ReferencedByFault,
         Flaw::NeverMatches, Flaw::OneFrame, Flaw::RefusesAll,
+    ];
+
+    /// Those about duplicate matches: when they agree, and which of them is marked and looked at.
+    #[rustfmt::skip]
+    pub const DUPLICATES: [Flaw; 19] = [
+        Flaw::AgreeByRpnAlone, Flaw::AgreeWithoutRpn, Flaw::AgreeWithoutWimg,
+        Flaw::AgreeWithoutPp, Flaw::AgreeByWord,
+        Flaw::AgreeByBitToo(20), Flaw::AgreeByBitToo(21), Flaw::AgreeByBitToo(22),
+        Flaw::AgreeByBitToo(23), Flaw::AgreeByBitToo(24), Flaw::AgreeByBitToo(29),
+        Flaw::ThirdNotCompared, Flaw::LastAloneCompared, Flaw::GroupsNotCompared,
+        Flaw::OneGroupNotCompared, Flaw::LaterPairsOnly,
+        Flaw::MarkLeftToLater, Flaw::MarksJoined, Flaw::LookJoinsMarks,
     ];
 
     /// Those about an operand's length and pages: the finite map has to find them too.

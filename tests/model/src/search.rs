@@ -1,7 +1,7 @@
 //! The two groups of a page in a table's bytes: matches and free entries.
 
 use crate::call::Page;
-use crate::entry::{Fields, H_BIT, IGNORED_BITS};
+use crate::entry::Fields;
 use crate::flaw::Flaw;
 use crate::words::{bits, word_at};
 
@@ -74,14 +74,45 @@ pub fn matches(flaw: Option<Flaw>, sdr1: u32, page: Page, table: &[u8]) -> Vec<P
     places
 }
 
-/// Whether some match differs from the first in a bit other than H.
+/// Whether two matches agree: RPN, WIMG and PP are equal.
+pub fn agree(flaw: Option<Flaw>, one: &Place, other: &Place) -> bool {
+    let fields = [one, other].map(|place| Fields::of_words(place.first, place.second));
+    let [rpn, wimg, pp] = [
+        fields[0].rpn == fields[1].rpn,
+        fields[0].wimg == fields[1].wimg,
+        fields[0].pp == fields[1].pp,
+    ];
+    let same_bit =
+        |number: u32| bits(one.second, number, number) == bits(other.second, number, number);
+    match flaw {
+        Some(Flaw::AgreeByRpnAlone) => rpn,
+        Some(Flaw::AgreeWithoutRpn) => wimg && pp,
+        Some(Flaw::AgreeWithoutWimg) => rpn && pp,
+        Some(Flaw::AgreeWithoutPp) => rpn && wimg,
+        Some(Flaw::AgreeByWord) => one.second == other.second,
+        Some(Flaw::AgreeByBitToo(number)) => rpn && wimg && pp && same_bit(number),
+        _ => rpn && wimg && pp,
+    }
+}
+
+/// Whether some match does not agree with the first.
 pub fn contradict(flaw: Option<Flaw>, matches: &[Place]) -> bool {
-    let ignored = match flaw {
-        Some(Flaw::DuplicatesByFields) => IGNORED_BITS,
-        _ => 0,
-    };
-    let compared = |place: &Place| (place.first & !H_BIT, place.second & !ignored);
-    matches.iter().any(|place| compared(place) != compared(&matches[0]))
+    let Some((first, later)) = matches.split_first() else { return false };
+    let differs = |place: &Place| !agree(flaw, first, place);
+    let of_group = |h: u32| matches.iter().filter(move |place| place.h == h);
+    match flaw {
+        Some(Flaw::ThirdNotCompared) => later.iter().take(1).any(differs),
+        Some(Flaw::LastAloneCompared) => later.last().is_some_and(differs),
+        Some(Flaw::GroupsNotCompared) => [0, 1].into_iter().any(|h| {
+            let group: Vec<Place> = of_group(h).copied().collect();
+            contradict(None, &group)
+        }),
+        Some(Flaw::OneGroupNotCompared) => of_group(1).take(1).any(differs),
+        Some(Flaw::LaterPairsOnly) => {
+            matches.windows(2).skip(1).any(|pair| !agree(flaw, &pair[0], &pair[1]))
+        }
+        _ => later.iter().any(differs),
+    }
 }
 
 /// The first entry with V = 0.

@@ -92,15 +92,15 @@ fn other_entry(random: &mut Random, page: Page, h: u32, free: u32) -> u32 {
     }
 }
 
-/// Matches, of one group or of both, equal or differing in a bit.
+/// Matches, of one group or of both, equal, agreeing, or differing in any field.
 fn matching_entries(random: &mut Random, page: Page, second: u32, count: u32) -> Vec<[u32; 2]> {
     let in_one_group = random.once_in(2);
     let side = random.below(2);
-    let differing = random.once_in(2);
+    let bits: Bits = random.pick(&[no_bits as Bits, one_bit, one_bit, agreeing_bits]);
     let mut entry = || {
         let h = if in_one_group { side } else { random.below(2) };
-        let second = match differing && random.once_in(2) {
-            true => second ^ differing_bit(random),
+        let second = match random.once_in(2) {
+            true => second ^ bits(random),
             false => second,
         };
         [matching_word(page, h), second]
@@ -108,12 +108,35 @@ fn matching_entries(random: &mut Random, page: Page, second: u32, count: u32) ->
     (0..count).map(|_| entry()).collect()
 }
 
-/// A bit in which a match may differ from another, often a mark or an ignored one.
-fn differing_bit(random: &mut Random) -> u32 {
-    let any = 1 << random.below(32);
+/// Bits in which a match differs from another.
+type Bits = fn(&mut Random) -> u32;
+
+fn no_bits(_: &mut Random) -> u32 {
+    0
+}
+
+/// A bit of any field, seldom of two.
+fn one_bit(random: &mut Random) -> u32 {
+    let one = bit_of_any_field(random);
+    match random.once_in(4) {
+        true => one | bit_of_any_field(random),
+        false => one,
+    }
+}
+
+/// A bit of RPN, WIMG or PP, a mark or an ignored bit, each as often as the others.
+fn bit_of_any_field(random: &mut Random) -> u32 {
     let ignored = random.pick(&[0x800, 0x400, 0x200, 0x004]);
     debug_assert!(IGNORED_BITS & ignored != 0);
-    random.pick(&[any, ignored, REFERENCED, CHANGED])
+    let rpn = 0x1000 << random.below(20);
+    let wimg = 0x08 << random.below(4);
+    let pp = 0x01 << random.below(2);
+    random.pick(&[rpn, wimg, pp, REFERENCED, CHANGED, ignored])
+}
+
+/// Any of the bits in which matches that agree may differ.
+fn agreeing_bits(random: &mut Random) -> u32 {
+    random.word() & (REFERENCED | CHANGED | IGNORED_BITS)
 }
 
 /// The page's own words in groups near its two, where no search may find them.

@@ -8,7 +8,7 @@
 #include <stdio.h>
 #include <string.h>
 
-#if MMU_VERSION_MAJOR * 1000 + MMU_VERSION_MINOR < 5
+#if MMU_VERSION_MAJOR * 1000 + MMU_VERSION_MINOR < 6
 #error "the version cannot be compared by the preprocessor"
 #endif
 

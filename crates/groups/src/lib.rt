@@ -51,12 +51,12 @@ pub fn first_free(group: &[u8]) -> usize
     requires { ⌜ length (now group) ≡ groupSize ⌝ }
     ensures { λ r. ⌜ r ≡ firstFree (now (group .entry)) ⌝ }
 {
-    let mut i = 0;
-    while numbers::ENTRY_SIZE * i < group.len() {
-        if entry::is_free(words::read_word(group, numbers::ENTRY_SIZE * i)) {
-            return i;
+    let mut entry = 0;
+    while numbers::ENTRY_SIZE * entry < group.len() {
+        if entry::is_free(words::read_word(group, numbers::ENTRY_SIZE * entry)) {
+            return entry;
         }
-        i += 1;
+        entry += 1;
     }
     numbers::GROUP_ENTRIES
 }

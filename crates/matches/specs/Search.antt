@@ -53,9 +53,13 @@ merged m ms = marksOf (m ∷ ms) (m .second)
 abbrev pub each : Match → Bool
 each m = true
 
--- the place of a match as one number that is not 0: the entry's number and 16 in the primary group, and 24 in the secondary
+-- the place of entry 0 as one number that is not 0: 16 in the primary group, 24 in the secondary
+abbrev pub firstPlace : Bool → ℕ
+firstPlace secondary = cond secondary 24 16
+
+-- the place of a match: that of its group's entry 0, and the entry's number
 abbrev pub placeOf : Match → ℕ
-placeOf m = cond (m .secondary) 24 16 + m .entry
+placeOf m = firstPlace (m .secondary) + m .entry
 
 -- what the search tells of the matches of a list: the first one's place and second word, whether there are others, and whether they contradict
 unfoldable pub summary : List Match → Summary

@@ -50,8 +50,8 @@ pub record MatchesTables : Type 0 where
       ∷ (agree 0x12345E96 0x12345E96 ∷ agree 0 0 ∷ agree 0xFFFFFFFF 0xFFFFFFFF ∷ [], true ∷ true ∷ true ∷ [])
       ∷ []
       )
-  -- the first match in search order, its second word with R and C of any, a further one, and whether they contradict: by RPN, WIMG or PP, in one
-  -- group or across both, the second or a third; not by R, C or an ignored bit
+  -- the first match in search order, its second word, a further one, and whether they contradict: by RPN, WIMG or PP, in one group or across both,
+  -- the second or a third; not by R, C or an ignored bit
   pub summaries : Hold (
       (summary (pairMatches 0x0C701C 3 example example), told 17 0x12345E96 true false)
       ∷ (summary (pairMatches 0x0C701C 3 (mixed 0x86380E03 0x12345112 0 0 0 0) example), told 17 0x12345112 true false)

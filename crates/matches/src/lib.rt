@@ -7,7 +7,7 @@ ghost use lib.ListN.{length};
 ghost use Rattle.numbers.specs.Numbers.{groupSize};
 ghost use Rattle.tables.specs.Matches.{Match};
 ghost use Rattle.groups.specs.Group.{groupOf};
-ghost use Rattle.matches.specs.Search.{Wanted, groupMatches, pairMatches, agree, marksOf, merged, placeOf, onlyPlace, summary, groupSearch, pairSearch, found, inSecondary, entryOf};
+ghost use Rattle.matches.specs.Search.{Wanted, groupMatches, pairMatches, agree, marksOf, merged, firstPlace, placeOf, onlyPlace, summary, groupSearch, pairSearch, found, inSecondary, entryOf};
 
 // Whether the second words of two matches agree: RPN, WIMG and PP are equal. R, C and the ignored bits may differ.
 pub fn words_agree(second: u32, other: u32) -> bool
@@ -98,6 +98,13 @@ pub struct GroupSearch {
     pub free: usize,
 }
 
+// The place of entry 0 of the primary (false) or the secondary group (true).
+fn first_place(secondary: bool) -> usize
+    ensures { λ r. ⌜ r ≡ firstPlace secondary ⌝ }
+{
+    if secondary { 24 } else { 16 }
+}
+
 // Stands for a place where a group has several matches.
 const SEVERAL: usize = 1;
 
@@ -106,7 +113,7 @@ fn only_place(group: &[u8], secondary: bool, wanted: u32) -> usize
     requires { ⌜ length (now group) ≡ groupSize ⌝ }
     ensures { λ r. ⌜ ((vsid api : ℕ) → Wanted secondary vsid api wanted → r ≡ onlyPlace (groupMatches secondary vsid api (now (group .entry)))) ⌝ }
 {
-    let start = if secondary { 24 } else { 16 };
+    let start = first_place(secondary);
     let mut place = 0;
     let mut i = 0;
     while numbers::ENTRY_SIZE * i < group.len() {
@@ -134,7 +141,7 @@ fn every_match(group: &[u8], secondary: bool, wanted: u32, word: u32) -> Duplica
         → (r .matches ≡ summary (groupMatches secondary vsid api (now (group .entry))))
         × (r .merged ≡ marksOf (groupMatches secondary vsid api (now (group .entry))) word)) ⌝ }
 {
-    let start = if secondary { 24 } else { 16 };
+    let start = first_place(secondary);
     let mut matches = Summary::nothing();
     let mut merged = word;
     for i in 0..numbers::GROUP_ENTRIES {
@@ -213,16 +220,16 @@ pub fn search_places(
 {
     let from = primary * numbers::GROUP_SIZE;
     let to = from + numbers::GROUP_SIZE;
-    let first = search_group(&table[from..to], false, entry::match_word(vsid, 0, api));
+    let own = search_group(&table[from..to], false, entry::match_word(vsid, 0, api));
     let next = secondary * numbers::GROUP_SIZE;
     let end = next + numbers::GROUP_SIZE;
-    let other = search_group(&table[next..end], true, entry::match_word(vsid, 1, api));
-    let further = other.matches;
-    let matches = first.matches;
+    let rest = search_group(&table[next..end], true, entry::match_word(vsid, 1, api));
+    let further = rest.matches;
+    let matches = own.matches;
     PairSearch {
         matches: matches.then(further),
-        primary: first.free,
-        secondary: other.free,
+        primary: own.free,
+        secondary: rest.free,
     }
 }
 

@@ -1,5 +1,6 @@
 //! Complete small tables: every mode, kind, key, N, PP and WIMG of a page, the same of a block, every
-//! two places of a page's matches, and every bit of the register words.
+//! two places of a page's matches, every choice of free entries among its sixteen, and every bit of the
+//! register words.
 
 use model::call::{Access, Call, Page};
 use model::search::{group_numbers, ENTRY, GROUP};
@@ -28,6 +29,8 @@ pub fn run(subject: &dyn Machine, _factor: u32) -> Result<Tally, Difference> {
         }
     }
     duplicates(&mut bench)?;
+    free_entries(&mut bench)?;
+    one_free_entry(&mut bench)?;
     sdr1_words(&mut bench)?;
     block_lengths(&mut bench)?;
     single_bits(&mut bench)?;
@@ -79,14 +82,100 @@ fn duplicates(bench: &mut Bench) -> Result<(), Difference> {
     Ok(())
 }
 
-/// A match at each of the sixteen places of a page, and one with each of these second words at each place
-/// from there on.
-fn by_places(bench: &mut Bench, call: &Call, others: &[u32]) -> Result<(), Difference> {
+/// Where map writes, for every choice of free entries among a page's sixteen. A free entry has the
+/// page's own words but for V.
+fn free_entries(bench: &mut Bench) -> Result<(), Difference> {
     let page = Page::of_address(VSID, ADDRESS);
+    let call = Call::Map { sdr1: SDR1, page, rpn: 0x54321, wimg: 5, pp: 1 };
+    bench.lend_answer(&call);
+    for free in 0..0x1_0000 {
+        for place in 0..16 {
+            let entry = if free >> place & 1 == 1 { Entry::Free } else { Entry::Used };
+            put_entry(bench, place, entry);
+        }
+        bench.compare(&call, Lending::Table)?;
+    }
+    clear_groups(bench);
+    Ok(())
+}
+
+/// One free entry among a page's sixteen at every place, a match at every other one, and a further match
+/// with each of some second words at each place behind that; entries of another page at the others.
+fn one_free_entry(bench: &mut Bench) -> Result<(), Difference> {
+    let page = Page::of_address(VSID, ADDRESS);
+    let load = Access { mode: 1, kind: 1, address: ADDRESS, length: 1 };
+    put_registers(bench);
+    for call in [
+        Call::Map { sdr1: SDR1, page, rpn: 0x54321, wimg: 5, pp: 1 },
+        Call::Look { sdr1: SDR1, page },
+        Call::Access(load),
+        Call::Access(Access { kind: 2, ..load }),
+        Call::Unmap { sdr1: SDR1, page },
+        Call::Protect { sdr1: SDR1, page, pp: 3 },
+    ] {
+        bench.lend_answer(&call);
+        for first in 0..16 {
+            for free in (0..16).filter(|&free| free != first) {
+                for later in (first..16).filter(|&later| later != free) {
+                    for other in SOME_WORDS {
+                        (0..16).for_each(|place| put_entry(bench, place, Entry::Used));
+                        put_entry(bench, free, Entry::Free);
+                        put_entry(bench, later, Entry::Match(other));
+                        put_entry(bench, first, Entry::Match(SECOND));
+                        bench.compare(&call, Lending::Table)?;
+                    }
+                }
+            }
+        }
+    }
+    clear_groups(bench);
+    Ok(())
+}
+
+/// SDR1 and the segment of the page; every block is off.
+fn put_registers(bench: &mut Bench) {
     let mut words = [0; 33];
     words[0] = SDR1;
     words[1] = VSID;
     bench.put_registers(&words);
+}
+
+/// What stands at one of a page's places.
+#[derive(Clone, Copy)]
+enum Entry {
+    Free,
+    /// Of a page with another VSID.
+    Used,
+    /// With this second word.
+    Match(u32),
+}
+
+/// Writes an entry of the page at a place of its search order.
+fn put_entry(bench: &mut Bench, place: usize, entry: Entry) {
+    let page = Page::of_address(VSID, ADDRESS);
+    let matching = matching_word(page, (place / 8) as u32);
+    let [first, second] = match entry {
+        Entry::Free => [matching & 0x7FFF_FFFF, SECOND],
+        Entry::Used => [matching ^ 0x4000_0000, SECOND],
+        Entry::Match(second) => [matching, second],
+    };
+    let at = GROUP * group_numbers(SDR1, page)[place / 8] + ENTRY * (place % 8);
+    bench.table.write(at, &first.to_be_bytes());
+    bench.table.write(at + 4, &second.to_be_bytes());
+}
+
+/// Zeroes the page's two groups.
+fn clear_groups(bench: &mut Bench) {
+    for group in group_numbers(SDR1, Page::of_address(VSID, ADDRESS)) {
+        bench.table.write(GROUP * group, &[0; GROUP]);
+    }
+}
+
+/// A match at each of the sixteen places of a page, and one with each of these second words at each place
+/// from there on.
+fn by_places(bench: &mut Bench, call: &Call, others: &[u32]) -> Result<(), Difference> {
+    let page = Page::of_address(VSID, ADDRESS);
+    put_registers(bench);
     let groups = group_numbers(SDR1, page);
     let at = |place: usize| GROUP * groups[place / 8] + ENTRY * (place % 8);
     for first in 0..16 {

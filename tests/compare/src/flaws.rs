@@ -50,7 +50,7 @@ fn by_the_comparison(found: &mut Found, factor: u32) -> Result<(), Difference> {
     let of_record =
         [&RecordFlaw::IN_MAP[..], &RecordFlaw::IN_TABLE, &RecordFlaw::OF_PLACE].concat();
     let of_record = of_record.into_iter().map(Flaw::Record);
-    let of_pages = Flaw::WITHIN_PAGE.into_iter().chain(Flaw::DUPLICATES);
+    let of_pages = Flaw::WITHIN_PAGE.into_iter().chain(Flaw::GAPS).chain(Flaw::DUPLICATES);
     let of_calls = of_pages.chain(Flaw::OPERANDS).chain(Flaw::ORDERS);
     for flaw in of_calls.chain(of_record) {
         let model = Model::with(flaw);
@@ -96,8 +96,8 @@ fn of_the_map(found: &mut Found, factor: u32) -> Result<(), Difference> {
 
 /// A wrong place passes the finite map, which has none to hold it to.
 fn left_to_the_table(found: &mut Found, factor: u32) -> Result<(), Difference> {
-    for flaw in RecordFlaw::OF_PLACE {
-        let model = Model::with(Flaw::Record(flaw));
+    for flaw in RecordFlaw::OF_PLACE.into_iter().map(Flaw::Record).chain(Flaw::OF_FREE_PLACE) {
+        let model = Model::with(flaw);
         lists::run_with(&model, factor, Judges::MapAlone, None)?;
         found.left_to_table += 1;
     }

@@ -42,6 +42,7 @@ pub fn run(subject: &dyn Machine, factor: u32) -> Result<Tally, Difference> {
     }
     let mut missing = tally.operands.missing_in_lists();
     missing.extend(tally.decisions.missing());
+    missing.extend(tally.gaps.missing_in_lists());
     match missing.first() {
         None => Ok(tally),
         Some(missing) => Err(Difference::new(format!("the lists were too short: {missing}"))),

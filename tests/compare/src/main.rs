@@ -10,6 +10,7 @@ mod duplicates;
 mod edges;
 mod exhaustive;
 mod flaws;
+mod gaps;
 mod guarded;
 mod lengths;
 mod lists;
@@ -145,4 +146,6 @@ fn print_results(total: &Tally) {
     let (equal, unequal) = (total.duplicates.equal, total.duplicates.unequal);
     println!("searches with several matches: {equal} equal, {unequal} not equal");
     println!("  that differ in one field alone: {}", counts.join("  "));
+    println!("searches whose first match stands behind an entry with V = 0: {}", total.gaps.behind);
+    println!("maps that took a place in front of used entries: {}", total.gaps.in_front);
 }

@@ -6,11 +6,12 @@ use model::bytes::Model;
 use model::call::{Call, Lengths, Page, FETCH, LOAD, STORE};
 use model::operand::{parts, LONGEST};
 use model::registers::{sdr1_is_well_formed, table_length, Registers};
-use model::search::{contradict, first_free, matches, Place};
+use model::search::{contradict, first_free, matches, places, Place};
 use model::translation::{before_search, BeforeSearch};
 
 use crate::decisions::Decisions;
 use crate::duplicates::Duplicates;
+use crate::gaps::Gaps;
 use crate::operands::Operands;
 
 /// Counts of calls by what they met.
@@ -28,6 +29,7 @@ pub struct Tally {
     pub operands: Operands,
     pub decisions: Decisions,
     pub duplicates: Duplicates,
+    pub gaps: Gaps,
 }
 
 impl Tally {
@@ -47,6 +49,7 @@ impl Tally {
         }
         self.decisions.add(&other.decisions);
         self.duplicates.add(&other.duplicates);
+        self.gaps.add(&other.gaps);
     }
 
     /// Notes the state a call comes upon.
@@ -70,7 +73,9 @@ impl Tally {
         }
         if !refused {
             for (sdr1, page) in pages_of(call, registers, table.len()) {
-                self.duplicates.note(call.name(), &matches(None, sdr1, page, table));
+                let met = matches(None, sdr1, page, table);
+                self.duplicates.note(call.name(), &met);
+                self.gaps.note(call.name(), &places(sdr1, page, table), &met);
             }
         }
         if let (Call::Access(access), false) = (*call, refused) {
@@ -93,7 +98,7 @@ impl Tally {
         *self.situations.entry((call.name(), situation(&met))).or_default() += 1;
         let causes = match call {
             Call::Map { .. } => {
-                vec![(7, !met.is_empty()), (9, first_free(sdr1, page, table).is_none())]
+                vec![(7, !met.is_empty()), (9, first_free(None, sdr1, page, table).is_none())]
             }
             Call::Look { .. } => vec![(10, contradict(None, &met)), (8, met.is_empty())],
             Call::Access(_) => vec![(10, contradict(None, &met))],
@@ -134,6 +139,7 @@ impl Tally {
         missing.extend(self.operands.missing());
         missing.extend(self.decisions.missing());
         missing.extend(self.duplicates.missing());
+        missing.extend(self.gaps.missing());
         missing
     }
 }

@@ -93,10 +93,10 @@ impl Model {
     }
 
     fn map(&self, sdr1: u32, page: Page, frame: Fields, table: &mut [u8]) -> u32 {
-        let free = search::first_free(sdr1, page, table);
+        let free = search::first_free(self.flaw, sdr1, page, table);
         let mut matches = search::matches(self.flaw, sdr1, page, table);
         if let (true, Some(free)) = (self.has(Flaw::MatchUpToFree), free) {
-            matches.retain(|place| (place.h, place.entry) < (free.h, free.entry));
+            matches.retain(|place| place.is_before(&free));
         }
         if free.is_none() && self.has(Flaw::FullBeforeMatch) {
             return 9;
@@ -121,8 +121,8 @@ impl Model {
         let Some(first) = matches.first() else {
             return self.answer_number(8, answer);
         };
-        let mut marks = marks_of(&matches);
-        for place in &matches {
+        let mut marks = marks_of(self.edited(&matches));
+        for place in self.edited(&matches) {
             if place.h == 0 || !self.has(Flaw::UnmapPrimaryOnly) {
                 table[place.at()..place.at() + search::ENTRY].fill(0);
             }
@@ -130,8 +130,22 @@ impl Model {
         if self.has(Flaw::UnmapFirstMarks) {
             marks = 0;
         }
+        if self.has(Flaw::UnmapMarksOfOneGroup) {
+            let of_group = matches.iter().take_while(|place| place.h == first.h);
+            marks = marks_of(&of_group.copied().collect::<Vec<Place>>());
+        }
         put_words(answer, &[0, first.second | marks, 0, 0]);
         0
+    }
+
+    /// The matches that unmap and protect change: all of them.
+    fn edited<'a>(&self, matches: &'a [Place]) -> &'a [Place] {
+        match matches {
+            [one, other] if one.h != other.h && self.has(Flaw::OneOfEachNotSeveral) => {
+                &matches[..1]
+            }
+            _ => matches,
+        }
     }
 
     fn protect(&self, sdr1: u32, page: Page, pp: u32, table: &mut [u8]) -> u32 {
@@ -142,7 +156,7 @@ impl Model {
         if self.has(Flaw::ProtectFirstOnly) {
             matches.truncate(1);
         }
-        for place in &matches {
+        for place in self.edited(&matches) {
             let mut second = place.second & !0b11 | pp;
             if self.has(Flaw::ProtectIgnoredBits) {
                 second &= !IGNORED_BITS;

@@ -17,6 +17,20 @@ pub enum Flaw {
     FullBeforeMatch,
     /// Map looks for a match only up to the first free entry.
     MatchUpToFree,
+    /// The search of a group ends at its first entry with V = 0, of either group.
+    GroupEndsAtFree,
+    /// The whole search ends at the first entry with V = 0.
+    SearchEndsAtFree,
+    /// The secondary group is not searched where the primary has an entry with V = 0.
+    FreeEndsInPrimary,
+    /// Map takes the secondary group's free entry though the primary has one.
+    SecondaryFreeTaken,
+    /// Map takes the last free entry of the group.
+    LastFreeTaken,
+    /// An entry is free only where its first word is zero.
+    FreeMeansZero,
+    /// The last entry of a group is never free.
+    LastEntryNotFree,
     /// Map says done and writes nothing.
     MapStoresNothing,
     /// Protect changes the first match alone.
@@ -43,8 +57,14 @@ pub enum Flaw {
     GroupsNotCompared,
     /// Matches of one group are not compared with each other.
     OneGroupNotCompared,
+    /// Of this group's matches, 0 for the primary, the first alone is compared.
+    FirstOfGroupCompared(u32),
     /// The first match is not compared, each other one is with the next.
     LaterPairsOnly,
+    /// Where each group has one match, unmap and protect take the first for the only one.
+    OneOfEachNotSeveral,
+    /// Unmap answers the marks of the first match's group alone.
+    UnmapMarksOfOneGroup,
     /// An access marks every match.
     MarksEveryMatch,
     /// A mark that a later match has is not set in the first.
@@ -280,22 +300,37 @@ impl Flaw {
     /// Those of them that show after a clear, where no duplicate and no ignored bit ever stands in
     /// the table: the finite map has to find them without the model's help.
     #[rustfmt::skip]
-    pub const AFTER_CLEAR: [Flaw; 13] = [
+    pub const AFTER_CLEAR: [Flaw; 17] = [
         Flaw::UnmapPrimaryOnly, Flaw::HForgotten, Flaw::VsidForgotten, Flaw::FullAtPrimary,
         Flaw::FullBeforeMatch, Flaw::MatchUpToFree, Flaw::MapStoresNothing,
+        Flaw::GroupEndsAtFree, Flaw::SearchEndsAtFree, Flaw::FreeEndsInPrimary,
+        Flaw::LastEntryNotFree,
         Flaw::KpForSupervisor, Flaw::ChangedByFault, Flaw::ReferencedByFault,
         Flaw::NeverMatches, Flaw::OneFrame, Flaw::RefusesAll,
     ];
 
-    /// Those about duplicate matches: when they agree, and which of them is marked and looked at.
+    /// Those about entries with V = 0: matches behind them, and which of them map takes. A map that
+    /// fills one though the page is mapped behind it is `MatchUpToFree`.
     #[rustfmt::skip]
-    pub const DUPLICATES: [Flaw; 19] = [
+    pub const GAPS: [Flaw; 7] = [
+        Flaw::GroupEndsAtFree, Flaw::SearchEndsAtFree, Flaw::FreeEndsInPrimary,
+        Flaw::SecondaryFreeTaken, Flaw::LastFreeTaken, Flaw::FreeMeansZero, Flaw::LastEntryNotFree,
+    ];
+
+    /// Those of them that change the entry map takes and nothing else: the finite map has no entries.
+    pub const OF_FREE_PLACE: [Flaw; 3] =
+        [Flaw::SecondaryFreeTaken, Flaw::LastFreeTaken, Flaw::FreeMeansZero];
+
+    /// Those about duplicate matches: when they agree, and which of them is marked, looked at, changed.
+    #[rustfmt::skip]
+    pub const DUPLICATES: [Flaw; 23] = [
         Flaw::AgreeByRpnAlone, Flaw::AgreeWithoutRpn, Flaw::AgreeWithoutWimg,
         Flaw::AgreeWithoutPp, Flaw::AgreeByWord,
         Flaw::AgreeByBitToo(20), Flaw::AgreeByBitToo(21), Flaw::AgreeByBitToo(22),
         Flaw::AgreeByBitToo(23), Flaw::AgreeByBitToo(24), Flaw::AgreeByBitToo(29),
         Flaw::ThirdNotCompared, Flaw::LastAloneCompared, Flaw::GroupsNotCompared,
-        Flaw::OneGroupNotCompared, Flaw::LaterPairsOnly,
+        Flaw::OneGroupNotCompared, Flaw::FirstOfGroupCompared(0), Flaw::FirstOfGroupCompared(1),
+        Flaw::LaterPairsOnly, Flaw::OneOfEachNotSeveral, Flaw::UnmapMarksOfOneGroup,
         Flaw::MarkLeftToLater, Flaw::MarksJoined, Flaw::LookJoinsMarks,
     ];
 

@@ -40,6 +40,11 @@ impl Place {
         bits(self.first, 0, 0) == 0
     }
 
+    /// Whether it comes before another in search order.
+    pub fn is_before(&self, other: &Place) -> bool {
+        (self.h, self.entry) < (other.h, other.entry)
+    }
+
     fn matches(&self, flaw: Option<Flaw>, page: Page) -> bool {
         let entry = Fields::of_words(self.first, self.second);
         entry.v == 1
@@ -69,9 +74,24 @@ pub fn places(sdr1: u32, page: Page, table: &[u8]) -> Vec<Place> {
 
 /// The matches of a page in search order.
 pub fn matches(flaw: Option<Flaw>, sdr1: u32, page: Page, table: &[u8]) -> Vec<Place> {
-    let mut places = places(sdr1, page, table);
-    places.retain(|place| place.matches(flaw, page));
-    places
+    let mut matches = places(sdr1, page, table);
+    let places = matches.clone();
+    matches.retain(|place| place.matches(flaw, page) && !is_passed_over(flaw, &places, place));
+    matches
+}
+
+/// Whether a search that is wrong about entries with V = 0 does not come to a place.
+fn is_passed_over(flaw: Option<Flaw>, places: &[Place], place: &Place) -> bool {
+    let free_before = |h: u32| {
+        let mut before = places.iter().filter(|other| other.is_before(place));
+        before.any(|other| other.h == h && other.is_free())
+    };
+    match flaw {
+        Some(Flaw::GroupEndsAtFree) => free_before(place.h),
+        Some(Flaw::SearchEndsAtFree) => free_before(0) || free_before(1),
+        Some(Flaw::FreeEndsInPrimary) => place.h == 1 && free_before(0),
+        _ => false,
+    }
 }
 
 /// Whether two matches agree: RPN, WIMG and PP are equal.
@@ -108,6 +128,9 @@ pub fn contradict(flaw: Option<Flaw>, matches: &[Place]) -> bool {
             contradict(None, &group)
         }),
         Some(Flaw::OneGroupNotCompared) => of_group(1).take(1).any(differs),
+        Some(Flaw::FirstOfGroupCompared(h)) => {
+            of_group(1 - h).chain(of_group(h).take(1)).any(differs)
+        }
         Some(Flaw::LaterPairsOnly) => {
             matches.windows(2).skip(1).any(|pair| !agree(flaw, &pair[0], &pair[1]))
         }
@@ -116,6 +139,18 @@ pub fn contradict(flaw: Option<Flaw>, matches: &[Place]) -> bool {
 }
 
 /// The first entry with V = 0.
-pub fn first_free(sdr1: u32, page: Page, table: &[u8]) -> Option<Place> {
-    places(sdr1, page, table).into_iter().find(Place::is_free)
+pub fn first_free(flaw: Option<Flaw>, sdr1: u32, page: Page, table: &[u8]) -> Option<Place> {
+    let mut free = places(sdr1, page, table);
+    free.retain(Place::is_free);
+    let first = free.first().copied();
+    let mut free = free.into_iter();
+    match flaw {
+        Some(Flaw::SecondaryFreeTaken) => free.find(|place| place.h == 1).or(first),
+        Some(Flaw::LastFreeTaken) => {
+            free.rfind(|place| Some(place.h) == first.map(|first| first.h))
+        }
+        Some(Flaw::FreeMeansZero) => free.find(|place| place.first == 0),
+        Some(Flaw::LastEntryNotFree) => free.find(|place| place.entry != 7),
+        _ => first,
+    }
 }

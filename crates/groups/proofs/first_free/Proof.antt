@@ -11,13 +11,13 @@ use Rattle.groups.proofs.first_free.Statement.{statement}
 use Rattle.groups.proofs.first_free.Tie as tie
 
 abbrev Inv-loop : tie.InvT-loop
-Inv-loop group i₀ i = (i ≤ 8) × ((k : ℕ) → k < i → entryFree group k ≡ false)
+Inv-loop group entry₀ entry = (entry ≤ 8) × ((k : ℕ) → k < entry → entryFree group k ≡ false)
 
 abbrev μ-loop : tie.MeasureT-loop
-μ-loop group i₀ i = 8 - i
+μ-loop group entry₀ entry = 8 - entry
 
 -- the test is whether this entry is free
-tested : (c : tie.After-is-free Inv-loop μ-loop) → c .is-free .result ≡ entryFree (c .before .before .before .before .before .args .group .now) (c .before .before .before .loop .i)
+tested : (c : tie.After-is-free Inv-loop μ-loop) → c .is-free .result ≡ entryFree (c .before .before .before .before .before .args .group .now) (c .before .before .before .loop .entry)
 unfolding entryFree firstAt
 tested c = c .is-free .ensures ∙ ap free (c .before .read-word .ensures)
 
@@ -40,8 +40,8 @@ returns : tie.Need-returns Inv-loop μ-loop
 unfolding firstFree
 returns c = sym (first-found _ 8 _ (omega arith) (sym (tested (c .before)) ∙ c .if1 .taken) (c .before .before .before .before .loop .inv .1))
 
-add-i : tie.Need-add-i Inv-loop μ-loop
-add-i c = omega arith
+add-entry : tie.Need-add-entry Inv-loop μ-loop
+add-entry c = omega arith
 
 loop-less : tie.Need-loop-less Inv-loop μ-loop
 loop-less c = omega arith
@@ -65,7 +65,7 @@ first-free-spec =
     read-word-requires
     is-free-requires
     returns
-    add-i
+    add-entry
     loop-less
     loop-again
     returns-2)

@@ -9,7 +9,7 @@ use borrow.Author.Needs.{needs}
 use Rattle.entry.specs.Entry.{matches}
 use Rattle.tables.specs.Matches.{Match, matchesBelow}
 use Rattle.groups.specs.Group.{firstAt, secondAt}
-use Rattle.matches.specs.Search.{hOf, Wanted, groupMatches, marksOf, summary}
+use Rattle.matches.specs.Search.{hOf, Wanted, groupMatches, firstPlace, marksOf, summary}
 use Rattle.matches.proofs.Matches.{wanted-matches, entryAt, matchesTo, matches-more, matches-same}
 use Rattle.matches.proofs.Summaries.{marks-none, marks-more}
 use Rattle.matches.proofs.every_match.Statement.{statement}
@@ -23,13 +23,13 @@ Inv-loop group secondary wanted word start matches₀ merged₀ i₀ found merge
 abbrev μ-loop : tie.MeasureT-loop
 μ-loop group secondary wanted word start matches₀ merged₀ i₀ found merged i = 8 - i
 
--- where the places of the group begin
-start-is : (c : tie.Joined1 Inv-loop μ-loop) → c .if1 .start ≡ cond (c .before .before .args .secondary) 24 16
-start-is c = ⊎-elim (λ w. w .1 ∙ (rw (w .0 .taken))) (λ w. w .1 ∙ (rw (w .0 .left))) (c .if1 .came)
-
-start-le : (b : Bool) → cond b 24 16 ≤ 24
+-- where the places of a group begin at most
+start-le : (b : Bool) → firstPlace b ≤ 24
 start-le true = omega arith
 start-le false = omega arith
+
+first-place-requires : tie.Need-first-place-requires Inv-loop μ-loop
+first-place-requires c κs = tt
 
 nothing-requires : tie.Need-nothing-requires Inv-loop μ-loop
 nothing-requires c κs = search needs
@@ -54,7 +54,7 @@ read-word-requires : tie.Need-read-word-requires Inv-loop μ-loop
 read-word-requires c κs = omega arith
 
 add-one : tie.Need-add-one Inv-loop μ-loop
-add-one c = let j = c .before .before .before .before .before .before .before in omega (arith, start-is j, start-le (j .before .before .args .secondary))
+add-one c = let j = c .before .before .before .before .before .before in omega (arith, j .first-place .ensures, start-le (j .before .before .args .secondary))
 
 one-requires : tie.Need-one-requires Inv-loop μ-loop
 one-requires c κs = search needs
@@ -77,11 +77,11 @@ add-i c = omega arith
 loop-less : tie.Need-loop-less Inv-loop μ-loop
 loop-less c = omega arith
 
-module _ (c : tie.Joined2 Inv-loop μ-loop) where
+module _ (c : tie.Joined1 Inv-loop μ-loop) where
   abbrev at-loop : tie.At-loop Inv-loop μ-loop
   at-loop = c .before .before .before
 
-  abbrev joined : tie.Joined1 Inv-loop μ-loop
+  abbrev joined : tie.After-first-place Inv-loop μ-loop
   joined = at-loop .before .before
 
   abbrev begin : tie.Start Inv-loop μ-loop
@@ -108,13 +108,13 @@ loop-again c =
           let ms = matchesTo b vsid api g i in
           let before = l .loop .inv .1 vsid api is in
           let more = matches-more b vsid api g i (sym (tested c vsid api is) ∙ w .0 .taken) in (
-            w .8
-                ∙ w .4 .ensures ms (entryAt b g i ∷ []) (before .0)
-                (w .3 .ensures (entryAt b g i) (ap (λ (n : ℕ). n + i) (start-is (joined c))) (w .1 .ensures))
+            w .7
+                ∙ w .3 .ensures ms (entryAt b g i ∷ []) (before .0)
+                (w .2 .ensures (entryAt b g i) (ap (λ (n : ℕ). n + i) (joined c .first-place .ensures)) (w .1 .ensures))
                 ∙ sym (ap summary more),
-            w .9
-                ∙ w .7 .ensures
-                ∙ marks-more ms (entryAt b g i) (a .word) _ _ _ _ (before .1) (w .1 .ensures) (w .5 .ensures) (w .6 .ensures)
+            w .8
+                ∙ w .6 .ensures
+                ∙ marks-more ms (entryAt b g i) (a .word) _ _ _ _ (before .1) (w .1 .ensures) (w .4 .ensures) (w .5 .ensures)
                 ∙ sym (ap (λ (l : List Match). marksOf l (a .word)) more),
           ),
     ))
@@ -125,7 +125,7 @@ loop-again c =
           let same = matches-same b vsid api g i (sym (tested c vsid api is) ∙ w .0 .left) in
           (w .1 ∙ before .0 ∙ sym (ap summary same), w .2 ∙ before .1 ∙ sym (ap (λ (l : List Match). marksOf l (a .word)) same)),
     ))
-    (c .if2 .came)
+    (c .if1 .came)
 
 returns : tie.Need-returns Inv-loop μ-loop
 unfolding groupMatches
@@ -137,6 +137,7 @@ every-match-spec =
     (tie.spec
     Inv-loop
     μ-loop
+    first-place-requires
     nothing-requires
     loop-holds
     mul-is-word

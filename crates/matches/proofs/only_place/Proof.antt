@@ -8,7 +8,7 @@ use native.Mathlib.Omega.{arith}
 use Rattle.entry.specs.Entry.{matches}
 use Rattle.tables.specs.Matches.{Match, matchesBelow}
 use Rattle.groups.specs.Group.{firstAt}
-use Rattle.matches.specs.Search.{hOf, Wanted, groupMatches, onlyPlace}
+use Rattle.matches.specs.Search.{hOf, Wanted, groupMatches, firstPlace, onlyPlace}
 use Rattle.matches.proofs.Matches.{wanted-matches, entryAt, matchesTo, matches-more, matches-same, matches-extend}
 use Rattle.matches.proofs.Summaries.{only-none, only-several}
 use Rattle.matches.proofs.only_place.Statement.{statement}
@@ -34,13 +34,13 @@ module _ (c : tie.After-is-word Inv-loop μ-loop) where
   unfolding firstAt
   tested vsid api is = wanted-matches (begin .args .secondary) vsid api _ _ _ is (c .is-word .ensures)
 
--- where the places of the group begin
-start-is : (c : tie.Joined1 Inv-loop μ-loop) → c .if1 .start ≡ cond (c .before .before .args .secondary) 24 16
-start-is c = ⊎-elim (λ w. w .1 ∙ (rw (w .0 .taken))) (λ w. w .1 ∙ (rw (w .0 .left))) (c .if1 .came)
-
-start-le : (b : Bool) → cond b 24 16 ≤ 24
+-- where the places of a group begin at most
+start-le : (b : Bool) → firstPlace b ≤ 24
 start-le true = omega arith
 start-le false = omega arith
+
+first-place-requires : tie.Need-first-place-requires Inv-loop μ-loop
+first-place-requires c κs = tt
 
 loop-holds : tie.Need-loop-holds Inv-loop μ-loop
 unfolding matchesBelow
@@ -63,14 +63,14 @@ returns c vsid api is =
     let a = begin w .args in
     let i = l .loop .i in
     let (rest, more) = matches-extend (a .secondary) vsid api (a .group .now) (i + 1) 8 (omega arith) in
-    let one = matches-more (a .secondary) vsid api (a .group .now) i (sym (tested w vsid api is) ∙ c .before .if2 .taken) in
+    let one = matches-more (a .secondary) vsid api (a .group .now) i (sym (tested w vsid api is) ∙ c .before .if1 .taken) in
     sym
     (ap onlyPlace (more ∙ ap (λ (ms : List Match). ms ++ rest) one)
     ∙ only-several (matchesTo (a .secondary) vsid api (a .group .now) i) (entryAt (a .secondary) (a .group .now) i) rest
-    (λ z. c .if3 .taken (l .loop .inv .1 vsid api is ∙ z)))
+    (λ z. c .if2 .taken (l .loop .inv .1 vsid api is ∙ z)))
 
 add-place : tie.Need-add-place Inv-loop μ-loop
-add-place c = let j = c .before .before .before .before .before .before in omega (arith, start-is j, start-le (j .before .before .args .secondary))
+add-place c = let j = c .before .before .before .before .before in omega (arith, j .first-place .ensures, start-le (j .before .before .args .secondary))
 
 add-i : tie.Need-add-i Inv-loop μ-loop
 add-i c = omega arith
@@ -90,7 +90,7 @@ loop-again c =
       λ vsid api is.
           let none = only-none (matchesTo (a .secondary) vsid api (a .group .now) i) (sym (l .loop .inv .1 vsid api is) ∙ v .1 .left) in
           let one = matches-more (a .secondary) vsid api (a .group .now) i (sym (tested w vsid api is) ∙ v .0 .taken) in
-          v .3 ∙ ap (λ (n : ℕ). n + i) (start-is (l .before)) ∙ sym (ap onlyPlace (one ∙ ap (λ (ms : List Match). ms ++ (entryAt (a .secondary) (a .group .now) i ∷ [])) none)),
+          v .2 ∙ ap (λ (n : ℕ). n + i) (l .before .first-place .ensures) ∙ sym (ap onlyPlace (one ∙ ap (λ (ms : List Match). ms ++ (entryAt (a .secondary) (a .group .now) i ∷ [])) none)),
     ))
     (λ v. (
       omega arith,
@@ -98,7 +98,7 @@ loop-again c =
           let same = matches-same (a .secondary) vsid api (a .group .now) i (sym (tested w vsid api is) ∙ v .0 .left) in
           v .1 ∙ l .loop .inv .1 vsid api is ∙ sym (ap onlyPlace same),
     ))
-    (c .if2 .came)
+    (c .if1 .came)
 
 returns-2 : tie.Need-returns-2 Inv-loop μ-loop
 unfolding groupMatches
@@ -110,6 +110,7 @@ only-place-spec =
     (tie.spec
     Inv-loop
     μ-loop
+    first-place-requires
     loop-holds
     mul-loop
     mul-is-word

@@ -158,25 +158,23 @@ pub fn three_agree() {
     line(895, look(VSID, in_secondary, 0, 0x12345212));
 }
 
-// Fills a group with entries of the page.
-fn fill(table: &mut [u8; 65536], group: usize, first: u32, second: u32) {
-    put(table, group, 0, first, second);
-    put(table, group, 1, first, second);
-    put(table, group, 2, first, second);
-    put(table, group, 3, first, second);
-    put(table, group, 4, first, second);
-    put(table, group, 5, first, second);
-    put(table, group, 6, first, second);
-    put(table, group, 7, first, second);
+// Fills a group with entries of the page, by the second words of entry 0, of those between, and of entry 7.
+fn fill(table: &mut [u8; 65536], group: usize, first: u32, zero: u32, between: u32, seven: u32) {
+    put(table, group, 0, first, zero);
+    put(table, group, 1, first, between);
+    put(table, group, 2, first, between);
+    put(table, group, 3, first, between);
+    put(table, group, 4, first, between);
+    put(table, group, 5, first, between);
+    put(table, group, 6, first, between);
+    put(table, group, 7, first, seven);
 }
 
 // A table with the page in all sixteen entries of its groups, by the second words of the first, of those between, and of the last.
 fn sixteen(first: u32, between: u32, last: u32) -> [u8; 65536] {
     let mut table = [0u8; 65536];
-    fill(&mut table, 998, 0x86380E03, between);
-    fill(&mut table, 25, 0x86380E43, between);
-    put(&mut table, 998, 0, 0x86380E03, first);
-    put(&mut table, 25, 7, 0x86380E43, last);
+    fill(&mut table, 998, 0x86380E03, first, between, between);
+    fill(&mut table, 25, 0x86380E43, between, between, last);
     table
 }
 

@@ -33,7 +33,7 @@ static const uint8_t possible[CALLS][13] = {
 
 /* What is lent, one byte longer than any call takes, so that a length can be one too many. */
 struct lent {
-    uint8_t registers[MMU_REGISTERS_SIZE + 1];
+    uint8_t registers[MMU_REGISTERS_SIZE_LONG + 1];
     uint8_t answer[MMU_ACCESS_ANSWER_SIZE + 1];
     uint8_t table[LARGEST_TABLE + 1];
 };
@@ -49,6 +49,13 @@ static struct lent lent[2];
 static uint64_t state;
 static uint32_t odds = 40;
 static unsigned long seen[CALLS][66];
+
+/* The length of the round's register page, and how often check, set_register and access gave each result on each. */
+static size_t page_len = MMU_REGISTERS_SIZE_SHORT;
+static unsigned long seen_on[2][3][66];
+
+/* Accesses by a block, by the page's length and the block's number. */
+static unsigned long blocks[2][8];
 
 /* Accesses over a page edge: how many were done, and how many faulted in the second page. */
 static unsigned long edges_done, edges_faulted;
@@ -129,11 +136,16 @@ static void put_both(size_t offset, uint32_t word)
     mmu_put_word(lent[1].registers, offset, word);
 }
 
-/* A pair of right shape in one of the topmost places, often on. */
+static int is_long(size_t registers_len)
+{
+    return registers_len == MMU_REGISTERS_SIZE_LONG;
+}
+
+/* A pair of right shape in one of the topmost places, often on; on a long page one of more than 256 MB is rare. */
 static void random_pair(uint32_t number, int data)
 {
     static const uint32_t attributes[8] = { 0, 2, 4, 6, 1, 3, 8, 11 };
-    uint32_t bl = below(3) ? low_ones(11) : 0;
+    uint32_t bl = below(3) ? low_ones(is_long(page_len) && below(6) == 0 ? 15 : 11) : 0;
     uint32_t start = (0x4000 | below(8) << 11 | below(64)) & ~bl & 0x7FFF;
     uint32_t physical = any() & 0x7FFF & ~bl;
     uint32_t wimg = attributes[below(data ? 8 : 4)];
@@ -141,22 +153,36 @@ static void random_pair(uint32_t number, int data)
     put_both(MMU_REGISTER_OFFSET(number + 1), physical << 17 | wimg << 3 | below(4));
 }
 
+/* Moves a pair of a long page to addresses that no other number has, so that a set of many blocks is often whole. */
+static void part_pairs(uint32_t i)
+{
+    uint32_t numbers[2] = { MMU_REGISTER_INSTRUCTION_UPPER(i), MMU_REGISTER_DATA_UPPER_LONG(i) }, side;
+    for (side = 0; side < 2; side++) {
+        uint32_t upper = mmu_get_word(lent[0].registers, MMU_REGISTER_OFFSET(numbers[side]));
+        if ((upper & MMU_BLOCK_BL_LONG) <= MMU_BLOCK_BL)
+            put_both(MMU_REGISTER_OFFSET(numbers[side]), (upper & 0x0FFFFFFFu) | 0x80000000u | i << 28);
+    }
+}
+
 static void random_registers(uint32_t sdr1)
 {
+    int parted = is_long(page_len) && below(4) != 0;
     uint32_t i;
     put_both(0, sdr1);
     for (i = 0; i < 16; i++)
         put_both(MMU_REGISTER_OFFSET(MMU_REGISTER_SEGMENT(i)), below(8) << 28 | random_vsid());
-    for (i = 0; i < 4; i++) {
+    for (i = 0; i < (is_long(page_len) ? 8u : 4u); i++) {
         random_pair(MMU_REGISTER_INSTRUCTION_UPPER(i), 0);
-        random_pair(MMU_REGISTER_DATA_UPPER(i), 1);
+        random_pair(is_long(page_len) ? MMU_REGISTER_DATA_UPPER_LONG(i) : MMU_REGISTER_DATA_UPPER(i), 1);
+        if (parted)
+            part_pairs(i);
     }
 }
 
 /* One bit of one word turned, so that each rule is broken now and then. */
 static void spoil_registers(void)
 {
-    size_t offset = MMU_REGISTER_OFFSET(below(MMU_REGISTER_COUNT));
+    size_t offset = MMU_REGISTER_OFFSET(below((uint32_t)page_len / 4));
     put_both(offset, mmu_get_word(lent[0].registers, offset) ^ (1u << below(32)));
 }
 
@@ -267,14 +293,14 @@ static struct request random_request(uint32_t sdr1)
     q.mode = argument(8);
     q.kind = argument(3);
     choose_operand(&q);
-    q.number = argument(33);
+    q.number = argument((uint32_t)page_len / 4);
     q.word = any();
     q.v = argument(2);
     q.h = argument(2);
     q.api = argument(64);
     q.r = argument(2);
     q.c = argument(2);
-    q.registers_len = length(MMU_REGISTERS_SIZE);
+    q.registers_len = rarely() ? MMU_REGISTERS_SIZE_SHORT + MMU_REGISTERS_SIZE_LONG - page_len : length(page_len);
     q.table_len = length(MMU_TABLE_SIZE(sdr1));
     q.answer_len = length(answer_size(q.call));
     return q;
@@ -283,7 +309,7 @@ static struct request random_request(uint32_t sdr1)
 /* A word that often leaves the set whole: the old one with one bit turned, or one of the same kind. */
 static void choose_word(struct request *q)
 {
-    if (q->number < MMU_REGISTER_COUNT && below(2))
+    if (q->number < page_len / 4 && below(2))
         q->word = mmu_get_word(lent[0].registers, MMU_REGISTER_OFFSET(q->number)) ^ 1u << below(32);
     else if (q->number >= 1 && q->number <= 16)
         q->word = below(16) << 28 | random_vsid();
@@ -342,6 +368,8 @@ static void note_answer(const struct request *q, uint32_t number)
         edges_faulted += answer.effective != q->address;
     if (number == MMU_DONE || number >= MMU_DATA_STORAGE_FAULT)
         rules[answer.rule]++;
+    if ((number == MMU_DONE || number >= MMU_DATA_STORAGE_FAULT) && answer.rule == MMU_RULE_BLOCK)
+        blocks[is_long(q->registers_len)][answer.detail]++;
 }
 
 static void step(uint32_t sdr1)
@@ -357,6 +385,8 @@ static void step(uint32_t sdr1)
         exit(1);
     }
     seen[q.call][numbers[0] < 66 ? numbers[0] : 0]++;
+    if (q.call == CHECK || q.call == SET_REGISTER || q.call == ACCESS)
+        seen_on[is_long(q.registers_len)][q.call == ACCESS ? 2 : q.call][numbers[0] < 66 ? numbers[0] : 0]++;
     if (q.call == ACCESS)
         note_answer(&q, numbers[0]);
     if (q.call == LOOK && numbers[0] == MMU_DONE)
@@ -374,11 +404,32 @@ static void start_round(uint32_t sdr1)
         lent[i].table[MMU_TABLE_SIZE(sdr1)] = 0xA5;
         memset(lent[i].answer, 0xA5, sizeof lent[i].answer);
     }
+    page_len = below(2) ? MMU_REGISTERS_SIZE_LONG : MMU_REGISTERS_SIZE_SHORT;
     random_registers(sdr1);
     if (below(2))
         spoil_registers();
     for (i = (int)below(40); i > 0; i--)
         plant_page(sdr1);
+}
+
+/* The results of check, set_register and access by the page's length (11 is of neither), and the blocks shown. */
+static int report_pages(void)
+{
+    static const int calls[3] = { CHECK, SET_REGISTER, ACCESS };
+    int page, call, i, missed = 0;
+    for (page = 0; page < 2; page++) {
+        for (call = 0; call < 3; call++)
+            for (i = 0; possible[calls[call]][i] != 255; i++)
+                missed += possible[calls[call]][i] != MMU_REFUSED_LENT_LENGTH
+                       && seen_on[page][call][possible[calls[call]][i]] == 0;
+        printf("blocks of a %s page:", page ? "long" : "short");
+        for (i = 0; i < (page ? 8 : 4); i++) {
+            printf(" %d:%lu", i, blocks[page][i]);
+            missed += blocks[page][i] == 0;
+        }
+        printf("\n");
+    }
+    return missed;
 }
 
 static int report(int small)
@@ -402,6 +453,7 @@ static int report(int small)
         missed += rules[i] == 0;
     }
     printf("\n");
+    missed += report_pages();
     if (missed && !small)
         fprintf(stderr, "agree: %d results were never met\n", missed);
     return missed && !small;

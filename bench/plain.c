@@ -15,7 +15,7 @@
 
 enum { FETCH, LOAD, STORE };
 enum { RULE_REAL, RULE_BLOCK, RULE_NO_EXECUTE, RULE_NO_MATCH, RULE_GUARDED, RULE_PROTECTION, RULE_DONE };
-enum { REGISTERS = 132, SEGMENTS = 4, INSTRUCTION_PAIRS = 68, DATA_PAIRS = 100, PAIRS = 4, RECORD = 32 };
+enum { SHORT_PAGE = 132, LONG_PAGE = 196, SEGMENTS = 4, PAIRS = 68, RECORD = 32 };
 
 #define NO_MATCH 0x40000000u
 #define NO_EXECUTE 0x10000000u
@@ -119,13 +119,14 @@ struct block {
 /*
  * Reads a pair; whether it is on and breaks a rule. `zero` has the bits of both words that must be zero.
  * BL has a gap where the carry of inner + 1 stops under a one of BL. W and I both one carry into a bit of `zero`.
+ * `bl` keeps BL of the upper word moved to its address bits: on a long page BL itself stands where the V bits come to.
  */
-INLINE int block_bad(struct block *block, const uint8_t *bytes, uint64_t zero)
+INLINE int block_bad(struct block *block, const uint8_t *bytes, uint64_t zero, uint32_t bl)
 {
     uint64_t pair = words_at(bytes);
     uint32_t upper = (uint32_t)(pair >> 32);
     uint32_t inner = inner_bits(upper);
-    uint32_t under_bl = ((inner + 1) | upper | (uint32_t)pair) & upper << 15;
+    uint32_t under_bl = ((inner + 1) | upper | (uint32_t)pair) & upper << 15 & bl;
     uint64_t reserved = zero & 0x40 ? pair & zero : (pair | (pair + 0x20)) & zero;
     block->upper = upper;
     block->inner = inner;
@@ -140,18 +141,77 @@ INLINE uint32_t shared(struct block one, struct block other)
     return one.upper & other.upper & 3;
 }
 
-/* 3 or 4 where a side breaks that rule, 3 before 4; a side that is off as a whole is quick. */
-INLINE uint32_t side_check(const uint8_t *pairs, uint64_t zero)
+/* Whether one of four pairs is on. */
+INLINE int some_on(const uint8_t *pairs)
 {
     static const uint8_t valid[8] = { 0, 0, 0, 3, 0, 0, 0, 0 };
+    return ((raw_words_at(pairs) | raw_words_at(pairs + 8) | raw_words_at(pairs + 16) | raw_words_at(pairs + 24))
+            & raw_words_at(valid)) != 0;
+}
+
+/* 3 or 4 where a side of a short page breaks that rule, 3 before 4; a side that is off as a whole is quick. */
+INLINE uint32_t short_side(const uint8_t *pairs, uint64_t zero)
+{
     struct block a, b, c, d;
-    if (!((raw_words_at(pairs) | raw_words_at(pairs + 8) | raw_words_at(pairs + 16) | raw_words_at(pairs + 24))
-          & raw_words_at(valid)))
+    if (!some_on(pairs))
         return 0;
-    if (block_bad(&a, pairs, zero) || block_bad(&b, pairs + 8, zero) || block_bad(&c, pairs + 16, zero)
-        || block_bad(&d, pairs + 24, zero))
+    if (block_bad(&a, pairs, zero, ~0u) || block_bad(&b, pairs + 8, zero, ~0u) || block_bad(&c, pairs + 16, zero, ~0u)
+        || block_bad(&d, pairs + 24, zero, ~0u))
         return 3;
     if (shared(a, b) || shared(a, c) || shared(a, d) || shared(b, c) || shared(b, d) || shared(c, d))
+        return 4;
+    return 0;
+}
+
+/* Whether one of eight pairs that is on breaks a rule, and whether two of them share an address and a V bit. */
+static int long_shape_bad(const uint8_t *pairs, uint64_t zero)
+{
+    struct block block;
+    int i;
+    for (i = 0; i < 8; i++)
+        if (block_bad(&block, pairs + 8 * i, zero, 0xFFFE0000u))
+            return 1;
+    return 0;
+}
+
+static int long_shared(const uint8_t *pairs)
+{
+    struct block blocks[8];
+    int i, j;
+    for (i = 0; i < 8; i++) {
+        blocks[i].upper = word_at(pairs + 8 * i);
+        blocks[i].inner = inner_bits(blocks[i].upper);
+    }
+    for (i = 1; i < 8; i++)
+        for (j = 0; j < i; j++)
+            if (shared(blocks[i], blocks[j]))
+                return 1;
+    return 0;
+}
+
+/*
+ * The same of a long page. The shapes of most sides are right at once: no pair, on or off, has a bit that must be zero
+ * or a wrong BL. And no two blocks share an address where none is over 256 MB and no two that are on have the same top
+ * four address bits. What is not right at once is asked by itself.
+ */
+INLINE uint32_t long_side(const uint8_t *pairs, uint64_t zero)
+{
+    uint64_t any = 0;
+    uint32_t under_bl = 0, seen = 0, again = 0, i;
+    if (!some_on(pairs) && !some_on(pairs + 32))
+        return 0;
+    for (i = 0; i < 8; i++) {
+        uint64_t pair = words_at(pairs + 8 * i);
+        uint32_t upper = (uint32_t)(pair >> 32), bl = upper << 15 & 0xFFFE0000u;
+        uint32_t segment = (uint32_t)((upper & 3) != 0) << (upper >> 28);
+        any |= pair;
+        under_bl |= ((bl + 0x20000) | upper | (uint32_t)pair) & bl;
+        again |= seen & segment;
+        seen |= segment;
+    }
+    if ((under_bl | ((zero & 0x40 ? any : any | (any + 0x20)) & zero)) && long_shape_bad(pairs, zero))
+        return 3;
+    if ((again | (any & UINT64_C(0x0001E00000000000))) && long_shared(pairs))
         return 4;
     return 0;
 }
@@ -167,37 +227,65 @@ INLINE int segments_bad(const uint8_t *segments)
     return (any & raw_words_at(zero)) != 0;
 }
 
-static uint32_t check_page(const uint8_t *registers)
+/* The first broken rule of a page with so many pairs a side, four or eight. */
+INLINE uint32_t check_pairs(const uint8_t *registers, uint32_t pairs)
 {
+    const uint8_t *data_pairs = registers + PAIRS + 8 * pairs;
     uint32_t instruction, data;
     if (sdr1_bad(word_at(registers)))
         return 2;
-    instruction = side_check(registers + INSTRUCTION_PAIRS, UINT64_C(0x0001E0000001FFCC));
-    data = side_check(registers + DATA_PAIRS, UINT64_C(0x0001E0000001FF84));
+    if (pairs == 4) {
+        instruction = short_side(registers + PAIRS, UINT64_C(0x0001E0000001FFCC));
+        data = short_side(data_pairs, UINT64_C(0x0001E0000001FF84));
+    } else {
+        instruction = long_side(registers + PAIRS, UINT64_C(0x000000000001FFCC));
+        data = long_side(data_pairs, UINT64_C(0x000000000001FF84));
+    }
     if (instruction | data)
         return instruction == 3 || data == 3 ? 3 : 4;
     return segments_bad(registers + SEGMENTS) ? 5 : 0;
 }
 
+static uint32_t check_short(const uint8_t *registers)
+{
+    return check_pairs(registers, 4);
+}
+
+static uint32_t check_long(const uint8_t *registers)
+{
+    return check_pairs(registers, 8);
+}
+
 uint32_t PLAIN(check)(const uint8_t *registers, size_t registers_len)
 {
-    return registers_len != REGISTERS ? 11 : check_page(registers);
+    if (registers_len == SHORT_PAGE)
+        return check_short(registers);
+    return registers_len == LONG_PAGE ? check_long(registers) : 11;
+}
+
+/* Puts a word into a copy of the page, and into the page where the copy breaks no rule. */
+INLINE uint32_t set_checked(uint8_t *registers, size_t len, uint32_t number, uint32_t word,
+                            uint32_t (*check)(const uint8_t *))
+{
+    uint8_t next[LONG_PAGE];
+    uint32_t result;
+    if (number >= len / 4)
+        return 6;
+    memcpy(next, registers, len);
+    put_word(next + 4 * number, word);
+    result = check(next);
+    if (result == 0)
+        put_word(registers + 4 * number, word);
+    return result;
 }
 
 uint32_t PLAIN(set_register)(uint8_t *registers, size_t registers_len, uint32_t number, uint32_t word)
 {
-    uint8_t next[REGISTERS];
-    uint32_t result;
-    if (registers_len != REGISTERS)
-        return 11;
-    if (number > 32)
-        return 6;
-    memcpy(next, registers, REGISTERS);
-    put_word(next + 4 * number, word);
-    result = check_page(next);
-    if (result == 0)
-        put_word(registers + 4 * number, word);
-    return result;
+    if (registers_len == SHORT_PAGE)
+        return set_checked(registers, SHORT_PAGE, number, word, check_short);
+    if (registers_len == LONG_PAGE)
+        return set_checked(registers, LONG_PAGE, number, word, check_long);
+    return 11;
 }
 
 /* ---- Groups ----------------------------------------------------------------------------------- */
@@ -503,18 +591,18 @@ INLINE uint32_t by_page(struct part *part, const uint8_t *registers, uint32_t mo
                     raw_of(matches.second), address);
 }
 
-/* The steps of a part whose registers and table length are right. */
-INLINE uint32_t translate(struct part *part, const uint8_t *registers, uint32_t mode, uint32_t kind, uint32_t address,
-                          uint8_t *table)
+/* The steps of a part whose registers, with so many pairs a side, and table length are right. */
+INLINE uint32_t translate(struct part *part, const uint8_t *registers, uint32_t count, uint32_t mode, uint32_t kind,
+                          uint32_t address, uint8_t *table)
 {
-    const uint8_t *pairs = registers + (kind == FETCH ? INSTRUCTION_PAIRS : DATA_PAIRS);
+    const uint8_t *pairs = registers + PAIRS + (kind == FETCH ? 0 : 8 * count);
     uint32_t valid = mode & 4 ? 1 : 2, i;
     part->entry = NULL;
     if (!(mode & (kind == FETCH ? 2 : 1))) {
         show(part->record, RULE_REAL, 0);
         return answer_words(part->answer, 0, address, 3, address);
     }
-    for (i = 0; i < PAIRS; i++) {
+    for (i = 0; i < count; i++) {
         uint32_t upper = word_at(pairs + 8 * i);
         if (upper & valid && (upper ^ address) <= inner_bits(upper)) {
             show(part->record, RULE_BLOCK, i);
@@ -550,15 +638,15 @@ INLINE uint32_t refuse_access(uint8_t *answer, uint32_t number)
 }
 
 /* An operand with so many bytes before a page edge; a function of its own, since few operands come here. */
-static uint32_t over_edge(const uint8_t *registers, uint32_t mode, uint32_t kind, uint32_t address, uint32_t length,
-                          uint32_t bytes, uint8_t *table, uint8_t *answer)
+static uint32_t over_edge(const uint8_t *registers, uint32_t count, uint32_t mode, uint32_t kind, uint32_t address,
+                          uint32_t length, uint32_t bytes, uint8_t *table, uint8_t *answer)
 {
     uint8_t words[32];
     struct part first = { answer, answer + RECORD, NULL }, second = { words, words + 16, NULL };
-    uint32_t result = translate(&first, registers, mode, kind, address, table);
+    uint32_t result = translate(&first, registers, count, mode, kind, address, table);
     if (result != 0)
         return no_second(answer, result, 0);
-    result = translate(&second, registers, mode, kind, address + bytes, table);
+    result = translate(&second, registers, count, mode, kind, address + bytes, table);
     if (result != 0) {
         memcpy(answer, second.answer, 16);
         memcpy(answer + RECORD, second.record, 16);
@@ -571,27 +659,38 @@ static uint32_t over_edge(const uint8_t *registers, uint32_t mode, uint32_t kind
     return 0;
 }
 
-uint32_t PLAIN(access)(const uint8_t *registers, size_t registers_len, uint32_t mode, uint32_t kind, uint32_t address,
-                       uint32_t length, uint8_t *table, size_t table_len, uint8_t *answer, size_t answer_len)
+/* An access whose page and answer have a right length. */
+INLINE uint32_t access_with(const uint8_t *registers, uint32_t count, uint32_t mode, uint32_t kind, uint32_t address,
+                            uint32_t length, uint8_t *table, size_t table_len, uint8_t *answer)
 {
     uint32_t result, bytes = 0x1000 - (address & 0xFFF);
     struct part part = { answer, answer + RECORD, NULL };
-    if (registers_len != REGISTERS || answer_len != 48)
-        return 11;
     if (mode > 7 || kind > STORE)
         return refuse_access(answer, 6);
     if (length - 1 > 127)
         return refuse_access(answer, 12);
-    result = check_page(registers);
+    result = count == 4 ? check_short(registers) : check_long(registers);
     if (result == 0 && table_len != table_size(word_at(registers)))
         result = 1;
     if (result != 0)
         return refuse_access(answer, result);
     if (length > bytes)
-        return over_edge(registers, mode, kind, address, length, bytes, table, answer);
-    result = translate(&part, registers, mode, kind, address, table);
+        return over_edge(registers, count, mode, kind, address, length, bytes, table, answer);
+    result = translate(&part, registers, count, mode, kind, address, table);
     mark(part.entry, kind);
     return no_second(answer, result, length);
+}
+
+uint32_t PLAIN(access)(const uint8_t *registers, size_t registers_len, uint32_t mode, uint32_t kind, uint32_t address,
+                       uint32_t length, uint8_t *table, size_t table_len, uint8_t *answer, size_t answer_len)
+{
+    if (answer_len != 48)
+        return 11;
+    if (registers_len == SHORT_PAGE)
+        return access_with(registers, 4, mode, kind, address, length, table, table_len, answer);
+    if (registers_len == LONG_PAGE)
+        return access_with(registers, 8, mode, kind, address, length, table, table_len, answer);
+    return 11;
 }
 
 /* ---- Packing ---------------------------------------------------------------------------------- */

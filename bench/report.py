@@ -110,9 +110,10 @@ def document(directory, rows):
         "The contender is `bench/plain.c`: the ten calls in portable C with the same checks, written for speed. Before the "
         f"timing both are held against each other: {agreed}.",
         "Instructions are those of one call, counted by callgrind inside the call alone; they repeat exactly. Nanoseconds are the "
-        "least of 200 rounds in which the two take turns. In all access rows but those marked \"blocks off\" the eight block pairs "
-        "are on, on each side of 256 MB, 16 MB, 1 MB and 128 KB. An access checks the whole register page each time. It is to one "
-        "byte, and over a page edge to eight, four in each page.",
+        "least of 200 rounds in which the two take turns. The register page is the short one where a row does not say \"long page\". "
+        "In all access rows but those marked \"blocks off\" every block pair is on, on each side of 256 MB, 16 MB, 1 MB and 128 KB; "
+        "a long page has each of these lengths twice a side. An access checks the whole register page each time. It is to one byte, "
+        "and over a page edge to eight, four in each page.",
         markdown_table(rows),
         "![The library beside plain C](benchmarks.svg)",
         over_limit(rows),

@@ -17,17 +17,19 @@
 
 enum { ACCESSES = 4096, LARGEST_TABLE = 1 << 19 };
 
-/* Document 01's page, and an address that the fourth data block covers. */
+/* Document 01's page, and addresses that the fourth data block covers, and on a long page the eighth. */
 #define VSID 0x0C701Cu
 #define PAGE_INDEX 0x0FFAu
 #define PAGE_ADDRESS 0x00FFA01Bu
 #define BLOCK_ADDRESS 0xB0012345u
+#define LONG_BLOCK_ADDRESS 0xF0012345u
 #define SMALL_SDR1 0x0F980000u
 #define LARGE_SDR1 0x0F980007u
 
 /* What a row lends, and the accesses that it makes. */
 struct bench {
-    uint8_t registers[MMU_REGISTERS_SIZE];
+    uint8_t registers[MMU_REGISTERS_SIZE_LONG];
+    size_t registers_len;
     uint8_t answer[MMU_ANSWER_SIZE];
     uint8_t access_answer[MMU_ACCESS_ANSWER_SIZE];
     uint8_t fields[MMU_FIELDS_SIZE];
@@ -59,7 +61,7 @@ static void require(int right, const char *what)
 
 static inline uint32_t access_at(struct bench *bench, const struct calls *calls, uint32_t address)
 {
-    return calls->access(bench->registers, MMU_REGISTERS_SIZE, bench->mode, bench->kind, address, bench->length,
+    return calls->access(bench->registers, bench->registers_len, bench->mode, bench->kind, address, bench->length,
                          bench->table, bench->table_len, bench->access_answer, MMU_ACCESS_ANSWER_SIZE);
 }
 
@@ -67,14 +69,16 @@ static inline uint32_t access_at(struct bench *bench, const struct calls *calls,
 
 static void set(struct bench *bench, uint32_t number, uint32_t word)
 {
-    require(plain_set_register(bench->registers, MMU_REGISTERS_SIZE, number, word) == MMU_DONE, "a register is refused");
+    require(plain_set_register(bench->registers, bench->registers_len, number, word) == MMU_DONE,
+            "a register is refused");
 }
 
 /* An empty table, segment 0 of the twelve cases and fifteen others, every block off, data translated. */
-static void start(struct bench *bench, uint32_t sdr1)
+static void start_on(struct bench *bench, size_t registers_len, uint32_t sdr1)
 {
     uint32_t i;
     memset(bench->registers, 0, sizeof bench->registers);
+    bench->registers_len = registers_len;
     bench->sdr1 = sdr1;
     bench->table_len = MMU_TABLE_SIZE(sdr1);
     bench->mode = MMU_MODE_DR;
@@ -88,17 +92,32 @@ static void start(struct bench *bench, uint32_t sdr1)
     require(plain_clear(sdr1, bench->table, bench->table_len) == MMU_DONE, "clear is refused");
 }
 
-/* All eight block pairs on, in the top half of the addresses: on each side 256 MB, 16 MB, 1 MB and 128 KB. */
+static void start(struct bench *bench, uint32_t sdr1)
+{
+    start_on(bench, MMU_REGISTERS_SIZE_SHORT, sdr1);
+}
+
+/* A pair of the same number on both sides. */
+static void set_pair(struct bench *bench, uint32_t pair, uint32_t upper, uint32_t lower)
+{
+    int is_long = bench->registers_len == MMU_REGISTERS_SIZE_LONG;
+    set(bench, MMU_REGISTER_INSTRUCTION_LOWER(pair), lower);
+    set(bench, MMU_REGISTER_INSTRUCTION_UPPER(pair), upper);
+    set(bench, is_long ? MMU_REGISTER_DATA_LOWER_LONG(pair) : MMU_REGISTER_DATA_LOWER(pair), lower);
+    set(bench, is_long ? MMU_REGISTER_DATA_UPPER_LONG(pair) : MMU_REGISTER_DATA_UPPER(pair), upper);
+}
+
+/*
+ * All block pairs on, in the top half of the addresses: on each side 256 MB, 16 MB, 1 MB and 128 KB, on a long page the
+ * same four lengths again.
+ */
 static void blocks_on(struct bench *bench)
 {
     static const uint32_t bl[4] = { 0x7FF, 0x7F, 0x7, 0 };
-    uint32_t i;
-    for (i = 0; i < 4; i++) {
-        uint32_t upper = (0x80000000u + (i << 28)) | bl[i] << 2 | MMU_BLOCK_VS | MMU_BLOCK_VP;
-        set(bench, MMU_REGISTER_INSTRUCTION_LOWER(i), (i << 28) | 2);
-        set(bench, MMU_REGISTER_INSTRUCTION_UPPER(i), upper);
-        set(bench, MMU_REGISTER_DATA_LOWER(i), (i << 28) | 2);
-        set(bench, MMU_REGISTER_DATA_UPPER(i), upper);
+    uint32_t i, pairs = bench->registers_len == MMU_REGISTERS_SIZE_LONG ? 8 : 4;
+    for (i = 0; i < pairs; i++) {
+        uint32_t upper = (0x80000000u + (i << 28)) | bl[i % 4] << 2 | MMU_BLOCK_VS | MMU_BLOCK_VP;
+        set_pair(bench, i, upper, (i << 28) | 2);
     }
 }
 
@@ -142,6 +161,45 @@ static void primary_0(struct bench *bench) { page_at(bench, 0); }
 static void primary_7(struct bench *bench) { page_at(bench, 7); }
 static void secondary_0(struct bench *bench) { page_at(bench, 8); }
 static void secondary_7(struct bench *bench) { page_at(bench, 15); }
+
+/* A long page with all sixteen pairs on; the page is at its first place. */
+static void long_page(struct bench *bench)
+{
+    start_on(bench, MMU_REGISTERS_SIZE_LONG, SMALL_SDR1);
+    blocks_on(bench);
+    put_page(bench, PAGE_INDEX, 0);
+}
+
+static void long_real_mode(struct bench *bench)
+{
+    long_page(bench);
+    bench->mode = 0;
+}
+
+static void long_block_hit(struct bench *bench)
+{
+    long_page(bench);
+    bench->address = LONG_BLOCK_ADDRESS;
+    access_at(bench, &contender, bench->address);
+    require(mmu_get_word(bench->access_answer, MMU_ANSWER_PHYSICAL) == 0x70012345u
+                && mmu_get_word(bench->access_answer, MMU_ANSWER_DETAIL) == 7, "the eighth block is not hit");
+}
+
+static void long_no_match(struct bench *bench)
+{
+    start_on(bench, MMU_REGISTERS_SIZE_LONG, SMALL_SDR1);
+    blocks_on(bench);
+    fill(bench, PAGE_INDEX, 0, 16);
+}
+
+/* Sixteen blocks of 128 KB, on each side in a row: their first address bits do not tell them apart. */
+static void long_row_of_blocks(struct bench *bench)
+{
+    uint32_t i;
+    start_on(bench, MMU_REGISTERS_SIZE_LONG, SMALL_SDR1);
+    for (i = 0; i < 8; i++)
+        set_pair(bench, i, 0x80000000u | i << 17 | MMU_BLOCK_VS | MMU_BLOCK_VP, i << 17 | 2);
+}
 
 static void no_match(struct bench *bench)
 {
@@ -314,7 +372,7 @@ static uint32_t run_check(struct bench *bench, const struct calls *calls, uint32
 {
     uint32_t sum = 0;
     while (count-- > 0)
-        sum += calls->check(bench->registers, MMU_REGISTERS_SIZE);
+        sum += calls->check(bench->registers, bench->registers_len);
     return sum;
 }
 
@@ -322,7 +380,7 @@ static uint32_t run_set_register(struct bench *bench, const struct calls *calls,
 {
     uint32_t sum = 0;
     while (count-- > 0)
-        sum += calls->set_register(bench->registers, MMU_REGISTERS_SIZE, MMU_REGISTER_SEGMENT(3), VSID + count % 2);
+        sum += calls->set_register(bench->registers, bench->registers_len, MMU_REGISTER_SEGMENT(3), VSID + count % 2);
     return sum;
 }
 
@@ -364,6 +422,13 @@ static const struct row rows[] = {
     { "clear, 64 KB (the plain C calls memset)", empty_groups, run_clear, MMU_DONE, 2 },
     { "check", primary_0, run_check, MMU_DONE, 16 },
     { "set_register", primary_0, run_set_register, MMU_DONE, 16 },
+    { "access, long page, real mode", long_real_mode, run_access, MMU_DONE, 16 },
+    { "access, long page, block hit in the eighth pair", long_block_hit, run_access, MMU_DONE, 16 },
+    { "access, long page, page hit, primary entry 0", long_page, run_access, MMU_DONE, 16 },
+    { "access, long page, no match", long_no_match, run_access, MMU_DATA_STORAGE_FAULT, 16 },
+    { "check, long page", long_page, run_check, MMU_DONE, 16 },
+    { "check, long page, blocks of 128 KB in a row", long_row_of_blocks, run_check, MMU_DONE, 16 },
+    { "set_register, long page", long_page, run_set_register, MMU_DONE, 16 },
     { "pack", primary_0, run_pack, MMU_DONE, 16 },
     { "unpack", primary_0, run_unpack, MMU_DONE, 16 },
 };

@@ -25,7 +25,7 @@ enum { HALT, LOAD, STORE, JUMP };
 #define FREE_FRAME 0x30u
 
 struct core {
-    uint8_t registers[MMU_REGISTERS_SIZE];
+    uint8_t registers[MMU_REGISTERS_SIZE_SHORT];
     uint8_t memory[MEMORY_SIZE];
     uint32_t mode, pc, value;
     uint32_t srr0, srr1, dsisr, dar; /* What an interrupt leaves for the supervisor. */

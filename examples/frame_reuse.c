@@ -23,7 +23,7 @@
 
 enum { TABLE_SIZE = 65536 };
 
-static uint8_t registers[MMU_REGISTERS_SIZE];
+static uint8_t registers[MMU_REGISTERS_SIZE_SHORT];
 static uint8_t table[TABLE_SIZE];
 static uint8_t answer[MMU_ANSWER_SIZE];
 static uint8_t access_answer[MMU_ACCESS_ANSWER_SIZE];

@@ -20,7 +20,7 @@ extern "C" {
 
 /* The version; CHANGELOG.md says what a caller must change from one to the next. */
 #define MMU_VERSION_MAJOR 0
-#define MMU_VERSION_MINOR 6
+#define MMU_VERSION_MINOR 7
 
 /* ---- Results ---------------------------------------------------------------------------------- */
 
@@ -39,7 +39,7 @@ extern "C" {
 #define MMU_REFUSED_NO_MATCH 8u       /* The page has no match (unmap, protect, look). */
 #define MMU_REFUSED_FULL 9u           /* Map: all 16 entries of the page's two groups have V = 1. */
 #define MMU_REFUSED_CONTRADICTION 10u /* Contradicting matches: RPN, WIMG or PP differs (access, look). */
-#define MMU_REFUSED_LENT_LENGTH 11u   /* Registers, answer, entry or fields of another length; nothing is written. */
+#define MMU_REFUSED_LENT_LENGTH 11u   /* Registers, answer, entry or fields of a wrong length; nothing is written. */
 #define MMU_REFUSED_OPERAND_LENGTH 12u /* Access: an operand of 0 or over MMU_LONGEST_OPERAND bytes. */
 
 /* ---- An access -------------------------------------------------------------------------------- */
@@ -110,21 +110,32 @@ extern "C" {
  * fault. All four are zero after a refusal, whose record looks like that of real mode: ask the result first.
  */
 #define MMU_ANSWER_RULE 32u   /* Rule, MMU_RULE_REAL to MMU_RULE_DONE. */
-#define MMU_ANSWER_DETAIL 36u /* Rule 1: number of the block pair on its side, 0 to 3; 5 and 6: key * 4 + PP; else 0. */
+#define MMU_ANSWER_DETAIL 36u /* Rule 1: number of the block pair on its side, from 0; 5 and 6: key * 4 + PP; else 0. */
 #define MMU_ANSWER_GROUP 40u  /* Rules 4 to 6: number of the group (PTEG) where the entry used stands; else 0. */
 #define MMU_ANSWER_ENTRY 44u  /* Rules 4 to 6: number of that entry in the group, 0 to 7; else 0. */
 
-/* ---- Register page: 33 words ------------------------------------------------------------------ */
+/* ---- Register page: 33 words, or 49 ------------------------------------------------------------ */
 
-#define MMU_REGISTERS_SIZE 132u                            /* Length of the register page in bytes. */
-#define MMU_REGISTER_COUNT 33u                             /* Register words, numbered 0 to 32. */
+/*
+ * A page has one of two lengths, and the lent length alone says which. The short page has four block pairs a side and
+ * blocks of up to 256 MB. The long page, for later cores, has eight pairs a side and blocks of up to 4 GB. SDR1, the
+ * segment registers and instruction pairs 0 to 3 have the same numbers on both; the data pairs do not.
+ */
+#define MMU_REGISTERS_SIZE_SHORT 132u                      /* Length of the short register page in bytes. */
+#define MMU_REGISTERS_SIZE_LONG 196u                       /* Length of the long register page in bytes. */
+#define MMU_REGISTERS_SIZE MMU_REGISTERS_SIZE_SHORT        /* The name that the short page's length had alone. */
+#define MMU_REGISTER_COUNT_SHORT 33u                       /* Words of the short page, numbered 0 to 32. */
+#define MMU_REGISTER_COUNT_LONG 49u                        /* Words of the long page, numbered 0 to 48. */
+#define MMU_REGISTER_COUNT MMU_REGISTER_COUNT_SHORT        /* The name that the short page's number had alone. */
 #define MMU_REGISTER_SDR1 0u                               /* Number of SDR1. */
 #define MMU_REGISTER_SEGMENT(n) (1u + (n))                 /* Number of segment register n, 0 to 15. */
-#define MMU_REGISTER_INSTRUCTION_UPPER(n) (17u + 2u * (n)) /* IBATnU: upper word of instruction block pair n, 0 to 3. */
+#define MMU_REGISTER_INSTRUCTION_UPPER(n) (17u + 2u * (n)) /* IBATnU: upper word of instruction pair n, 0 to 3 or 7. */
 #define MMU_REGISTER_INSTRUCTION_LOWER(n) (18u + 2u * (n)) /* IBATnL: its lower word. */
-#define MMU_REGISTER_DATA_UPPER(n) (25u + 2u * (n))        /* DBATnU: upper word of data block pair n, 0 to 3. */
-#define MMU_REGISTER_DATA_LOWER(n) (26u + 2u * (n))        /* DBATnL: its lower word. */
-#define MMU_REGISTER_OFFSET(number) (4u * (number))        /* Byte offset of a register word in the page. */
+#define MMU_REGISTER_DATA_UPPER(n) (25u + 2u * (n))        /* DBATnU of the short page: data pair n, 0 to 3. */
+#define MMU_REGISTER_DATA_LOWER(n) (26u + 2u * (n))        /* DBATnL of the short page. */
+#define MMU_REGISTER_DATA_UPPER_LONG(n) (33u + 2u * (n))   /* DBATnU of the long page: data pair n, 0 to 7. */
+#define MMU_REGISTER_DATA_LOWER_LONG(n) (34u + 2u * (n))   /* DBATnL of the long page. */
+#define MMU_REGISTER_OFFSET(number) (4u * (number))        /* Byte offset of a register word in either page. */
 #define MMU_REGISTER_NONE 0xFFFFFFFFu                      /* No register word; mmu_set_register refuses it. */
 
 /* SPR numbers of mtspr and mfspr: SDR1; IBAT0U, IBAT0L .. IBAT3L, DBAT0U .. DBAT3L in a row. */
@@ -132,6 +143,11 @@ extern "C" {
 #define MMU_SPR_IBAT0U 528u
 #define MMU_SPR_DBAT0U 536u
 #define MMU_SPR_DBAT3L 543u
+
+/* Of later cores: IBAT4U, IBAT4L .. IBAT7L, DBAT4U .. DBAT7L in a row. */
+#define MMU_SPR_IBAT4U 560u
+#define MMU_SPR_DBAT4U 568u
+#define MMU_SPR_DBAT7L 575u
 
 /* SDR1 and segment register. */
 #define MMU_SDR1_ORIGIN 0xFFFF0000u  /* Origin: the table's address, bits 0 to 15. */
@@ -144,12 +160,19 @@ extern "C" {
 
 /* Block words. */
 #define MMU_BLOCK_BEPI 0xFFFE0000u    /* Upper word, BEPI: the block's effective start. */
-#define MMU_BLOCK_BL 0x00001FFCu      /* Upper word, BL: the block length, ones only at the low end. */
+#define MMU_BLOCK_BL 0x00001FFCu      /* Upper word, BL on the short page: the length, ones only at the low end. */
+#define MMU_BLOCK_BL_LONG 0x0001FFFCu /* Upper word, BL on the long page: four bits more above it. */
 #define MMU_BLOCK_VS 0x00000002u      /* Upper word, Vs: valid for the supervisor. */
 #define MMU_BLOCK_VP 0x00000001u      /* Upper word, Vp: valid for the user. */
 #define MMU_BLOCK_BRPN 0xFFFE0000u    /* Lower word, BRPN: the block's physical start. */
 #define MMU_BLOCK_WIMG_SHIFT 3u       /* Lower word, WIMG: its place, bits 25 to 28. */
 #define MMU_BLOCK_PP 0x00000003u      /* Lower word, PP: the protection. */
+
+/*
+ * BL, in its place in the upper word, of a block of so many bytes: a power of 2 from 128 KB to 256 MB, on the long page
+ * to 4 GB. 4 GB does not fit in 32 bits: UINT64_C(0x100000000). A count that came to 0 in 32 bits is taken for it.
+ */
+#define MMU_BLOCK_BL_OF(bytes) ((uint32_t)((((uint64_t)(bytes) >> 17) - 1u) << 2) & MMU_BLOCK_BL_LONG)
 
 /* ---- Table, groups (PTEGs) and entries (PTEs) -------------------------------------------------- */
 
@@ -190,7 +213,7 @@ extern "C" {
 
 /*
  * Check: whether a register page breaks a rule.
- *   registers  the register page, MMU_REGISTERS_SIZE bytes
+ *   registers  the register page, MMU_REGISTERS_SIZE_SHORT or MMU_REGISTERS_SIZE_LONG bytes
  * Refusals: MMU_REFUSED_LENT_LENGTH, MMU_REFUSED_SDR1, MMU_REFUSED_BLOCK, MMU_REFUSED_BLOCKS_SHARE,
  *   MMU_REFUSED_SEGMENT.
  */
@@ -198,8 +221,9 @@ uint32_t mmu_check(const uint8_t *registers, size_t registers_len);
 
 /*
  * Replaces one register word where the new set breaks no rule.
- *   registers  the register page, MMU_REGISTERS_SIZE bytes
- *   number     which word, below MMU_REGISTER_COUNT: MMU_REGISTER_SDR1, MMU_REGISTER_SEGMENT(n) ..
+ *   registers  the register page, MMU_REGISTERS_SIZE_SHORT or MMU_REGISTERS_SIZE_LONG bytes
+ *   number     which word, below the page's MMU_REGISTER_COUNT_SHORT or MMU_REGISTER_COUNT_LONG: MMU_REGISTER_SDR1,
+ *              MMU_REGISTER_SEGMENT(n) ..
  *   word       the new word
  * Refusals: MMU_REFUSED_LENT_LENGTH, MMU_REFUSED_ARGUMENT (number), then of the new set MMU_REFUSED_SDR1,
  *   MMU_REFUSED_BLOCK, MMU_REFUSED_BLOCKS_SHARE, MMU_REFUSED_SEGMENT.
@@ -264,7 +288,7 @@ uint32_t mmu_look(uint32_t sdr1, uint32_t vsid, uint32_t page_index, const uint8
  * by itself; the address after FFFFFFFF is 00000000. The first part that faults or is refused answers alone. Only where
  * every part is done are entries marked: each part that a page did sets R in its entry, and C too on a store. The
  * answer also has the rule that decided, with the block or the entry that it went by.
- *   registers  the register page, MMU_REGISTERS_SIZE bytes
+ *   registers  the register page, MMU_REGISTERS_SIZE_SHORT or MMU_REGISTERS_SIZE_LONG bytes
  *   mode       sum of MMU_MODE_PR, MMU_MODE_IR, MMU_MODE_DR
  *   kind       MMU_FETCH, MMU_LOAD or MMU_STORE
  *   address    the effective address of the operand's first byte
@@ -422,13 +446,29 @@ static inline const char *mmu_rule_name(uint32_t rule)
     }
 }
 
-/* The number of the register word that an SPR holds, MMU_REGISTER_NONE where it holds none. */
+/* The number of the short page's word that an SPR holds, MMU_REGISTER_NONE where it holds none. */
 static inline uint32_t mmu_register_of_spr(uint32_t spr)
 {
     if (spr == MMU_SPR_SDR1)
         return MMU_REGISTER_SDR1;
     if (spr >= MMU_SPR_IBAT0U && spr <= MMU_SPR_DBAT3L)
         return MMU_REGISTER_INSTRUCTION_UPPER(0u) + (spr - MMU_SPR_IBAT0U);
+    return MMU_REGISTER_NONE;
+}
+
+/* The same of the long page, with the SPRs of pairs 4 to 7. */
+static inline uint32_t mmu_register_of_spr_long(uint32_t spr)
+{
+    if (spr == MMU_SPR_SDR1)
+        return MMU_REGISTER_SDR1;
+    if (spr >= MMU_SPR_IBAT0U && spr < MMU_SPR_DBAT0U)
+        return MMU_REGISTER_INSTRUCTION_UPPER(0u) + (spr - MMU_SPR_IBAT0U);
+    if (spr >= MMU_SPR_DBAT0U && spr <= MMU_SPR_DBAT3L)
+        return MMU_REGISTER_DATA_UPPER_LONG(0u) + (spr - MMU_SPR_DBAT0U);
+    if (spr >= MMU_SPR_IBAT4U && spr < MMU_SPR_DBAT4U)
+        return MMU_REGISTER_INSTRUCTION_UPPER(4u) + (spr - MMU_SPR_IBAT4U);
+    if (spr >= MMU_SPR_DBAT4U && spr <= MMU_SPR_DBAT7L)
+        return MMU_REGISTER_DATA_UPPER_LONG(4u) + (spr - MMU_SPR_DBAT4U);
     return MMU_REGISTER_NONE;
 }
 

@@ -7,7 +7,8 @@ check_header.py --self-test   feeds wrong headers to the comparison, each of whi
 The version is the Makefile's VERSION: the header's MMU_VERSION_MAJOR and _MINOR, the first heading of CHANGELOG.md and
 the find_package of docs/C-GUIDE.md must have it. The comment of a call must name each of its parameters, and the
 refusals that the comparison with the model has for it (NUMBERS of tests/compare/src/tally.rs), no others. Each number of
-the crate `numbers` stands in the header, in the code and in the definitions under one name, with one value.
+the crate `numbers` stands in the header, in the code and in the definitions under one name, with one value. Names of
+earlier versions that programs still use (KEPT) stand in the header for the name that took their place.
 """
 import re
 import subprocess
@@ -32,6 +33,9 @@ C_TYPES = {
     "&[u8]": ["const uint8_t *", "size_t"],
     "&mut [u8]": ["uint8_t *", "size_t"],
 }
+
+# A name of an earlier version that stays, and the name that it stands for.
+KEPT = {"MMU_REGISTERS_SIZE": "MMU_REGISTERS_SIZE_SHORT", "MMU_REGISTER_COUNT": "MMU_REGISTER_COUNT_SHORT"}
 
 
 class Unreadable(Exception):
@@ -205,6 +209,16 @@ def number_differences(header, code, definitions):
     return lines + [f"{name}: in the definitions, not in the code" for name in defined]
 
 
+def kept_differences(header):
+    """A line for each name of an earlier version that does not stand for the name that took its place."""
+    lines = []
+    for old, new in KEPT.items():
+        found = re.findall(rf"^#define {old} (\S+)", header, re.M)
+        if found != [new] or not re.search(rf"^#define {new} \d+u", header, re.M):
+            lines.append(f"{old}: stands for {' and '.join(found) or 'nothing'} in the header, not for the number {new}")
+    return lines
+
+
 SAMPLE_CODE = "pub const REFUSED_SDR1: u32 = 2;\n\npub const REFUSED_LENT_LENGTH: u32 = 11;\n"
 
 SAMPLE_DEFINITIONS = "abbrev pub refusedSdr1 : ℕ\nrefusedSdr1 = 2\n\nabbrev pub refusedLentLength : ℕ\nrefusedLentLength = 11\n"
@@ -242,6 +256,10 @@ static inline uint32_t mmu_half(uint32_t number) { if (number) { return mmu_word
 #define MMU_REFUSED_SDR1 2u
 #define MMU_REFUSED_NO_MATCH 8u
 #define MMU_REFUSED_LENT_LENGTH 11u
+#define MMU_REGISTERS_SIZE_SHORT 132u
+#define MMU_REGISTERS_SIZE MMU_REGISTERS_SIZE_SHORT
+#define MMU_REGISTER_COUNT_SHORT 33u
+#define MMU_REGISTER_COUNT MMU_REGISTER_COUNT_SHORT
 /* Looks by sdr1 into table, fills answer. MMU_REFUSED_LENT_LENGTH, MMU_REFUSED_SDR1, MMU_REFUSED_NO_MATCH. */
 uint32_t mmu_look(uint32_t sdr1, const uint8_t *table, size_t table_len, uint8_t *answer, size_t answer_len);
 /* Zeroes table, as long as sdr1 says. Refusal: MMU_REFUSED_SDR1. */
@@ -264,6 +282,9 @@ WRONG_HEADERS = {
     "a refusal of another name": ("Refusal: MMU_REFUSED_SDR1", "Refusal: MMU_REFUSED_SHAPE"),
     "a call without a comment": ("/* Zeroes table, as long as sdr1 says. Refusal: MMU_REFUSED_SDR1. */\n", ""),
     "a number of another value": ("MMU_REFUSED_SDR1 2u", "MMU_REFUSED_SDR1 3u"),
+    "a name of an earlier version is gone": ("#define MMU_REGISTERS_SIZE MMU_REGISTERS_SIZE_SHORT\n", ""),
+    "a name of an earlier version for another one": ("COUNT MMU_REGISTER_COUNT_SHORT", "COUNT MMU_REGISTERS_SIZE_SHORT"),
+    "a name of an earlier version for no number": ("#define MMU_REGISTER_COUNT_SHORT 33u\n", ""),
     "another major version": ("MMU_VERSION_MAJOR 3", "MMU_VERSION_MAJOR 2"),
     "another minor version": ("MMU_VERSION_MINOR 14", "MMU_VERSION_MINOR 1"),
     "no minor version": ("#define MMU_VERSION_MINOR 14\n", ""),
@@ -273,7 +294,7 @@ WRONG_HEADERS = {
 def sample_differences(header, symbols):
     return (differences(header, SAMPLE_SOURCE, symbols) + comment_differences(header, SAMPLE_TALLY)
             + version_differences(header, SAMPLE_MAKEFILE, SAMPLE_CHANGELOG, SAMPLE_GUIDE)
-            + number_differences(header, SAMPLE_CODE, SAMPLE_DEFINITIONS))
+            + number_differences(header, SAMPLE_CODE, SAMPLE_DEFINITIONS) + kept_differences(header))
 
 
 def self_test():
@@ -308,6 +329,7 @@ def main(arguments):
         lines = differences(HEADER.read_text(), source, symbols)
         lines += version_differences(HEADER.read_text(), MAKEFILE.read_text(), CHANGELOG.read_text(), GUIDE.read_text())
         lines += comment_differences(HEADER.read_text(), TALLY.read_text())
+        lines += kept_differences(HEADER.read_text())
         lines += number_differences(HEADER.read_text(), (NUMBERS / "src" / "lib.rt").read_text(), (NUMBERS / "specs" / "Numbers.antt").read_text())
     except (Unreadable, OSError) as error:
         lines = [str(error)]

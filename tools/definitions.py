@@ -40,7 +40,7 @@ ORDER = [
     ("Groups and matches", ["groups/Page", "groups/Hash", "groups/Group", "tables/Matches", "tables/Layout", "matches/Search"]),
     ("Calls on bytes", ["calls/Request", "calls/Rules", "calls/Answers", "calls/OnBytes", "calls/Lent", "calls/WithoutTable"]),
     ("The finite map", ["placement/Lists", "placement/FiniteMap", "placement/Placement", "calls/OnMap", "tables/Runs", "calls/Histories"]),
-    (STATEMENTS, ["entry/RoundTrip", "registers/Blocks", "translation/Stated", "calls/AnyTable", "calls/Refusals", "calls/Theorem", "calls/Demands"]),
+    (STATEMENTS, ["entry/RoundTrip", "registers/Blocks", "translation/Stated", "calls/AnyTable", "calls/Refusals", "calls/Widened", "calls/Theorem", "calls/Demands"]),
 ]
 
 WORD = re.compile(r"[^\s(){},;.]+")

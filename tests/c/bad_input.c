@@ -5,18 +5,21 @@
  *
  *   bad_input [CALLS]   with so many random calls after the written ones (default 2000)
  */
+#define _DEFAULT_SOURCE /* mmap's MAP_ANONYMOUS */
+
 #include "mmu.h"
 
 #include <stdio.h>
 #include <stdlib.h>
 #include <string.h>
+#include <sys/mman.h>
 
 #define SDR1 0x0F980000u
 #define VSID 0x0C701Cu
 #define PAGE 0x0FFAu
 #define ADDRESS 0x00FFA01Bu
 
-enum { TABLE = 65536 };
+enum { TABLE = 65536, LONGEST_PAGE = 260, GUARD = 4096 };
 
 static unsigned long checks, failures;
 
@@ -79,6 +82,14 @@ struct lent {
     struct slice registers, table, answer, access_answer;
 };
 
+/* The two lengths of a register page. */
+static const size_t pages[2] = { MMU_REGISTERS_SIZE_SHORT, MMU_REGISTERS_SIZE_LONG };
+
+static int is_page(size_t len)
+{
+    return len == pages[0] || len == pages[1];
+}
+
 static struct lent lend_all(size_t registers_len, size_t table_len, size_t answer_len, size_t access_answer_len)
 {
     struct lent lent;
@@ -86,7 +97,7 @@ static struct lent lend_all(size_t registers_len, size_t table_len, size_t answe
     lent.table = lend(table_len, 0);
     lent.answer = lend(answer_len, 0xA5);
     lent.access_answer = lend(access_answer_len, 0xA5);
-    if (registers_len == MMU_REGISTERS_SIZE) {
+    if (is_page(registers_len)) {
         mmu_put_word(lent.registers.bytes, MMU_REGISTER_OFFSET(MMU_REGISTER_SDR1), SDR1);
         mmu_put_word(lent.registers.bytes, MMU_REGISTER_OFFSET(MMU_REGISTER_SEGMENT(0)), VSID);
         remember(&lent.registers);
@@ -94,9 +105,14 @@ static struct lent lend_all(size_t registers_len, size_t table_len, size_t answe
     return lent;
 }
 
+static struct lent lend_page(size_t registers_len)
+{
+    return lend_all(registers_len, TABLE, MMU_ANSWER_SIZE, MMU_ACCESS_ANSWER_SIZE);
+}
+
 static struct lent lend_right(void)
 {
-    return lend_all(MMU_REGISTERS_SIZE, TABLE, MMU_ANSWER_SIZE, MMU_ACCESS_ANSWER_SIZE);
+    return lend_page(MMU_REGISTERS_SIZE_SHORT);
 }
 
 static void give_back_all(struct lent *lent)
@@ -197,20 +213,60 @@ static uint32_t access_at(struct lent *l, uint32_t mode, uint32_t kind, uint32_t
 
 /* ---- Lengths ---------------------------------------------------------------------------------- */
 
-static void test_wrong_register_lengths(void)
+/* Every length of the register page, 0 as NULL: two of them are taken, all others are refused 11. */
+static void test_register_lengths(void)
 {
-    static const size_t lengths[] = { 0, 1, 4, 131, 133, 196, 264 };
-    size_t i;
-    for (i = 0; i < sizeof lengths / sizeof lengths[0]; i++) {
-        struct lent l = lend_all(lengths[i], TABLE, MMU_ANSWER_SIZE, MMU_ACCESS_ANSWER_SIZE);
+    size_t len;
+    for (len = 0; len <= LONGEST_PAGE; len++) {
+        struct lent l = lend_page(len);
         uint32_t got = mmu_check(l.registers.bytes, l.registers.len);
-        expect(left(&l, got, 11), "check with another length", got);
+        expect(left(&l, got, is_page(len) ? 0 : 11), "check by the page's length", (uint32_t)len);
         got = mmu_set_register(l.registers.bytes, l.registers.len, 99, 0xFFFFFFFFu);
-        expect(left(&l, got, 11), "set_register with another length, before 6", got);
+        expect(left(&l, got, is_page(len) ? 6 : 11), "set_register by the page's length, 11 before 6", (uint32_t)len);
+        got = mmu_set_register(l.registers.bytes, l.registers.len, 1, VSID);
+        expect(left(&l, got, is_page(len) ? 0 : 11), "set_register by the page's length alone", (uint32_t)len);
         got = access_at(&l, 99, 99, ADDRESS);
-        expect(access_refused(&l, got, 11), "access with a register page of another length, before 6", got);
+        expect(access_refused(&l, got, is_page(len) ? 6 : 11), "access by the page's length, 11 before 6", got);
+        got = access_at(&l, 0, MMU_LOAD, ADDRESS);
+        if (is_page(len))
+            expect(got == 0 && done_is(&l, ADDRESS, 3, ADDRESS) && rule_is(&l, 0, 0, 0, 0), "real mode", (uint32_t)len);
+        else
+            expect(got == 11 && left(&l, got, 11), "access by the page's length alone", (uint32_t)len);
         give_back_all(&l);
     }
+}
+
+/* The last bytes in front of an unreadable page, zeros. */
+static uint8_t *guarded(void)
+{
+    uint8_t *bytes = mmap(NULL, 2 * GUARD, PROT_READ | PROT_WRITE, MAP_PRIVATE | MAP_ANONYMOUS, -1, 0);
+    if (bytes == MAP_FAILED || mprotect(bytes + GUARD, GUARD, PROT_NONE) != 0) {
+        fprintf(stderr, "bad_input: no memory\n");
+        exit(2);
+    }
+    return bytes + GUARD;
+}
+
+/* Every length again, with an unreadable page behind the slice: a page of 132 bytes is not read as one of 196. */
+static void test_guarded_registers(void)
+{
+    uint8_t *end = guarded(), answer[MMU_ACCESS_ANSWER_SIZE];
+    struct slice table = lend(TABLE, 0);
+    size_t len;
+    for (len = 0; len <= LONGEST_PAGE; len++) {
+        uint8_t *registers = end - len;
+        uint32_t taken = is_page(len) ? 0 : 11, number;
+        expect(mmu_check(registers, len) == taken, "check before an unreadable page", (uint32_t)len);
+        for (number = 0; number < 64; number++)
+            expect(mmu_set_register(registers, len, number, 0) == (is_page(len) && number >= len / 4 ? 6 : taken),
+                   "set_register before an unreadable page", number);
+        expect(mmu_access(registers, len, 3, MMU_STORE, ADDRESS, 1, table.bytes, table.len, answer, sizeof answer)
+                   == (is_page(len) ? 64 : 11), "access before an unreadable page", (uint32_t)len);
+        expect(mmu_access(registers, len, 0, MMU_LOAD, ADDRESS, 1, table.bytes, table.len, answer, sizeof answer)
+                   == taken, "real mode before an unreadable page", (uint32_t)len);
+    }
+    give_back(&table);
+    munmap(end - GUARD, 2 * GUARD);
 }
 
 /* Every length up to twice the right one, 0 as NULL. */
@@ -218,7 +274,7 @@ static void test_wrong_answer_lengths(void)
 {
     size_t len;
     for (len = 0; len <= 2 * MMU_ACCESS_ANSWER_SIZE; len++) {
-        struct lent l = lend_all(MMU_REGISTERS_SIZE, TABLE, len, len);
+        struct lent l = lend_all(pages[len % 2], TABLE, len, len);
         uint32_t got;
         if (len != MMU_ANSWER_SIZE) {
             got = unmap(&l, 0xFFFFFFFFu, 0xFFFFFFFFu, 0xFFFFFFFFu);
@@ -241,7 +297,7 @@ static void test_wrong_table_lengths(void)
     static const size_t lengths[] = { 0, 1, 64, 65535, 65537, 131072 };
     size_t i;
     for (i = 0; i < sizeof lengths / sizeof lengths[0]; i++) {
-        struct lent l = lend_all(MMU_REGISTERS_SIZE, lengths[i], MMU_ANSWER_SIZE, MMU_ACCESS_ANSWER_SIZE);
+        struct lent l = lend_all(pages[i % 2], lengths[i], MMU_ANSWER_SIZE, MMU_ACCESS_ANSWER_SIZE);
         uint32_t got = mmu_clear(SDR1, l.table.bytes, l.table.len);
         expect(left(&l, got, 1), "clear with another table length", got);
         got = map(&l, SDR1, VSID, PAGE, 1, 2, 2);
@@ -304,13 +360,33 @@ static void test_page_numbers(void)
 static void test_access_and_register_numbers(void)
 {
     int i;
-    for (i = 0; i < 4; i++) {
-        struct lent l = lend_right();
-        uint32_t got;
-        expect(access_refused(&l, access_at(&l, beyond(8, i), MMU_LOAD, ADDRESS), 6), "access with a large mode", 6);
-        expect(access_refused(&l, access_at(&l, 0, beyond(3, i), ADDRESS), 6), "access with a large kind", 6);
-        got = mmu_set_register(l.registers.bytes, l.registers.len, beyond(33, i), 0);
+    for (i = 0; i < 8; i++) {
+        struct lent l = lend_page(pages[i % 2]);
+        uint32_t got, count = i % 2 ? MMU_REGISTER_COUNT_LONG : MMU_REGISTER_COUNT_SHORT;
+        got = access_at(&l, beyond(8, i / 2), MMU_LOAD, ADDRESS);
+        expect(access_refused(&l, got, 6), "access with a large mode", got);
+        expect(access_refused(&l, access_at(&l, 0, beyond(3, i / 2), ADDRESS), 6), "access with a large kind", 6);
+        got = mmu_set_register(l.registers.bytes, l.registers.len, beyond(count, i / 2), 0);
         expect(got == 6 && unchanged(&l.registers), "set_register with a large number", got);
+        got = mmu_set_register(l.registers.bytes, l.registers.len, count - 1, 0xFFFFFFFFu);
+        mmu_put_word(l.registers.before, MMU_REGISTER_OFFSET(count - 1), 0xFFFFFFFFu);
+        expect(got == 0 && unchanged(&l.registers), "set_register with the highest number", got);
+        give_back_all(&l);
+    }
+}
+
+/* Numbers 33 to 48 are refused on a short page and taken on a long one. */
+static void test_long_numbers(void)
+{
+    uint32_t number;
+    for (number = 33; number < 49; number++) {
+        struct lent s = lend_page(pages[0]), l = lend_page(pages[1]);
+        uint32_t got = mmu_set_register(s.registers.bytes, s.registers.len, number, 0xFFFFFFFCu);
+        expect(left(&s, got, 6), "set_register on a short page", number);
+        got = mmu_set_register(l.registers.bytes, l.registers.len, number, 0xFFFFFFFCu);
+        mmu_put_word(l.registers.before, MMU_REGISTER_OFFSET(number), 0xFFFFFFFCu);
+        expect(left(&l, got, 0), "set_register on a long page", number);
+        give_back_all(&s);
         give_back_all(&l);
     }
 }
@@ -364,22 +440,39 @@ static void test_pack_numbers(void)
 /* ---- Register words --------------------------------------------------------------------------- */
 
 struct word_case {
+    size_t page;
     uint32_t number, word, result;
 };
 
-/* A word put into a page of right shape, with what check, set_register and access must say of it. */
+/*
+ * A word put into a page of right shape, with what check, set_register and access must say of it. On the long page BL
+ * has 15 bits: 1FFFE has all of them and Vs. On the short page bits 15 to 18 are zero where the pair is on.
+ */
 static void test_register_words(void)
 {
     static const struct word_case cases[] = {
-        { 0, 0x0F980005u, 2 }, { 0, 0x0F910007u, 2 }, { 0, 0x0F980200u, 2 }, { 0, 0xFFFFFFFFu, 2 }, { 0, 0x0F98FE00u, 2 },
-        { 1, 0x80000000u, 5 }, { 16, 0x08000000u, 5 }, { 9, 0x01000000u, 5 }, { 5, 0xFFFFFFFFu, 5 },
-        { 17, 0x0000000Au, 3 }, { 17, 0x00020006u, 3 }, { 25, 0x0001FFFEu, 3 }, { 31, 0x00002002u, 3 },
-        { 17, 0x00000003u, 0 }, { 25, 0x80001FFEu, 0 }, { 26, 0xFFFFFFFFu, 0 }, { 18, 0xFFFFFFFFu, 0 },
-        { 17, 0xFFFFFFFCu, 0 }, { 2, 0x70FFFFFFu, 0 },
+        { 132, 0, 0x0F980005u, 2 }, { 132, 0, 0x0F910007u, 2 }, { 132, 0, 0x0F980200u, 2 }, { 132, 0, 0xFFFFFFFFu, 2 },
+        { 132, 0, 0x0F98FE00u, 2 }, { 132, 1, 0x80000000u, 5 }, { 132, 16, 0x08000000u, 5 },
+        { 132, 9, 0x01000000u, 5 }, { 132, 5, 0xFFFFFFFFu, 5 }, { 132, 17, 0x0000000Au, 3 },
+        { 132, 17, 0x00020006u, 3 }, { 132, 25, 0x0001FFFEu, 3 }, { 132, 31, 0x00002002u, 3 },
+        { 132, 17, 0x00000003u, 0 }, { 132, 25, 0x80001FFEu, 0 }, { 132, 26, 0xFFFFFFFFu, 0 },
+        { 132, 18, 0xFFFFFFFFu, 0 }, { 132, 17, 0xFFFFFFFCu, 0 }, { 132, 2, 0x70FFFFFFu, 0 },
+        { 132, 17, 0x0001E000u, 0 }, { 132, 31, 0x00002000u, 0 }, { 132, 17, 0x00003FFEu, 3 },
+        { 132, 23, 0x80007FFEu, 3 }, { 132, 25, 0x80003FFEu, 3 }, { 132, 31, 0x8000FFFDu, 3 },
+        { 132, 25, 0x00010003u, 3 }, { 196, 0, 0x0F980005u, 2 }, { 196, 16, 0x08000000u, 5 },
+        { 196, 17, 0x0000000Au, 3 }, { 196, 31, 0x0000000Au, 3 }, { 196, 33, 0x0000000Au, 3 },
+        { 196, 47, 0x0000000Au, 3 }, { 196, 33, 0x00002002u, 3 }, { 196, 17, 0x00010002u, 3 },
+        { 196, 17, 0x0001FFFEu, 0 }, { 196, 33, 0x0001FFFEu, 0 }, { 196, 31, 0x0001FFFDu, 0 },
+        { 196, 47, 0x0001FFFFu, 0 }, { 196, 33, 0x0002FFFEu, 3 }, { 196, 33, 0x8001FFFEu, 3 },
+        { 196, 33, 0x8000FFFEu, 0 }, { 196, 33, 0xC000FFFEu, 3 }, { 196, 33, 0xC0007FFEu, 0 },
+        { 196, 33, 0xE0007FFEu, 3 }, { 196, 33, 0xE0003FFEu, 0 }, { 196, 33, 0xF0003FFEu, 3 },
+        { 196, 33, 0xF0001FFEu, 0 }, { 196, 47, 0x0001FFFCu, 0 }, { 196, 48, 0xFFFFFFFFu, 0 },
+        { 196, 32, 0xFFFFFFFFu, 0 }, { 196, 25, 0x00000003u, 0 }, { 196, 26, 0xFFFFFFFFu, 0 },
+        { 196, 2, 0x70FFFFFFu, 0 },
     };
     size_t i;
     for (i = 0; i < sizeof cases / sizeof cases[0]; i++) {
-        struct lent l = lend_right();
+        struct lent l = lend_page(cases[i].page);
         size_t at = MMU_REGISTER_OFFSET(cases[i].number);
         uint32_t got = mmu_set_register(l.registers.bytes, l.registers.len, cases[i].number, cases[i].word);
         expect(got == cases[i].result, "set_register", got);
@@ -399,13 +492,10 @@ static void test_register_words(void)
 }
 
 /* Where several rules are broken, the first in order is told: each turn mends one. */
-static void test_order(void)
+static void test_order_on(const struct word_case broken[5])
 {
-    static const struct word_case broken[] = {
-        { 0, 5, 2 }, { 17, 0x0000000Au, 3 }, { 25, 0x80000002u, 4 }, { 27, 0x80000002u, 4 }, { 4, 0x80000000u, 5 },
-    };
     static const uint32_t mended[] = { SDR1, 0, 0, 0, 0 };
-    struct lent l = lend_all(MMU_REGISTERS_SIZE, 1, MMU_ANSWER_SIZE, MMU_ACCESS_ANSWER_SIZE);
+    struct lent l = lend_all(broken[0].page, 1, MMU_ANSWER_SIZE, MMU_ACCESS_ANSWER_SIZE);
     uint32_t got;
     size_t i;
     for (i = 0; i < 5; i++)
@@ -424,6 +514,134 @@ static void test_order(void)
     expect(left(&l, mmu_clear(5, l.table.bytes, l.table.len), 2), "clear: 2 before 1", 2);
     expect(left(&l, map(&l, 5, VSID, PAGE, 1, 2, 2), 2), "map: 2 before 1", 2);
     give_back_all(&l);
+}
+
+static void test_order(void)
+{
+    static const struct word_case of_short[5] = {
+        { 132, 0, 5, 2 }, { 132, 17, 0x0000000Au, 3 }, { 132, 25, 0x80000002u, 4 }, { 132, 27, 0x80000002u, 4 },
+        { 132, 4, 0x80000000u, 5 },
+    };
+    static const struct word_case of_long[5] = {
+        { 196, 0, 5, 2 }, { 196, 31, 0x0000000Au, 3 }, { 196, 39, 0x80000002u, 4 }, { 196, 41, 0x80000002u, 4 },
+        { 196, 4, 0x80000000u, 5 },
+    };
+    test_order_on(of_short);
+    test_order_on(of_long);
+}
+
+/* ---- The long register page --------------------------------------------------------------------- */
+
+/* Every two pairs of a side, pairs 3 and 4 too: at one address they are refused 4, as neighbours they are taken. */
+static void test_two_blocks(uint32_t side)
+{
+    struct lent l = lend_page(MMU_REGISTERS_SIZE_LONG);
+    uint32_t first, second, k;
+    for (second = 1; second < 8; second++)
+        for (first = 0; first < second; first++)
+            for (k = 0; k <= 15; k++) {
+                uint32_t bl = MMU_BLOCK_BL_OF(UINT64_C(0x20000) << k), start = k < 15 ? 0x20000u << k : 0, got;
+                mmu_put_word(l.registers.bytes, MMU_REGISTER_OFFSET(side + 2 * first), bl | 3);
+                mmu_put_word(l.registers.bytes, MMU_REGISTER_OFFSET(side + 2 * second), MMU_BLOCK_VP);
+                got = mmu_check(l.registers.bytes, l.registers.len);
+                expect(got == 4, "two blocks at one address", got);
+                mmu_put_word(l.registers.bytes, MMU_REGISTER_OFFSET(side + 2 * second), start | MMU_BLOCK_VP);
+                got = mmu_check(l.registers.bytes, l.registers.len);
+                expect(got == (k < 15 ? 0 : 4), "two neighbouring blocks; 4 GB have no neighbour", got);
+                mmu_put_word(l.registers.bytes, MMU_REGISTER_OFFSET(side + 2 * first), bl | MMU_BLOCK_VS);
+                got = mmu_check(l.registers.bytes, l.registers.len);
+                expect(got == 0, "two blocks without a V bit in common", got);
+                memset(l.registers.bytes + 68, 0, 128);
+            }
+    give_back_all(&l);
+}
+
+/* Each of sixteen blocks of 128 KB, and then of 4 GB, holds its addresses and is shown by its number. */
+static void test_block_numbers(void)
+{
+    struct lent l = lend_page(MMU_REGISTERS_SIZE_LONG);
+    uint32_t pair, side, got;
+    for (side = 0; side < 2; side++)
+        for (pair = 0; pair < 8; pair++) {
+            uint32_t at = MMU_REGISTER_OFFSET(17 + 16 * side + 2 * pair), mode = side ? MMU_MODE_DR : MMU_MODE_IR;
+            uint32_t kind = side ? MMU_LOAD : MMU_FETCH;
+            mmu_put_word(l.registers.bytes, at, 0x40000000u | pair << 17 | MMU_BLOCK_VS);
+            mmu_put_word(l.registers.bytes, at + 4, 0x90000000u | pair << 17 | 1);
+            got = access_at(&l, mode, kind, 0x4001FFFFu + (pair << 17));
+            expect(got == 0 && done_is(&l, 0x9001FFFFu + (pair << 17), 0, 0x4001FFFFu + (pair << 17))
+                       && rule_is(&l, MMU_RULE_BLOCK, pair, 0, 0), "a block of 128 KB", pair);
+            got = access_at(&l, mode, kind, 0x40020000u + (pair << 17));
+            expect(got != 0 && rule_is(&l, MMU_RULE_NO_MATCH, 0, 0, 0), "the address behind it", pair);
+        }
+    memset(l.registers.bytes + 68, 0, 128);
+    for (pair = 0; pair < 8; pair++) {
+        mmu_put_word(l.registers.bytes, MMU_REGISTER_OFFSET(MMU_REGISTER_DATA_UPPER_LONG(pair)), 0x1FFFEu);
+        mmu_put_word(l.registers.bytes, MMU_REGISTER_OFFSET(MMU_REGISTER_DATA_LOWER_LONG(pair)), 0x12u);
+        got = access_operand(&l, MMU_MODE_DR, MMU_STORE, 0xFFFFFFFFu, 2);
+        expect(got == 0 && answer_is(&l.access_answer, 0, 0xFFFFFFFFu, 2, 0xFFFFFFFFu) && second_is(&l, 0, 2, 1, 1)
+                   && rule_is(&l, MMU_RULE_BLOCK, pair, 0, 0), "a block of 4 GB", pair);
+        memset(l.registers.bytes + 132, 0, 64);
+    }
+    give_back_all(&l);
+}
+
+/* The same bytes lent as a short and as a long page: words 25 to 32 are data pairs here and instruction pairs there. */
+static void test_one_page_twice(void)
+{
+    struct lent l = lend_page(MMU_REGISTERS_SIZE_LONG);
+    uint32_t got;
+    mmu_put_word(l.registers.bytes, MMU_REGISTER_OFFSET(25), 0xB0000003u);
+    mmu_put_word(l.registers.bytes, MMU_REGISTER_OFFSET(26), 0x10000002u);
+    remember(&l.registers);
+    l.registers.len = MMU_REGISTERS_SIZE_SHORT;
+    got = access_at(&l, 3, MMU_LOAD, 0xB0000000u);
+    expect(got == 0 && rule_is(&l, MMU_RULE_BLOCK, 0, 0, 0), "DBAT0 of the short page", got);
+    got = access_at(&l, 3, MMU_FETCH, 0xB0000000u);
+    expect(got == 65 && rule_is(&l, MMU_RULE_NO_MATCH, 0, 0, 0), "no IBAT of the short page", got);
+    l.registers.len = MMU_REGISTERS_SIZE_LONG;
+    got = access_at(&l, 3, MMU_LOAD, 0xB0000000u);
+    expect(got == 64 && rule_is(&l, MMU_RULE_NO_MATCH, 0, 0, 0), "no DBAT of the long page", got);
+    got = access_at(&l, 3, MMU_FETCH, 0xB0000000u);
+    expect(got == 0 && rule_is(&l, MMU_RULE_BLOCK, 4, 0, 0), "IBAT4 of the long page", got);
+    mmu_put_word(l.registers.bytes, MMU_REGISTER_OFFSET(25), 0x0001FFFEu);
+    mmu_put_word(l.registers.bytes, MMU_REGISTER_OFFSET(26), 2);
+    remember(&l.registers);
+    expect(mmu_check(l.registers.bytes, MMU_REGISTERS_SIZE_SHORT) == 3, "4 GB on the short page", 3);
+    expect(mmu_check(l.registers.bytes, MMU_REGISTERS_SIZE_LONG) == 0, "4 GB on the long page", 0);
+    give_back_all(&l);
+}
+
+/* Bits 15 to 18 of a pair that is off, beside a pair that is on: taken on both pages, in every pair. */
+static void test_off_pairs(void)
+{
+    uint32_t page, side, pair, bit;
+    for (page = 0; page < 2; page++) {
+        uint32_t pairs = page ? 8 : 4;
+        struct lent l = lend_page(pages[page]);
+        for (side = 0; side < 2; side++)
+            for (pair = 1; pair < pairs; pair++)
+                for (bit = 15; bit < 19; bit++) {
+                    uint32_t first = 17 + 2 * pairs * side, word = 0x80000000u >> bit, got;
+                    mmu_put_word(l.registers.bytes, MMU_REGISTER_OFFSET(first), 0x80000003u);
+                    mmu_put_word(l.registers.bytes, MMU_REGISTER_OFFSET(first + 2 * pair), word);
+                    got = mmu_check(l.registers.bytes, l.registers.len);
+                    expect(got == 0, "bits 15 to 18 of a pair that is off", got);
+                    mmu_put_word(l.registers.bytes, MMU_REGISTER_OFFSET(first + 2 * pair), word | MMU_BLOCK_VP);
+                    got = mmu_check(l.registers.bytes, l.registers.len);
+                    expect(got == 3, "a bit of 15 to 18 alone in a pair that is on", got);
+                    memset(l.registers.bytes + 68, 0, l.registers.len - 68);
+                }
+        give_back_all(&l);
+    }
+}
+
+static void test_long_page(void)
+{
+    test_two_blocks(17);
+    test_two_blocks(33);
+    test_block_numbers();
+    test_one_page_twice();
+    test_off_pairs();
 }
 
 /* ---- Good calls ------------------------------------------------------------------------------- */
@@ -672,7 +890,7 @@ static uint32_t random_call(struct lent *l, uint32_t call, uint32_t sdr1)
     case 0:
         return mmu_check(l->registers.bytes, l->registers.len);
     case 1:
-        return mmu_set_register(l->registers.bytes, l->registers.len, some(33), any());
+        return mmu_set_register(l->registers.bytes, l->registers.len, some((uint32_t)l->registers.len / 4), any());
     case 2:
         return mmu_clear(sdr1, l->table.bytes, l->table.len);
     case 3:
@@ -689,14 +907,14 @@ static uint32_t random_call(struct lent *l, uint32_t call, uint32_t sdr1)
 }
 
 /* Any numbers and bytes: a result of the list, and whatever a refusal must leave is left. */
-static void test_random_numbers(long count)
+static void test_random_numbers(long count, size_t page)
 {
-    struct lent l = lend_right();
+    struct lent l = lend_page(page);
     size_t i;
     while (count-- > 0) {
         uint32_t call = any() % 8, got;
         if (any() % 8 == 0)
-            mmu_put_word(l.registers.bytes, 4 * (any() % 33), any() % 3 ? 0 : any());
+            mmu_put_word(l.registers.bytes, 4 * (any() % (page / 4)), any() % 3 ? 0 : any());
         for (i = 0; i < 8; i++)
             mmu_put_word(l.table.bytes, 4 * (any() % (TABLE / 4)), any());
         if (any() % 4 == 0)
@@ -719,23 +937,28 @@ static void test_random_numbers(long count)
 
 int main(int argc, char **argv)
 {
-    test_wrong_register_lengths();
+    long count = argc > 1 ? atol(argv[1]) : 2000;
+    test_register_lengths();
+    test_guarded_registers();
     test_wrong_answer_lengths();
     test_wrong_table_lengths();
     test_wrong_entry_lengths();
     test_page_numbers();
     test_access_and_register_numbers();
+    test_long_numbers();
     test_operand_lengths();
     test_pack_numbers();
     test_register_words();
     test_order();
+    test_long_page();
     test_page_story();
     test_rules();
     test_page_edge();
     test_full_groups();
     test_duplicates();
     test_packing();
-    test_random_numbers(argc > 1 ? atol(argv[1]) : 2000);
+    test_random_numbers(count, MMU_REGISTERS_SIZE_SHORT);
+    test_random_numbers(count, MMU_REGISTERS_SIZE_LONG);
     printf("bad_input: %lu checks, %lu failed\n", checks, failures);
     return failures != 0;
 }

@@ -8,7 +8,7 @@
 #include <stdio.h>
 #include <string.h>
 
-#if MMU_VERSION_MAJOR * 1000 + MMU_VERSION_MINOR < 6
+#if MMU_VERSION_MAJOR * 1000 + MMU_VERSION_MINOR < 7
 #error "the version cannot be compared by the preprocessor"
 #endif
 
@@ -43,6 +43,62 @@ static const uint32_t sprs[17][2] = {
     { 543, 32 }, /* DBAT3L */
 };
 
+/* The same SPRs in the order of the long page, and those of pairs 4 to 7 of later cores. */
+static const uint32_t long_sprs[33][2] = {
+    { 25, 0 },   /* SDR1 */
+    { 528, 17 }, /* IBAT0U */
+    { 529, 18 }, /* IBAT0L */
+    { 530, 19 }, /* IBAT1U */
+    { 531, 20 }, /* IBAT1L */
+    { 532, 21 }, /* IBAT2U */
+    { 533, 22 }, /* IBAT2L */
+    { 534, 23 }, /* IBAT3U */
+    { 535, 24 }, /* IBAT3L */
+    { 536, 33 }, /* DBAT0U */
+    { 537, 34 }, /* DBAT0L */
+    { 538, 35 }, /* DBAT1U */
+    { 539, 36 }, /* DBAT1L */
+    { 540, 37 }, /* DBAT2U */
+    { 541, 38 }, /* DBAT2L */
+    { 542, 39 }, /* DBAT3U */
+    { 543, 40 }, /* DBAT3L */
+    { 560, 25 }, /* IBAT4U */
+    { 561, 26 }, /* IBAT4L */
+    { 562, 27 }, /* IBAT5U */
+    { 563, 28 }, /* IBAT5L */
+    { 564, 29 }, /* IBAT6U */
+    { 565, 30 }, /* IBAT6L */
+    { 566, 31 }, /* IBAT7U */
+    { 567, 32 }, /* IBAT7L */
+    { 568, 41 }, /* DBAT4U */
+    { 569, 42 }, /* DBAT4L */
+    { 570, 43 }, /* DBAT5U */
+    { 571, 44 }, /* DBAT5L */
+    { 572, 45 }, /* DBAT6U */
+    { 573, 46 }, /* DBAT6L */
+    { 574, 47 }, /* DBAT7U */
+    { 575, 48 }, /* DBAT7L */
+};
+
+static void test_long_sprs(void)
+{
+    uint8_t registers[MMU_REGISTERS_SIZE_LONG];
+    uint32_t spr;
+    memset(registers, 0, sizeof registers);
+    for (spr = 0; spr < 1024; spr++) {
+        uint32_t wanted = MMU_REGISTER_NONE;
+        size_t i;
+        for (i = 0; i < 33; i++)
+            if (long_sprs[i][0] == spr)
+                wanted = long_sprs[i][1];
+        expect(mmu_register_of_spr_long(spr) == wanted, "register word of an SPR on the long page", spr);
+        if (wanted != MMU_REGISTER_NONE)
+            expect(mmu_set_register(registers, sizeof registers, wanted, 0) == MMU_DONE, "set_register of an SPR", spr);
+    }
+    expect(mmu_set_register(registers, sizeof registers, mmu_register_of_spr_long(576), 0) == MMU_REFUSED_ARGUMENT,
+           "set_register of an SPR that is not here", 576);
+}
+
 static void test_sprs(void)
 {
     uint8_t registers[MMU_REGISTERS_SIZE];
@@ -67,9 +123,27 @@ static void test_register_numbers(void)
     expect(MMU_REGISTER_INSTRUCTION_LOWER(3u) == mmu_register_of_spr(MMU_SPR_IBAT0U + 7), "IBAT3L", 0);
     expect(MMU_REGISTER_DATA_UPPER(0u) == mmu_register_of_spr(MMU_SPR_DBAT0U), "DBAT0U", 0);
     expect(MMU_REGISTER_DATA_LOWER(3u) == mmu_register_of_spr(MMU_SPR_DBAT3L), "DBAT3L", 0);
-    expect(MMU_REGISTER_OFFSET(MMU_REGISTER_COUNT) == MMU_REGISTERS_SIZE, "length of the register page", 0);
+    expect(MMU_REGISTER_DATA_UPPER_LONG(0u) == mmu_register_of_spr_long(MMU_SPR_DBAT0U), "DBAT0U, long", 0);
+    expect(MMU_REGISTER_DATA_LOWER_LONG(7u) == mmu_register_of_spr_long(MMU_SPR_DBAT7L), "DBAT7L, long", 0);
+    expect(MMU_REGISTER_INSTRUCTION_UPPER(4u) == mmu_register_of_spr_long(MMU_SPR_IBAT4U), "IBAT4U, long", 0);
+    expect(MMU_REGISTERS_SIZE == 132 && MMU_REGISTER_COUNT == 33, "the names of 0.6 are the short page's", 0);
+    expect(MMU_REGISTER_OFFSET(MMU_REGISTER_COUNT_SHORT) == MMU_REGISTERS_SIZE_SHORT, "length of the short page", 0);
+    expect(MMU_REGISTER_OFFSET(MMU_REGISTER_COUNT_LONG) == MMU_REGISTERS_SIZE_LONG, "length of the long page", 0);
     expect(MMU_TABLE_SIZE(0x0F980007u) == 524288, "length of a table", 0);
     expect(MMU_ENTRY_OFFSET(0u, 1u) == 8 && MMU_ENTRY_OFFSET(0x3E6u, 7u) == 63928, "place of an entry", 0);
+}
+
+/* The manual's block lengths, 128 KB to 256 MB, and those of the long page, to 4 GB; of numbers of any type. */
+static void test_block_lengths(void)
+{
+    uint32_t k;
+    for (k = 0; k <= 15; k++) {
+        uint32_t bl = ((1u << k) - 1u) << 2;
+        expect(MMU_BLOCK_BL_OF(UINT64_C(0x20000) << k) == bl, "BL of a length", k);
+        expect((bl & ~MMU_BLOCK_BL_LONG) == 0 && ((bl & ~MMU_BLOCK_BL) == 0) == (k <= 11), "BL in its place", k);
+    }
+    expect(MMU_BLOCK_BL_OF(0x10000000u) == 0x1FFC && MMU_BLOCK_BL_OF(128 * 1024) == 0, "BL of 32 bits", 0);
+    expect(MMU_BLOCK_BL_OF(0x80000000u) == 0xFFFC && MMU_BLOCK_BL_OF(0u) == 0x1FFFC, "BL of 2 GB and of 4 GB", 0);
 }
 
 /* Results 0 to 12, 64 and 65 have a name each, every other number the same one. */
@@ -192,6 +266,25 @@ static void test_access(void)
                       sizeof bytes) == MMU_REFUSED_OPERAND_LENGTH, "access to too many bytes", 129);
 }
 
+/* A long page whose eighth data pair is a block of 4 GB: it holds the last address too. */
+static void test_long_page(void)
+{
+    static uint8_t table[65536];
+    uint8_t registers[MMU_REGISTERS_SIZE_LONG], bytes[MMU_ACCESS_ANSWER_SIZE];
+    struct mmu_answer a;
+    memset(registers, 0, sizeof registers);
+    expect(mmu_set_register(registers, sizeof registers, MMU_REGISTER_DATA_LOWER_LONG(7u), 2) == MMU_DONE,
+           "DBAT7L", 48);
+    expect(mmu_set_register(registers, sizeof registers, MMU_REGISTER_DATA_UPPER_LONG(7u),
+                            MMU_BLOCK_BL_OF(UINT64_C(1) << 32) | MMU_BLOCK_VS) == MMU_DONE, "DBAT7U", 47);
+    expect(mmu_access(registers, sizeof registers, MMU_MODE_DR, MMU_STORE, 0xFFFFFFFCu, 4, table, sizeof table, bytes,
+                      sizeof bytes) == MMU_DONE, "access by a block of 4 GB", 0);
+    a = mmu_read_answer(bytes);
+    expect(a.physical == 0xFFFFFFFCu && rule_is(&a, MMU_RULE_BLOCK, 7, 0, 0), "the eighth block", 7);
+    expect(mmu_access(registers, MMU_REGISTERS_SIZE_SHORT, MMU_MODE_DR, MMU_STORE, 0xFFFFFFFCu, 4, table, sizeof table,
+                      bytes, sizeof bytes) == MMU_DATA_STORAGE_FAULT, "the same page, lent short", 64);
+}
+
 /* The names of the record beside a store of the supervisor, whose key is 0, to a page of PP 3. */
 static void test_access_by_page(void)
 {
@@ -215,7 +308,9 @@ int main(void)
     expect(mmu_unpack(0x86380E03u, 0x12345012u, fields, sizeof fields) == MMU_DONE, "unpack", 0);
     expect(mmu_get_word(fields, MMU_FIELD_RPN) == 0x12345u, "a field", 0);
     test_sprs();
+    test_long_sprs();
     test_register_numbers();
+    test_block_lengths();
     test_result_names();
     test_cause_names();
     test_rule_names();
@@ -223,6 +318,7 @@ int main(void)
     test_done_answers();
     test_other_answers();
     test_access();
+    test_long_page();
     test_access_by_page();
     return failures ? 1 : 0;
 }

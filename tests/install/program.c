@@ -3,6 +3,6 @@
 
 int main(void)
 {
-    uint8_t registers[MMU_REGISTERS_SIZE] = {0};
+    uint8_t registers[MMU_REGISTERS_SIZE_SHORT] = {0};
     return mmu_check(registers, sizeof registers) == MMU_DONE ? 0 : 1;
 }

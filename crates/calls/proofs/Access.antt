@@ -7,10 +7,11 @@ use native.Mathlib.Omega.{arith}
 use lib.Dec.{eqb, ltb}
 use lib.ListN.{length}
 use borrow.Author.Tests.{eq-eqb, ne-eqb, eqb-true}
+use Rattle.register_words.specs.Block.{blWidth}
 use Rattle.entry.specs.Entry.{withMarks}
 use Rattle.registers.specs.Rules.{firstBroken}
 use Rattle.register_words.specs.Sdr1.{sdr1Shape, tableLength, maskOnes}
-use Rattle.registers.specs.Set.{sdr1Of, segmentsShape, sideShape, sideApart, registerRules, checkWords, registerWords}
+use Rattle.registers.specs.Set.{isPage, blockPairs, sdr1Of, segmentsShape, sideShape, sideApart, registerRules, checkWords, registerWords}
 use Rattle.registers.proofs.Set.{checked}
 use Rattle.groups.specs.Page.{InRange}
 use Rattle.groups.specs.Hash.{groupNumber}
@@ -36,30 +37,30 @@ use Rattle.translation.specs.declared.Searched.the-variants.{Nothing, At, Contr
 use Rattle.translation.specs.declared.Wanted.{Wanted}
 use Rattle.translation.proofs.Steps.{page-by, done-passes, wanted-in-range}
 use Rattle.calls.specs.Request.{AccessCall, access, sdr1In, fed}
-use Rattle.calls.specs.Rules.{operandInRange, rules, refusal}
+use Rattle.calls.specs.Rules.{onLongPage, operandInRange, rules, refusal}
 use Rattle.calls.specs.Answers.{refusedBytes, accessAnswer, answerRefused}
 use Rattle.calls.specs.OnBytes.{layout, ended, byMatches, startOf, earlyOf, usedBy, eachPart, wantedPage, searched, firstPlaceIn, markedBy, bytesDo, onBytes}
 use Rattle.calls.proofs.OnBytes.{taken, refused}
 
 -- ---- the rules after 11
 
--- the rules of an access after 11, given the words of its register page
-abbrev pub rulesThen : List ℕ → ℕ → ℕ → ℕ → ℕ → List (Bool × ℕ)
-rulesThen words mode kind operand lent =
-    (not (ltb mode 8 && ltb kind 3), 6) ∷ (not (operandInRange operand), 12) ∷ registerRules 4 11 words ++ ((not (eqb lent (tableLength (sdr1Of words))), 1) ∷ [])
+-- the rules of an access after 11, given the limits and the words of its register page
+abbrev pub rulesThen : ℕ → ℕ → List ℕ → ℕ → ℕ → ℕ → ℕ → List (Bool × ℕ)
+rulesThen pairs width words mode kind operand lent =
+    (not (ltb mode 8 && ltb kind 3), 6) ∷ (not (operandInRange operand), 12) ∷ registerRules pairs width words ++ ((not (eqb lent (tableLength (sdr1Of words))), 1) ∷ [])
 
-module _ (words : List ℕ) (mode kind operand lent : ℕ) where
+module _ (pairs width : ℕ) (words : List ℕ) (mode kind operand lent : ℕ) where
   -- they are 6, then 12, then the check of the set, then the table's length; none is 11
-  rules-are : (firstBroken (rulesThen words mode kind operand lent)
+  rules-are : (firstBroken (rulesThen pairs width words mode kind operand lent)
       ≡ cond (ltb mode 8 && ltb kind 3)
       (cond (operandInRange operand)
-      (cond (eqb (checkWords 4 11 words) 0) (cond (eqb lent (tableLength (sdr1Of words))) 0 1) (checkWords 4 11 words))
+      (cond (eqb (checkWords pairs width words) 0) (cond (eqb lent (tableLength (sdr1Of words))) 0 1) (checkWords pairs width words))
       12)
-      6) × (eqb (firstBroken (rulesThen words mode kind operand lent)) 11 ≡ false)
+      6) × (eqb (firstBroken (rulesThen pairs width words mode kind operand lent)) 11 ≡ false)
   unfolding checkWords
   rules-are =
-      go (ltb mode 8 && ltb kind 3) (operandInRange operand) (sdr1Shape (sdr1Of words)) (sideShape 4 11 words false && sideShape 4 11 words true)
-      (sideApart 4 11 words false && sideApart 4 11 words true) (segmentsShape words) (eqb lent (tableLength (sdr1Of words)))
+      go (ltb mode 8 && ltb kind 3) (operandInRange operand) (sdr1Shape (sdr1Of words)) (sideShape pairs width words false && sideShape pairs width words true)
+      (sideApart pairs width words false && sideApart pairs width words true) (segmentsShape words) (eqb lent (tableLength (sdr1Of words)))
     where
       go : (range bytes sdr1 shape apart segments long : Bool)
           → let set : List (Bool × ℕ) = (not sdr1, 2) ∷ (not shape, 3) ∷ (not apart, 4) ∷ (not segments, 5) ∷ [] in
@@ -74,38 +75,39 @@ module _ (words : List ℕ) (mode kind operand lent : ℕ) where
       go true true true true true true false = (refl, refl)
       go true true true true true true true = (refl, refl)
 
-  pub then-range : (ltb mode 8 && ltb kind 3) ≡ false → firstBroken (rulesThen words mode kind operand lent) ≡ 6
+  pub then-range : (ltb mode 8 && ltb kind 3) ≡ false → firstBroken (rulesThen pairs width words mode kind operand lent) ≡ 6
   then-range out = rw out
 
   module _ (range : (ltb mode 8 && ltb kind 3) ≡ true) where
-    pub then-operand : operandInRange operand ≡ false → firstBroken (rulesThen words mode kind operand lent) ≡ 12
+    pub then-operand : operandInRange operand ≡ false → firstBroken (rulesThen pairs width words mode kind operand lent) ≡ 12
     then-operand out = rw (rules-are .0, range, out)
 
     module _ (bytes : operandInRange operand ≡ true) where
-      pub then-check : (checkWords 4 11 words ≡ 0 → ⊥) → firstBroken (rulesThen words mode kind operand lent) ≡ checkWords 4 11 words
-      then-check broken = rw (rules-are .0, range, bytes, ne-eqb (checkWords 4 11 words) 0 broken)
+      pub then-check : (checkWords pairs width words ≡ 0 → ⊥) → firstBroken (rulesThen pairs width words mode kind operand lent) ≡ checkWords pairs width words
+      then-check broken = rw (rules-are .0, range, bytes, ne-eqb (checkWords pairs width words) 0 broken)
 
-      module _ (passed : checkWords 4 11 words ≡ 0) where
-        pub then-length : (lent ≡ tableLength (sdr1Of words) → ⊥) → firstBroken (rulesThen words mode kind operand lent) ≡ 1
-        then-length wrong = rw (rules-are .0, range, bytes, eq-eqb (checkWords 4 11 words) 0 passed, ne-eqb lent (tableLength (sdr1Of words)) wrong)
+      module _ (passed : checkWords pairs width words ≡ 0) where
+        pub then-length : (lent ≡ tableLength (sdr1Of words) → ⊥) → firstBroken (rulesThen pairs width words mode kind operand lent) ≡ 1
+        then-length wrong = rw (rules-are .0, range, bytes, eq-eqb (checkWords pairs width words) 0 passed, ne-eqb lent (tableLength (sdr1Of words)) wrong)
 
-        pub then-none : lent ≡ tableLength (sdr1Of words) → firstBroken (rulesThen words mode kind operand lent) ≡ 0
-        then-none right = rw (rules-are .0, range, bytes, eq-eqb (checkWords 4 11 words) 0 passed, eq-eqb lent (tableLength (sdr1Of words)) right)
+        pub then-none : lent ≡ tableLength (sdr1Of words) → firstBroken (rulesThen pairs width words mode kind operand lent) ≡ 0
+        then-none right = rw (rules-are .0, range, bytes, eq-eqb (checkWords pairs width words) 0 passed, eq-eqb lent (tableLength (sdr1Of words)) right)
 
-  pub then-not-11 : eqb (firstBroken (rulesThen words mode kind operand lent)) 11 ≡ false
+  pub then-not-11 : eqb (firstBroken (rulesThen pairs width words mode kind operand lent)) 11 ≡ false
   then-not-11 = rules-are .1
 
-  -- an access that none of them refuses has an operand in range and a table of its SDR1
-  pub then-kept : firstBroken (rulesThen words mode kind operand lent) ≡ 0
-      → (operandInRange operand ≡ true) × (sdr1Shape (sdr1Of words) ≡ true) × (lent ≡ tableLength (sdr1Of words))
+  -- an access that none of them refuses has an operand in range, a table of its SDR1 and a set that passed its check
+  pub then-kept : firstBroken (rulesThen pairs width words mode kind operand lent) ≡ 0
+      → (operandInRange operand ≡ true) × (sdr1Shape (sdr1Of words) ≡ true) × (lent ≡ tableLength (sdr1Of words)) × (checkWords pairs width words ≡ 0)
   then-kept e =
-      go (ltb mode 8 && ltb kind 3) (operandInRange operand) (eqb (checkWords 4 11 words) 0) (eqb lent (tableLength (sdr1Of words))) refl refl refl
+      go (ltb mode 8 && ltb kind 3) (operandInRange operand) (eqb (checkWords pairs width words) 0) (eqb lent (tableLength (sdr1Of words))) refl refl refl
       (sym (rules-are .0) ∙ e)
     where
-      go : (range bytes passed long : Bool) → operandInRange operand ≡ bytes → eqb (checkWords 4 11 words) 0 ≡ passed → eqb lent (tableLength (sdr1Of words)) ≡ long
-          → cond range (cond bytes (cond passed (cond long 0 1) (checkWords 4 11 words)) 12) 6 ≡ 0
-          → (operandInRange operand ≡ true) × (sdr1Shape (sdr1Of words) ≡ true) × (lent ≡ tableLength (sdr1Of words))
-      go true true true true b p l z = (b, checked 4 11 words (eqb-true _ 0 p) .sdr1, eqb-true lent (tableLength (sdr1Of words)) l)
+      go : (range bytes passed long : Bool) → operandInRange operand ≡ bytes → eqb (checkWords pairs width words) 0 ≡ passed → eqb lent (tableLength (sdr1Of words)) ≡ long
+          → cond range (cond bytes (cond passed (cond long 0 1) (checkWords pairs width words)) 12) 6 ≡ 0
+          → (operandInRange operand ≡ true) × (sdr1Shape (sdr1Of words) ≡ true) × (lent ≡ tableLength (sdr1Of words)) × (checkWords pairs width words ≡ 0)
+      go true true true true b p l z =
+          (b, checked pairs width words (eqb-true _ 0 p) .sdr1, eqb-true lent (tableLength (sdr1Of words)) l, eqb-true (checkWords pairs width words) 0 p)
       go true true true false b p l z = absurd (omega arith)
       go true true false long b p l z = absurd (true≢false (sym (eq-eqb _ 0 z) ∙ p))
       go true false passed long b p l z = absurd (omega arith)
@@ -162,13 +164,13 @@ by-early (Decided outcome) decided search = decided outcome refl
 by-early (Search wanted) decided search = search wanted refl
 
 -- the page that a part wants is in range
-pub part-valid : (words : List ℕ) (mode kind address : ℕ) (wanted : Wanted) → beforeSearch 4 11 words mode kind address ≡ Search wanted → InRange (wantedPage wanted)
-part-valid words mode kind address wanted e =
-    let range = wanted-in-range 4 11 words mode kind address wanted e in
+pub part-valid : (pairs width : ℕ) (words : List ℕ) (mode kind address : ℕ) (wanted : Wanted) → beforeSearch pairs width words mode kind address ≡ Search wanted → InRange (wantedPage wanted)
+part-valid pairs width words mode kind address wanted e =
+    let range = wanted-in-range pairs width words mode kind address wanted e in
     record { vsid-lt = range .0; index-lt = range .1 }
 
 pub wanted-valid : {A : Type 0} (c : AccessCall A) (second : Bool) (wanted : Wanted) → earlyOf c second ≡ Search wanted → InRange (wantedPage wanted)
-wanted-valid c second = part-valid (registerWords (c .registers)) (c .mode) (c .kind) (startOf c second)
+wanted-valid c second = part-valid (blockPairs (onLongPage c)) (blWidth (onLongPage c)) (registerWords (c .registers)) (c .mode) (c .kind) (startOf c second)
 
 -- ---- the mark
 
@@ -284,24 +286,24 @@ module _ (k : ℕ) (wanted : Wanted) (t : List ℕ) (s : Summary) (e : s ≡ sea
 -- ---- the call
 
 module _ (c : AccessCall (List ℕ)) (t : List ℕ) where
-  pub access-wrong-length : (eqb (length (c .registers)) 132 && eqb (length (c .answer)) 48) ≡ false → onBytes (access c) t ≡ ended 11 t (c .answer)
+  pub access-wrong-length : (isPage (length (c .registers)) && eqb (length (c .answer)) 48) ≡ false → onBytes (access c) t ≡ ended 11 t (c .answer)
   unfolding refusal rules fed answerRefused refusedBytes
   access-wrong-length w = refused (access c) t 11 (rw w) (λ z. omega arith)
 
-  module _ (registers-length : length (c .registers) ≡ 132) (answer-length : length (c .answer) ≡ 48) where
+  module _ (page : isPage (length (c .registers)) ≡ true) (answer-length : length (c .answer) ≡ 48) where
     abbrev rulesLeft : List (Bool × ℕ)
-    rulesLeft = rulesThen (registerWords (c .registers)) (c .mode) (c .kind) (c .length) (length t)
+    rulesLeft = rulesThen (blockPairs (onLongPage c)) (blWidth (onLongPage c)) (registerWords (c .registers)) (c .mode) (c .kind) (c .length) (length t)
 
     after-11 : refusal (fed (access c)) (length t) ≡ firstBroken rulesLeft
     unfolding refusal rules fed
-    after-11 = rw (registers-length, answer-length)
+    after-11 = rw (page, answer-length)
 
     pub access-refused : (number : ℕ) → number ≡ firstBroken rulesLeft → (number ≡ 0 → ⊥)
         → onBytes (access c) t ≡ ended number t (accessAnswer (stopped (refusedAnswer number) (decided 0 0)))
     unfolding answerRefused refusedBytes accessAnswer
     access-refused number e n =
         refused (access c) t number (after-11 ∙ sym e) n
-        ∙ (rw (ap (λ (k : ℕ). eqb k 11) e ∙ then-not-11 (registerWords (c .registers)) (c .mode) (c .kind) (c .length) (length t)))
+        ∙ (rw (ap (λ (k : ℕ). eqb k 11) e ∙ then-not-11 (blockPairs (onLongPage c)) (blWidth (onLongPage c)) (registerWords (c .registers)) (c .mode) (c .kind) (c .length) (length t)))
 
     pub access-taken : firstBroken rulesLeft ≡ 0
         → onBytes (access c) t ≡ bytesDo (maskOnes (sdr1Of (registerWords (c .registers)))) (access c) t

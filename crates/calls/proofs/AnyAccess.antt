@@ -9,12 +9,14 @@ use native.Mathlib.Omega.{arith}
 use lib.Dec.{eqb, lit<, lit≤}
 use lib.ListN.{length, take}
 use borrow.Author.Tests.{eqb-true, eqb-false, eq-eqb, ne-eqb}
+use Rattle.register_words.specs.Block.{blWidth}
+use Rattle.calls.specs.Rules.{onLongPage}
 use Rattle.words.specs.Bits.{bits}
 use Rattle.words.specs.Words.{wordBytes, bytesOf}
 use Rattle.entry.specs.Entry.{referenced, changed, withMarks}
 use Rattle.entry.proofs.Marks.{marks-above, marks-below, marks-referenced, marks-changed}
 use Rattle.register_words.specs.Sdr1.{maskOnes}
-use Rattle.registers.specs.Set.{registerWords}
+use Rattle.registers.specs.Set.{blockPairs, registerWords}
 use Rattle.groups.specs.Page.{Page, samePage}
 use Rattle.groups.specs.Group.{firstOf, secondOf}
 use Rattle.groups.proofs.Hash.{group-lt}
@@ -207,10 +209,10 @@ module _ (c : AccessCall (List ℕ)) (t : List ℕ) (a : Taken (access c) t) whe
   -- the first part's mark leaves the matches of the second's page
   kept-second : (result : ℕ) → over ≡ true → (wanted : Wanted) → earlyOf c true ≡ Search wanted
       → own k (marking result false t) (wantedPage wanted) ≡ own k t (wantedPage wanted)
-  kept-second result is wanted e = second-kept words (c .mode) (c .kind) (c .address) (c .length) is k result t good wanted e
+  kept-second result is wanted e = second-kept (blockPairs (onLongPage c)) (blWidth (onLongPage c)) words (c .mode) (c .kind) (c .address) (c .length) is k result t good wanted e
 
   two-pages : over ≡ true → (v w : Wanted) → earlyOf c false ≡ Search v → earlyOf c true ≡ Search w → samePage (wantedPage v) (wantedPage w) ≡ false
-  two-pages is = pages-apart words (c .mode) (c .kind) (c .address) (c .length) is
+  two-pages is = pages-apart (blockPairs (onLongPage c)) (blWidth (onLongPage c)) words (c .mode) (c .kind) (c .address) (c .length) is
 
   state-is : onBytes (access c) t .state ≡ eachPart c (marking (told .part .result)) t
   state-is = state-of access-does

@@ -7,11 +7,13 @@ use mathlib.Core.List.{List, [], _∷_}
 use native.Mathlib.Omega.{arith}
 use lib.Dec.{eqb, ltb, lit<}
 use borrow.Author.Tests.{ltb-true, ltb-false, eq-eqb}
+use Rattle.register_words.specs.Block.{blWidth}
+use Rattle.calls.specs.Rules.{onLongPage}
 use Rattle.words.proofs.Below.{first-passes, first-before}
 use Rattle.words.proofs.Tests.{three, both}
 use Rattle.entry.specs.Entry.{wimgOf, ppOf, pageIndex}
 use Rattle.register_words.specs.Segment.{noExecute}
-use Rattle.registers.specs.Set.{registerWords, coveringPair, pairCovers}
+use Rattle.registers.specs.Set.{blockPairs, registerWords, coveringPair, pairCovers}
 use Rattle.groups.specs.Page.{Page}
 use Rattle.groups.specs.Hash.{groupNumber}
 use Rattle.matches.specs.Search.{contradict}
@@ -103,13 +105,20 @@ module _ (c : AccessCall (List ℕ)) (t : List ℕ) (k : ℕ) (second : Bool) wh
 
   -- ---- before the search
 
+  -- the limits of the register page
+  abbrev pairs : ℕ
+  pairs = blockPairs (onLongPage c)
+
+  abbrev width : ℕ
+  width = blWidth (onLongPage c)
+
   abbrev pair : ℕ
-  pair = coveringPair 4 11 words (sideOf (c .kind)) (userMode (c .mode)) start
+  pair = coveringPair pairs width words (sideOf (c .kind)) (userMode (c .mode)) start
 
   real-stated : relocated (c .mode) (c .kind) ≡ false → Stated (decidedBy c t k second)
   unfolding decisionOf outcomeOf
   real-stated off =
-      rw (decision-of (Decided Real) (before-real 4 11 words (c .mode) (c .kind) start off))
+      rw (decision-of (Decided Real) (before-real pairs width words (c .mode) (c .kind) start off))
       (record {
         holds = untranslated off;
         none-before = λ s l h. absurd (omega arith);
@@ -124,14 +133,14 @@ module _ (c : AccessCall (List ℕ)) (t : List ℕ) (k : ℕ) (second : Bool) wh
     translated : relocated (c .mode) (c .kind) ≡ false → ⊥
     translated off = true≢false (sym on ∙ off)
 
-    block-stated : ltb pair 4 ≡ true → Stated (decidedBy c t k second)
+    block-stated : ltb pair pairs ≡ true → Stated (decidedBy c t k second)
     unfolding decisionOf outcomeOf coveringPair
     block-stated covered =
-        let less = ltb-true pair 4 covered in
-        let own-pair : Covered c t k second pair = (less, first-passes (pairCovers 4 11 words (sideOf (c .kind)) (userMode (c .mode)) start) 4 less) in
+        let less = ltb-true pair pairs covered in
+        let own-pair : Covered c t k second pair = (less, first-passes (pairCovers pairs width words (sideOf (c .kind)) (userMode (c .mode)) start) pairs less) in
         let shown : decidedBy c t k second ≡ decided 1 pair =
-        decision-of (Decided (blockOutcome 4 11 words (c .kind) start pair)) (before-block 4 11 words (c .mode) (c .kind) start on covered)
-        ∙ block-by 4 11 words (c .kind) start pair (λ (o : Outcome). decisionOf (usedBy (firstPlaceIn k t) (Decided o)) o ≡ decided 1 pair) (λ p a. refl) refl in
+        decision-of (Decided (blockOutcome pairs width words (c .kind) start pair)) (before-block pairs width words (c .mode) (c .kind) start on covered)
+        ∙ block-by pairs width words (c .kind) start pair (λ (o : Outcome). decisionOf (usedBy (firstPlaceIn k t) (Decided o)) o ≡ decided 1 pair) (λ p a. refl) refl in
         rw shown
         (record {
           holds = by-block pair own-pair;
@@ -151,17 +160,17 @@ module _ (c : AccessCall (List ℕ)) (t : List ℕ) (k : ℕ) (second : Bool) wh
           no-place = λ l. (refl, refl);
         })
 
-    module _ (none : ltb pair 4 ≡ false) where
+    module _ (none : ltb pair pairs ≡ false) where
       bare : (i : ℕ) → Covered c t k second i → ⊥
       unfolding coveringPair
       bare i (l, covers) =
-          let all = ltb-false pair 4 none in
-          true≢false (sym covers ∙ first-before (pairCovers 4 11 words (sideOf (c .kind)) (userMode (c .mode)) start) 4 i (omega arith))
+          let all = ltb-false pair pairs none in
+          true≢false (sym covers ∙ first-before (pairCovers pairs width words (sideOf (c .kind)) (userMode (c .mode)) start) pairs i (omega arith))
 
       no-execute-stated : fetching (c .kind) && noExecute (segmentHere c t k second) ≡ true → Stated (decidedBy c t k second)
       unfolding decisionOf outcomeOf
       no-execute-stated n =
-          rw (decision-of (Decided NoExecute) (before-no-execute 4 11 words (c .mode) (c .kind) start on none n))
+          rw (decision-of (Decided NoExecute) (before-no-execute pairs width words (c .mode) (c .kind) start on none n))
           (record {
             holds = not-executable (fetch-is (c .kind) _ n) (both (fetching (c .kind)) _ n .1);
             none-before = fails 2 (record {
@@ -187,7 +196,7 @@ module _ (c : AccessCall (List ℕ)) (t : List ℕ) (k : ℕ) (second : Bool) wh
         wanted = wantedOf (userMode (c .mode)) (segmentHere c t k second) start
 
         searches : early ≡ Search wanted
-        searches = before-search 4 11 words (c .mode) (c .kind) start on none passes
+        searches = before-search pairs width words (c .mode) (c .kind) start on none passes
 
         executable : c .kind ≡ 0 → noExecute (segmentHere c t k second) ≡ true → ⊥
         unfolding fetching
@@ -362,7 +371,7 @@ module _ (c : AccessCall (List ℕ)) (t : List ℕ) (k : ℕ) (second : Bool) wh
   stated n =
       by-test (relocated (c .mode) (c .kind))
       (λ on.
-      by-test (ltb pair 4) (λ covered. block-stated on covered)
+      by-test (ltb pair pairs) (λ covered. block-stated on covered)
       (λ none.
       by-test (fetching (c .kind) && noExecute (segmentHere c t k second)) (λ stop. no-execute-stated on none stop) (λ go. searched-stated on none go n)))
       (λ off. real-stated off)

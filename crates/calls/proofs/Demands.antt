@@ -7,6 +7,7 @@ use Rattle.edits.proofs.Tables.{edits-tables}
 use Rattle.calls.specs.Demands.{Demands}
 use Rattle.calls.proofs.Refusals.{refusals-leave}
 use Rattle.calls.proofs.AnyTable.{calls-on-any-table, access-stated}
+use Rattle.calls.proofs.WidenedPages.{pages-widen}
 use Rattle.calls.proofs.Theorem.{table-refines-map}
 use Rattle.calls.proofs.Corollaries.{access-follows-history}
 use Rattle.calls.proofs.Tables.{without-table-tables, page-rows, operand-rows}
@@ -18,6 +19,7 @@ all-demands = record {
   histories = table-refines-map;
   pages = access-follows-history;
   any-table = calls-on-any-table;
+  register-pages = pages-widen;
   maps = placement-tables;
   small-tables = four-groups-tables;
   groups = groups-tables;

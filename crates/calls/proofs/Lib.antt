@@ -20,6 +20,8 @@ pub mod Changes
 pub mod Corollaries
 pub mod PageCalls
 pub mod Access
+pub mod Pages
+pub mod WidenedPages
 pub mod Computes
 pub mod Tables
 pub mod Demands

@@ -13,7 +13,7 @@ use Rattle.words.specs.Words.{withWord, bytesOf}
 use Rattle.entry.specs.Entry.{firstWord, secondWord, withinWidths, packed}
 use Rattle.entry.specs.declared.Fields.{Fields}
 use Rattle.register_words.specs.Sdr1.{maskOnes}
-use Rattle.registers.specs.Set.{replacing, registerWords}
+use Rattle.registers.specs.Set.{isPage, isLong, replacing, registerWords}
 use Rattle.tables.specs.Matches.{Match}
 use Rattle.tables.specs.Layout.{matchesOf, freePlace}
 use Rattle.matches.specs.Search.{contradict}
@@ -35,7 +35,7 @@ use Rattle.translation.proofs.Stated.{access-as-stated}
 use Rattle.translation.proofs.Parts.{result-of, not-done-stops}
 use Rattle.translation.proofs.Steps.{page-by}
 use Rattle.calls.specs.Request.{ClearCall, MapCall, ProtectCall, AnsweredCall, AccessCall, Request, clear, mapPage, unmap, protect, look, access, sdr1In, fed}
-use Rattle.calls.specs.Rules.{refusal}
+use Rattle.calls.specs.Rules.{onLongPage, refusal}
 use Rattle.calls.specs.Answers.{accessAnswer, refusedBytes, answerRefused}
 use Rattle.calls.specs.WithoutTable.{setRegisterCall, packCall, unpackCall}
 use Rattle.calls.specs.OnBytes.{layout, Ended, ended, byMatches, byOption, earlyOf, bytesDo, onBytes, startOf, partAnswer, usedBy, partDecision, searchIn, firstPlaceIn}
@@ -130,7 +130,7 @@ access-fits k c t = result-of (λ (n : ℕ). n ≡ 11 → ⊥) (c .address) (c .
         go : (early : Early) → earlyOf c second ≡ early → answerOf (c .kind) (startOf c second) (outcomeOf (c .kind) (searchIn k t) early) .result ≡ 11 → ⊥
         go (Decided outcome) e z =
             early-fits (c .kind) (startOf c second) outcome
-            (access-as-stated .before (registerWords (c .registers)) (c .mode) (c .kind) (startOf c second) .only-early outcome e) z
+            (access-as-stated .before (onLongPage c) (registerWords (c .registers)) (c .mode) (c .kind) (startOf c second) .only-early outcome e) z
         go (Search wanted) e z = late-fits (c .kind) (wanted .key) (startOf c second) _ z
 
 module _ (request : Request (List ℕ)) (t : List ℕ) where
@@ -197,23 +197,21 @@ module _ (c : AccessCall (List ℕ)) (t : List ℕ) where
 
 set-left : (registers : List ℕ) (n word : ℕ) → (setRegisterCall registers n word .0 ≡ 0 → ⊥) → setRegisterCall registers n word .1 ≡ registers
 unfolding setRegisterCall
-set-left registers n word not-done = go (eqb (length registers) 132) refl
+set-left registers n word not-done = go (isPage (length registers)) refl not-done
   where
     result : ℕ
-    result = replacing (registerWords registers) n word
-
-    both-ways : ℕ × List ℕ
-    both-ways = (result, cond (eqb result 0) (withWord registers (4 * n) word) registers)
+    result = replacing (isLong (length registers)) (registerWords registers) n word
 
     kept : (b : Bool) → eqb result 0 ≡ b → (result ≡ 0 → ⊥) → cond (eqb result 0) (withWord registers (4 * n) word) registers ≡ registers
     kept true e m = absurd (m (eqb-true result 0 e))
     kept false e m = rw e
 
-    go : (b : Bool) → eqb (length registers) 132 ≡ b → setRegisterCall registers n word .1 ≡ registers
-    go true e =
-        let q = right-length 132 registers both-ways (eqb-true (length registers) 132 e) in
-        ap (λ (x : ℕ × List ℕ). x .1) q ∙ kept (eqb result 0) refl (λ z. not-done (ap (λ (x : ℕ × List ℕ). x .0) q ∙ z))
-    go false e = ap (λ (x : ℕ × List ℕ). x .1) (wrong-length 132 registers both-ways (eqb-false (length registers) 132 e))
+    both-ways : Bool → ℕ × List ℕ
+    both-ways page = cond page (result, cond (eqb result 0) (withWord registers (4 * n) word) registers) (11, registers)
+
+    go : (b : Bool) → isPage (length registers) ≡ b → (both-ways b .0 ≡ 0 → ⊥) → both-ways b .1 ≡ registers
+    go true e m = kept (eqb result 0) refl m
+    go false e m = refl
 
 -- a slice that must have n bytes is left where its length is refused
 lent-left : (n : ℕ) (lent : List ℕ) (given : ℕ × List ℕ) (e : ℕ × List ℕ) → (length lent ≡ n → e ≡ given) → ((length lent ≡ n → ⊥) → e ≡ (11, lent))

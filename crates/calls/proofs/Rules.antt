@@ -6,14 +6,15 @@ use native.Mathlib.Omega.{arith}
 use lib.Dec.{eqb, ltb}
 use lib.ListN.{length}
 use borrow.Author.Tests.{not-false, ltb-true, lt-ltb, eqb-true, eq-eqb, ne-eqb}
+use Rattle.register_words.specs.Block.{blWidth}
 use Rattle.words.proofs.Tests.{both}
 use Rattle.register_words.specs.Sdr1.{sdr1Shape, tableLength}
 use Rattle.registers.specs.Rules.{firstBroken}
-use Rattle.registers.specs.Set.{sdr1Of, sideShape, sideApart, segmentsShape, registerWords}
+use Rattle.registers.specs.Set.{isPage, blockPairs, sdr1Of, sideShape, sideApart, segmentsShape, registerWords}
 use Rattle.registers.proofs.Set.{rule-kept}
 use Rattle.groups.specs.Page.{Page, InRange}
 use Rattle.calls.specs.Request.{ClearCall, MapCall, ProtectCall, AnsweredCall, Request, clear, mapPage, unmap, protect, look, access, sdr1In}
-use Rattle.calls.specs.Rules.{pageInRange, writeThroughInhibited, mapInRange, tableRules, rules, refusal, operandInRange}
+use Rattle.calls.specs.Rules.{onLongPage, pageInRange, writeThroughInhibited, mapInRange, tableRules, rules, refusal, operandInRange}
 
 -- a page within its ranges, as a test and as facts
 pub page-valid : (page : Page) → pageInRange page ≡ true → InRange page
@@ -89,12 +90,12 @@ fitting (look c) lent e =
     table-kept (c .sdr1) lent (kept (pageInRange (c .page)) 6 _ (λ z. omega arith) more .1)
 fitting (access c) lent e =
     let words = registerWords (c .registers) in
-    let (a, r₁) = kept (eqb (length (c .registers)) 132 && eqb (c .answer) 48) 11 _ (λ z. omega arith) e in
+    let (a, r₁) = kept (isPage (length (c .registers)) && eqb (c .answer) 48) 11 _ (λ z. omega arith) e in
     let (b, r₂) = kept (ltb (c .mode) 8 && ltb (c .kind) 3) 6 _ (λ z. omega arith) r₁ in
     let (long, r₃) = kept (operandInRange (c .length)) 12 _ (λ z. omega arith) r₂ in
     let (shape, r₄) = kept (sdr1Shape (sdr1Of words)) 2 _ (λ z. omega arith) r₃ in
-    let (d, r₅) = kept (sideShape 4 11 words false && sideShape 4 11 words true) 3 _ (λ z. omega arith) r₄ in
-    let (f, r₆) = kept (sideApart 4 11 words false && sideApart 4 11 words true) 4 _ (λ z. omega arith) r₅ in
+    let (d, r₅) = kept (sideShape (blockPairs (onLongPage c)) (blWidth (onLongPage c)) words false && sideShape (blockPairs (onLongPage c)) (blWidth (onLongPage c)) words true) 3 _ (λ z. omega arith) r₄ in
+    let (f, r₆) = kept (sideApart (blockPairs (onLongPage c)) (blWidth (onLongPage c)) words false && sideApart (blockPairs (onLongPage c)) (blWidth (onLongPage c)) words true) 4 _ (λ z. omega arith) r₅ in
     let (g, r₇) = kept (segmentsShape words) 5 _ (λ z. omega arith) r₆ in
     record { shape = shape; long = eqb-true lent (tableLength (sdr1Of words)) (kept (eqb lent (tableLength (sdr1Of words))) 1 _ (λ z. omega arith) r₇ .0) }
 

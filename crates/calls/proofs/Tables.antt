@@ -9,7 +9,9 @@ pub without-table-tables : WithoutTableTables
 unfolding calls-compute
 without-table-tables = record {
   check-rows = record { equal = refl };
+  long-check-rows = record { equal = refl };
   set-rows = record { equal = refl };
+  long-set-rows = record { equal = refl };
   pack-rows = record { equal = refl };
   unpack-rows = record { equal = refl };
 }
@@ -25,6 +27,7 @@ page-rows = record {
   protect-rows = record { equal = refl };
   map-rows = record { equal = refl };
   access-rows = record { equal = refl };
+  long-access-rows = record { equal = refl };
   secondary-rows = record { equal = refl };
   both-rows = record { equal = refl };
 }

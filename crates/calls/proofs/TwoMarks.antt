@@ -35,13 +35,13 @@ use Rattle.calls.proofs.AnyEntries.{by-matches, own, asMatch, matching-
 -- ---- the two pages
 
 -- the parts of an operand, by the words of the register set
-module _ (words : List ℕ) (mode kind address length : ℕ) where
+module _ (pairs width : ℕ) (words : List ℕ) (mode kind address length : ℕ) where
   abbrev partEarly : Bool → Early
-  partEarly second = beforeSearch 4 11 words mode kind (partStart address length second)
+  partEarly second = beforeSearch pairs width words mode kind (partStart address length second)
 
   -- a part wants the page at the page index of its start
   wanted-index : (second : Bool) (wanted : Wanted) → partEarly second ≡ Search wanted → wanted .index ≡ pageIndex (partStart address length second)
-  wanted-index second wanted e = ap (λ (w : Wanted). w .index) (searches 4 11 words mode kind (partStart address length second) wanted e .wants)
+  wanted-index second wanted e = ap (λ (w : Wanted). w .index) (searches pairs width words mode kind (partStart address length second) wanted e .wants)
 
   pub pages-apart : overEdge address length ≡ true → (v w : Wanted) → partEarly false ≡ Search v → partEarly true ≡ Search w
       → samePage (wantedPage v) (wantedPage w) ≡ false
@@ -149,14 +149,14 @@ module _ (k kind : ℕ) (wanted : Wanted) (t : List ℕ) where
         (λ same at. not (x .secondary) same (subst (FirstMatch k t page (x .secondary)) (sym at) (first-of k t page x xs e))))
 
 -- the first part's mark leaves the matches of the second's page
-pub second-kept : (words : List ℕ) (mode kind address length : ℕ) → overEdge address length ≡ true → (k result : ℕ) (t : List ℕ) → GoodTable k t → (w : Wanted)
-    → partEarly words mode kind address length true ≡ Search w
-    → matchesOf (layout k) (markedBy k kind (partEarly words mode kind address length false) result t) (wantedPage w) ≡ matchesOf (layout k) t (wantedPage w)
-second-kept words mode kind address length over k result t good w e =
-    by-early (partEarly words mode kind address length false) (λ outcome f. rw (f, unmarked-decided k kind outcome result t))
+pub second-kept : (pairs width : ℕ) (words : List ℕ) (mode kind address length : ℕ) → overEdge address length ≡ true → (k result : ℕ) (t : List ℕ) → GoodTable k t → (w : Wanted)
+    → partEarly pairs width words mode kind address length true ≡ Search w
+    → matchesOf (layout k) (markedBy k kind (partEarly pairs width words mode kind address length false) result t) (wantedPage w) ≡ matchesOf (layout k) t (wantedPage w)
+second-kept pairs width words mode kind address length over k result t good w e =
+    by-early (partEarly pairs width words mode kind address length false) (λ outcome f. rw (f, unmarked-decided k kind outcome result t))
     (λ v f.
-    rw f (mark-leaves k kind v t good result (wantedPage w) (part-valid words mode kind (partStart address length false) v f)
-    (part-valid words mode kind (partStart address length true) w e) (pages-apart words mode kind address length over v w f e)))
+    rw f (mark-leaves k kind v t good result (wantedPage w) (part-valid pairs width words mode kind (partStart address length false) v f)
+    (part-valid pairs width words mode kind (partStart address length true) w e) (pages-apart pairs width words mode kind address length over v w f e)))
 
 -- ---- a page whose matches are kept
 

@@ -33,7 +33,7 @@ use Rattle.translation.specs.declared.Outcome.the-variants.{NoMatch}
 use Rattle.translation.specs.declared.Searched.the-variants.{At}
 use Rattle.translation.specs.declared.Wanted.{Wanted}
 use Rattle.calls.specs.Request.{MapCall, ProtectCall, AnsweredCall, AccessCall, Request, mapPage, unmap, protect, look, access, sdr1In, fed}
-use Rattle.calls.specs.Rules.{refusal}
+use Rattle.calls.specs.Rules.{onLongPage, refusal}
 use Rattle.calls.specs.Answers.{wordAnswer, partWords, ruleWords, accessAnswer}
 use Rattle.calls.specs.OnBytes.{Ended, onBytes, startOf, earlyOf, partAnswer, partDecision, wantedPage, searchIn, firstPlaceIn, markedBy}
 
@@ -198,8 +198,8 @@ module _ (c : AccessCall (List ℕ)) (t : List ℕ) where
       -- step 2: pair i of the access's side covers the part
       abbrev pub Covered : ℕ → Type 0
       Covered i =
-          (i < blockPairs)
-          × (pairCovers blockPairs blWidth (registerWords (c .registers)) (sideOf (c .kind)) (userMode (c .mode)) (partStart (c .address) (c .length) second) i ≡ true)
+          (i < blockPairs (onLongPage c))
+          × (pairCovers (blockPairs (onLongPage c)) (blWidth (onLongPage c)) (registerWords (c .registers)) (sideOf (c .kind)) (userMode (c .mode)) (partStart (c .address) (c .length) second) i ≡ true)
 
       -- step r + 1's condition holds, whatever the other steps say; those of steps 5 to 7 are about the first match
       pub data Condition : ℕ → Type 0 where
@@ -257,7 +257,7 @@ module _ (c : AccessCall (List ℕ)) (t : List ℕ) where
     pub record AccessOnAny : Type 0 where
       -- each part goes through steps 1 to 3 at its own start, and answers for itself where they decide it
       pub own-steps : (second : Bool)
-          → earlyOf c second ≡ beforeSearch blockPairs blWidth (registerWords (c .registers)) (c .mode) (c .kind) (partStart (c .address) (c .length) second)
+          → earlyOf c second ≡ beforeSearch (blockPairs (onLongPage c)) (blWidth (onLongPage c)) (registerWords (c .registers)) (c .mode) (c .kind) (partStart (c .address) (c .length) second)
       pub decided-early : (second : Bool) (outcome : Outcome) → earlyOf c second ≡ Decided outcome
           → answered second ≡ answerOf (c .kind) (partStart (c .address) (c .length) second) outcome
       -- the parts that reach step 4, each on the table as lent

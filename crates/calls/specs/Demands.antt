@@ -6,6 +6,7 @@ use Rattle.matches.specs.Tables.{MatchesTables}
 use Rattle.edits.specs.Tables.{EditsTables}
 use Rattle.calls.specs.Refusals.{RefusalsLeave}
 use Rattle.calls.specs.AnyTable.{CallsOnAnyTable, AccessStated}
+use Rattle.calls.specs.Widened.{PagesWiden}
 use Rattle.calls.specs.Theorem.{TableRefinesMap, AccessFollowsHistory}
 use Rattle.calls.specs.Tables.{WithoutTableTables}
 use Rattle.calls.specs.PageRows.{PageRows}
@@ -21,6 +22,8 @@ pub record Demands : Type 0 where
   pub pages : AccessFollowsHistory
   -- what each call does to any table, whoever wrote it
   pub any-table : CallsOnAnyTable
+  -- a short register page answers as the same page widened
+  pub register-pages : PagesWiden
   -- rows; those of numbers, words, entries, registers and the steps of an access stand in 2
   pub maps : PlacementTables
   pub small-tables : FourGroupsTables

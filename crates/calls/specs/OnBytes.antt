@@ -30,7 +30,7 @@ use Rattle.translation.specs.declared.Searched.{Searched}
 use Rattle.translation.specs.declared.Searched.the-variants.{Nothing, At, Contradicting}
 use Rattle.translation.specs.declared.Wanted.{Wanted}
 use Rattle.calls.specs.Request.{AccessCall, Request, clear, mapPage, unmap, protect, look, access, sdr1In, fed}
-use Rattle.calls.specs.Rules.{refusal}
+use Rattle.calls.specs.Rules.{onLongPage, refusal}
 use Rattle.calls.specs.Answers.{wordAnswer, accessAnswer, answerRefused}
 
 -- the table for a mask of k ones (rules 4): 2 ^ (10 + k) groups of eight entries; an entry matches by V, VSID, H and API
@@ -73,9 +73,9 @@ entryWord secondary page = firstWord 1 (page .vsid) (hOf secondary) (apiOf (page
 abbrev pub startOf : {A : Type 0} → AccessCall A → Bool → ℕ
 startOf c second = partStart (c .address) (c .length) second
 
--- steps 1 to 3 of that part
+-- steps 1 to 3 of that part, by the register page's own limits
 abbrev pub earlyOf : {A : Type 0} → AccessCall A → Bool → Early
-earlyOf c second = beforeSearch blockPairs blWidth (registerWords (c .registers)) (c .mode) (c .kind) (startOf c second)
+earlyOf c second = beforeSearch (blockPairs (onLongPage c)) (blWidth (onLongPage c)) (registerWords (c .registers)) (c .mode) (c .kind) (startOf c second)
 
 -- what that part answers by itself, where `search` tells what the search of a page finds
 abbrev pub partAnswer : {A : Type 0} → AccessCall A → (Wanted → Searched) → Bool → Answer

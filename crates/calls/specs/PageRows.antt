@@ -157,6 +157,12 @@ pub record PageRows : Type 0 where
       ∷ (refusal (toAccess zeroRegisters 0 0 0 1 48) 65536, done)
       ∷ (refusal (toAccess (replicate 131 0) 8 0 0 1 48) 0, refusedLentLength)
       ∷ (refusal (toAccess (replicate 133 0) 0 0 0 1 48) 65536, refusedLentLength)
+      ∷ (refusal (toAccess (replicate 196 0) 7 2 0 1 48) 65536, done)
+      ∷ (refusal (toAccess (replicate 195 0) 0 0 0 1 48) 65536, refusedLentLength)
+      ∷ (refusal (toAccess (replicate 197 0) 0 0 0 1 48) 65536, refusedLentLength)
+      ∷ (refusal (toAccess (replicate 164 0) 0 0 0 1 48) 65536, refusedLentLength)
+      ∷ (refusal (toAccess (set (set (replicate 196 0) 95 2) 103 2) 0 0 0 1 48) 65536, refusedBlocksShare)
+      ∷ (refusal (toAccess (set (set zeroRegisters 70 0x3F) 71 0xFE) 0 0 0 1 48) 65536, refusedBlock)
       ∷ (refusal (toAccess zeroRegisters 8 0 0 1 47) 65536, refusedLentLength)
       ∷ (refusal (toAccess (replicate 131 0) 0 0 0 1 48) 65536, refusedLentLength)
       ∷ (refusal (toAccess zeroRegisters 0 0 0 1 47) 65536, refusedLentLength)
@@ -254,6 +260,13 @@ pub record PageRows : Type 0 where
       ∷ (bytesDo 0 (toAccess registers 2 0 0x00000123 1 []) guardedPage, ended instructionStorageFault guardedPage (stop instructionStorageFault 0x10000000 0x400 0x00000123 (rule 4 0 0 0)))
       ∷ (bytesDo 0 (toAccess registers 1 2 0x00001123 1 []) equal, ended dataStorageFault equal (stop dataStorageFault 0x42000000 0x300 0x00001123 (rule 3 0 0 0)))
       ∷ (bytesDo 0 (toAccess registers 0 2 0x00000123 1 []) differing, ended done differing (oneByte 0x00000123 3 0x00000123 noRule))
+      ∷ []
+      )
+  -- an access by a long register page: data pair 7, a block of 4 GB, and the pair's number
+  pub long-access-rows : Hold ((
+    bytesDo 0 (toAccess (set (set (set (set (replicate 196 0) 189 1) 190 0xFF) 191 0xFE) 195 2) 1 1 0xDEADBEEF 1 []) equal,
+    ended done equal (oneByte 0xDEADBEEF 0 0xDEADBEEF (rule 1 7 0 0)),
+  )
       ∷ []
       )
   -- a page whose secondary group is group 0: its entry has H = 1

@@ -5,13 +5,13 @@ use mathlib.Core.List.{List, [], _∷_, _++_}
 use lib.Dec.{eqb, ltb, leb}
 use lib.ListN.{length}
 use Rattle.numbers.specs.Numbers.{refusedTableLength, refusedSdr1, refusedArgument, refusedLentLength, refusedOperandLength}
-use Rattle.numbers.specs.Numbers.{registersSize, answerSize, accessAnswerSize, longestOperand}
+use Rattle.numbers.specs.Numbers.{answerSize, accessAnswerSize, longestOperand}
 use Rattle.registers.specs.Rules.{firstBroken}
 use Rattle.register_words.specs.Sdr1.{sdr1Shape, tableLength}
 use Rattle.register_words.specs.Block.{blWidth}
-use Rattle.registers.specs.Set.{blockPairs, sdr1Of, registerRules, registerWords}
+use Rattle.registers.specs.Set.{isPage, isLong, blockPairs, sdr1Of, registerRules, registerWords}
 use Rattle.groups.specs.Page.{Page}
-use Rattle.calls.specs.Request.{MapCall, Request, clear, mapPage, unmap, protect, look, access}
+use Rattle.calls.specs.Request.{MapCall, AccessCall, Request, clear, mapPage, unmap, protect, look, access}
 
 -- a VSID below 2 ^ 24 and a page index below 65,536
 unfoldable pub pageInRange : Page → Bool
@@ -33,6 +33,10 @@ operandInRange length = ltb 0 length && leb length longestOperand
 abbrev pub tableRules : ℕ → ℕ → List (Bool × ℕ)
 tableRules sdr1 lent = (not (sdr1Shape sdr1), refusedSdr1) ∷ (not (eqb lent (tableLength sdr1)), refusedTableLength) ∷ []
 
+-- an access by a long register page
+abbrev pub onLongPage : {A : Type 0} → AccessCall A → Bool
+onLongPage c = isLong (length (c .registers))
+
 -- the rules of a request, given the length of what is lent as the table
 unfoldable pub rules : Request ℕ → ℕ → List (Bool × ℕ)
 rules (clear c) lent = tableRules (c .sdr1) lent
@@ -43,10 +47,10 @@ rules (protect c) lent = (not (pageInRange (c .page) && ltb (c .pp) (2 ^ 2)), re
 rules (look c) lent =
     (not (eqb (c .answer) answerSize), refusedLentLength) ∷ (not (pageInRange (c .page)), refusedArgument) ∷ tableRules (c .sdr1) lent
 rules (access c) lent =
-    (not (eqb (length (c .registers)) registersSize && eqb (c .answer) accessAnswerSize), refusedLentLength)
+    (not (isPage (length (c .registers)) && eqb (c .answer) accessAnswerSize), refusedLentLength)
     ∷ (not (ltb (c .mode) 8 && ltb (c .kind) 3), refusedArgument)
     ∷ (not (operandInRange (c .length)), refusedOperandLength)
-    ∷ registerRules blockPairs blWidth (registerWords (c .registers))
+    ∷ registerRules (blockPairs (onLongPage c)) (blWidth (onLongPage c)) (registerWords (c .registers))
     ++ ((not (eqb lent (tableLength (sdr1Of (registerWords (c .registers))))), refusedTableLength) ∷ [])
 
 -- the refusal that follows from the arguments and the lent lengths alone, or 0

@@ -29,6 +29,20 @@ pub record WithoutTableTables : Type 0 where
       ∷ (checkCall (set (zeros 132) 64 128), refusedSegment)
       ∷ []
       )
+  -- a long page: its length, its last word, pairs 3 and 4 of a side, and BL of 15 bits; the length alone tells which page it is
+  pub long-check-rows : Hold (
+      (checkCall (zeros 196), done)
+      ∷ (checkCall (zeros 195), refusedLentLength)
+      ∷ (checkCall (zeros 197), refusedLentLength)
+      ∷ (checkCall (zeros 164), refusedLentLength)
+      ∷ (checkCall (set (set (zeros 196) 191 2) 195 4), refusedBlock)
+      ∷ (checkCall (set (set (zeros 196) 95 2) 103 2), refusedBlocksShare)
+      ∷ (checkCall (set (set (zeros 132) 95 2) 103 2), done)
+      ∷ (checkCall (set (set (zeros 196) 70 0x3F) 71 0xFE), done)
+      ∷ (checkCall (set (set (zeros 132) 70 0x3F) 71 0xFE), refusedBlock)
+      ∷ (checkCall (set (set (zeros 132) 70 0x3F) 71 0xFC), done)
+      ∷ []
+      )
   -- set_register: the word's four bytes and no other; a refusal leaves the page
   pub set-rows : Hold (
       (setRegisterCall (zeros 132) 0 0x0F980007, (done, set (set (set (zeros 132) 0 0x0F) 1 0x98) 3 7))
@@ -39,6 +53,15 @@ pub record WithoutTableTables : Type 0 where
       ∷ (setRegisterCall (zeros 131) 33 0, (refusedLentLength, zeros 131))
       ∷ (setRegisterCall (zeros 133) 0 0, (refusedLentLength, zeros 133))
       ∷ (setRegisterCall [] 0 0, (refusedLentLength, []))
+      ∷ []
+      )
+  pub long-set-rows : Hold (
+      (setRegisterCall (zeros 196) 48 0x00000002, (done, set (zeros 196) 195 2))
+      ∷ (setRegisterCall (zeros 196) 33 0x00000002, (done, set (zeros 196) 135 2))
+      ∷ (setRegisterCall (zeros 196) 49 0, (refusedArgument, zeros 196))
+      ∷ (setRegisterCall (zeros 196) 17 0x0001FFFE, (done, set (set (set (zeros 196) 69 1) 70 0xFF) 71 0xFE))
+      ∷ (setRegisterCall (zeros 132) 17 0x0001FFFE, (refusedBlock, zeros 132))
+      ∷ (setRegisterCall (zeros 164) 0 0, (refusedLentLength, zeros 164))
       ∷ []
       )
   -- pack: case 2, zero words where a field is refused, and nothing written at another length

@@ -4,24 +4,25 @@ use mathlib.Core.Bool.{cond}
 use mathlib.Core.List.{List, [], _∷_}
 use lib.Dec.{eqb}
 use lib.ListN.{length}
-use Rattle.numbers.specs.Numbers.{done, refusedLentLength, registersSize, fieldsSize, entrySize}
+use Rattle.numbers.specs.Numbers.{done, refusedLentLength, fieldsSize, entrySize}
 use Rattle.words.specs.Words.{withWord, bytesOf}
 use Rattle.entry.specs.declared.Fields.{Fields}
 use Rattle.entry.specs.Entry.{packed, unpacked}
 use Rattle.register_words.specs.Block.{blWidth}
-use Rattle.registers.specs.Set.{blockPairs, checkWords, replacing, registerWords}
+use Rattle.registers.specs.Set.{isPage, isLong, blockPairs, checkWords, replacing, registerWords}
 use Rattle.calls.specs.Lent.{ofLength}
 
--- check: the length, then the rules of the set; the register page is only read
+-- check: the length, then the rules of the set by the page's own limits; the register page is only read
 unfoldable pub checkCall : List ℕ → ℕ
-checkCall registers = cond (eqb (length registers) registersSize) (checkWords blockPairs blWidth (registerWords registers)) refusedLentLength
+checkCall registers =
+    let long = isLong (length registers) in
+    cond (isPage (length registers)) (checkWords (blockPairs long) (blWidth long) (registerWords registers)) refusedLentLength
 
--- set_register: the length, then the number, then the rules of the new set; the register page has the new word, or stays
+-- set_register: the length, then the number by the page's own range, then the rules of the new set; the register page has the new word, or stays
 unfoldable pub setRegisterCall : List ℕ → ℕ → ℕ → ℕ × List ℕ
-unfolding ofLength
 setRegisterCall registers number word =
-    let result = replacing (registerWords registers) number word in
-    ofLength registersSize registers (result, cond (eqb result done) (withWord registers (4 * number) word) registers)
+    let result = replacing (isLong (length registers)) (registerWords registers) number word in
+    cond (isPage (length registers)) (result, cond (eqb result done) (withWord registers (4 * number) word) registers) (refusedLentLength, registers)
 
 -- pack: the length, then the widths; the entry's two words, zero where a field is refused
 unfoldable pub packCall : Fields → List ℕ → ℕ × List ℕ

@@ -23,8 +23,7 @@ pub extern "C" fn mmu_access(
       answer = now (answer .entry);
     })) (now (table .entry)) ⌝ }
 {
-    if !((registers.len() == numbers::REGISTERS_SIZE)
-        & (answer.len() == numbers::ACCESS_ANSWER_SIZE)) {
+    if !(registers::is_page(registers.len()) & (answer.len() == numbers::ACCESS_ANSWER_SIZE)) {
         return numbers::REFUSED_LENT_LENGTH;
     }
     let asked = table_access::Access {

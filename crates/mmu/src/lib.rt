@@ -16,12 +16,13 @@ ghost use Rattle.calls.specs.WithoutTable.{checkCall, setRegisterCall, packCall
 pub extern "C" fn mmu_check(registers: &[u8]) -> u32
     ensures { λ r. ⌜ r ≡ checkCall (now (registers .entry)) ⌝ }
 {
-    if registers.len() != numbers::REGISTERS_SIZE {
+    if !registers::is_page(registers.len()) {
         return numbers::REFUSED_LENT_LENGTH;
     }
-    let mut words = [0u32; 33];
+    let mut words = [0u32; 49];
     registers::read_words(registers, &mut words);
-    registers::check_words(&words)
+    let long = registers.len() == numbers::REGISTERS_SIZE_LONG;
+    registers::check_words(&words, long)
 }
 
 // Replaces one word of a register page.
@@ -29,7 +30,7 @@ pub extern "C" fn mmu_check(registers: &[u8]) -> u32
 pub extern "C" fn mmu_set_register(registers: &mut [u8], number: u32, word: u32) -> u32
     ensures { λ r. ⌜ (r, now (registers .exit)) ≡ setRegisterCall (now (registers .entry)) number word ⌝ }
 {
-    if registers.len() != numbers::REGISTERS_SIZE {
+    if !registers::is_page(registers.len()) {
         return numbers::REFUSED_LENT_LENGTH;
     }
     let set = registers::read_set(registers);

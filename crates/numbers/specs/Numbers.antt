@@ -86,10 +86,13 @@ ruleProtection = 5
 abbrev pub ruleDone : ℕ
 ruleDone = 6
 
--- lengths in bytes: the register page, the answers of look and unmap and of an access, an entry's fields, a group and an entry; a page, and the
+-- lengths in bytes: the short and the long register page, the answers of look and unmap and of an access, an entry's fields, a group and an entry; a page, and the
 -- longest operand
-abbrev pub registersSize : ℕ
-registersSize = 132
+abbrev pub registersSizeShort : ℕ
+registersSizeShort = 132
+
+abbrev pub registersSizeLong : ℕ
+registersSizeLong = 196
 
 abbrev pub answerSize : ℕ
 answerSize = 16
@@ -112,9 +115,12 @@ pageSize = 4096
 abbrev pub longestOperand : ℕ
 longestOperand = 128
 
--- how many register words there are, and how many entries a group has
-abbrev pub registerCount : ℕ
-registerCount = 33
+-- how many register words a short and a long page have, and how many entries a group has
+abbrev pub registerCountShort : ℕ
+registerCountShort = 33
+
+abbrev pub registerCountLong : ℕ
+registerCountLong = 49
 
 abbrev pub groupEntries : ℕ
 groupEntries = 8

@@ -6,8 +6,8 @@ use Rattle.numbers.specs.Numbers.{refusedTableLength, refusedSdr1, refus
 use Rattle.numbers.specs.Numbers.{refusedMapped, refusedNoMatch, refusedFull, refusedContradiction, refusedLentLength, refusedOperandLength}
 use Rattle.numbers.specs.Numbers.{fetch, load, store, attributesReal}
 use Rattle.numbers.specs.Numbers.{ruleReal, ruleBlock, ruleNoExecute, ruleNoMatch, ruleGuarded, ruleProtection, ruleDone}
-use Rattle.numbers.specs.Numbers.{registersSize, answerSize, accessAnswerSize, fieldsSize, groupSize, entrySize}
-use Rattle.numbers.specs.Numbers.{pageSize, longestOperand, registerCount, groupEntries}
+use Rattle.numbers.specs.Numbers.{registersSizeShort, registersSizeLong, answerSize, accessAnswerSize, fieldsSize, groupSize, entrySize}
+use Rattle.numbers.specs.Numbers.{pageSize, longestOperand, registerCountShort, registerCountLong, groupEntries}
 
 pub record NumbersTables : Type 0 where
   pub results : Hold ((done, 0) ∷ (dataStorageFault, 64) ∷ (instructionStorageFault, 65) ∷ [])
@@ -28,6 +28,6 @@ pub record NumbersTables : Type 0 where
       )
   pub accesses : Hold ((fetch, 0) ∷ (load, 1) ∷ (store, 2) ∷ (attributesReal, 3) ∷ [])
   pub rules : Hold ((ruleReal, 0) ∷ (ruleBlock, 1) ∷ (ruleNoExecute, 2) ∷ (ruleNoMatch, 3) ∷ (ruleGuarded, 4) ∷ (ruleProtection, 5) ∷ (ruleDone, 6) ∷ [])
-  pub lengths : Hold ((registersSize, 132) ∷ (answerSize, 16) ∷ (accessAnswerSize, 48) ∷ (fieldsSize, 36) ∷ (groupSize, 64) ∷ (entrySize, 8) ∷ [])
+  pub lengths : Hold ((registersSizeShort, 132) ∷ (registersSizeLong, 196) ∷ (answerSize, 16) ∷ (accessAnswerSize, 48) ∷ (fieldsSize, 36) ∷ (groupSize, 64) ∷ (entrySize, 8) ∷ [])
   pub operands : Hold ((pageSize, 4096) ∷ (longestOperand, 128) ∷ [])
-  pub counts : Hold ((registerCount, 33) ∷ (groupEntries, 8) ∷ [])
+  pub counts : Hold ((registerCountShort, 33) ∷ (registerCountLong, 49) ∷ (groupEntries, 8) ∷ [])

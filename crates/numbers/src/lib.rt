@@ -58,9 +58,11 @@ pub const RULE_PROTECTION: u32 = 5;
 
 pub const RULE_DONE: u32 = 6;
 
-// Lengths in bytes: the register page, the answers of look and unmap and of an access, an entry's fields, a group and an entry; a page, and the
+// Lengths in bytes: the short and the long register page, the answers of look and unmap and of an access, an entry's fields, a group and an entry; a page, and the
 // longest operand.
-pub const REGISTERS_SIZE: usize = 132;
+pub const REGISTERS_SIZE_SHORT: usize = 132;
+
+pub const REGISTERS_SIZE_LONG: usize = 196;
 
 pub const ANSWER_SIZE: usize = 16;
 
@@ -76,7 +78,9 @@ pub const PAGE_SIZE: u32 = 4096;
 
 pub const LONGEST_OPERAND: u32 = 128;
 
-// How many register words there are, and how many entries a group has.
-pub const REGISTER_COUNT: u32 = 33;
+// How many register words a short and a long page have, and how many entries a group has.
+pub const REGISTER_COUNT_SHORT: u32 = 33;
+
+pub const REGISTER_COUNT_LONG: u32 = 49;
 
 pub const GROUP_ENTRIES: usize = 8;

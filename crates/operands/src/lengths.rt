@@ -12,9 +12,9 @@ use report::lent::Scene;
 use report::lent::page_of;
 use report::lent::page_with;
 use report::line;
+use report::refused::PAGE_OF_131;
 use report::refused::RIGHT;
 use report::refused::SHORT_ANSWER;
-use report::refused::SHORT_PAGE;
 use report::refused::SHORT_TABLE;
 use report::refused::refused;
 
@@ -98,7 +98,10 @@ fn with_page(page: [u8; 136]) -> u32 {
 pub fn refused_in_order() {
     let good = page_of(SDR1, SEGMENT, OFF, OFF);
     // Access: 11 (page, answer) and 6 (mode, kind) before 12. Source: rules 7.
-    line(670, refused(Scene::Mapped, SHORT_PAGE, 1, 1, 0, good) == 11);
+    line(
+        670,
+        refused(Scene::Mapped, PAGE_OF_131, 1, 1, 0, good) == 11,
+    );
     line(
         671,
         refused(Scene::Mapped, SHORT_ANSWER, 1, 1, 129, good) == 11,

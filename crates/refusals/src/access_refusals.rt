@@ -11,13 +11,13 @@ use report::lent::Scene;
 use report::lent::page_of;
 use report::line;
 use report::refused::LONG_ANSWER;
-use report::refused::LONG_PAGE;
 use report::refused::LONG_TABLE;
 use report::refused::Lengths;
+use report::refused::PAGE_OF_131;
+use report::refused::PAGE_OF_131_AND_TABLE;
+use report::refused::PAGE_OF_136;
 use report::refused::RIGHT;
 use report::refused::SHORT_ANSWER;
-use report::refused::SHORT_PAGE;
-use report::refused::SHORT_PAGE_AND_TABLE;
 use report::refused::SHORT_TABLE;
 use report::refused::refused;
 
@@ -51,9 +51,9 @@ fn real(kind: u32, sdr1: u32, segment: u32, first: u32, second: u32) -> u32 {
 // The refusals alone.
 pub fn alone() {
     let good = page_of(SDR1, SEGMENT, OFF, OFF);
-    // Access: each refusal alone: 11 (short and long page, short and long answer), 6 (mode, kind), 2, 3, 4, 5, 1 (short and long table), 10 (load, store, fetch). Source: rules 7.
-    line(415, access(Scene::Mapped, SHORT_PAGE, 1, 1, good) == 11);
-    line(416, access(Scene::Mapped, LONG_PAGE, 1, 1, good) == 11);
+    // Access: each refusal alone: 11 (a page of 131 and of 136 bytes, an answer of 47 and of 49), 6 (mode, kind), 2, 3, 4, 5, 1 (a table one byte short, and twice as long), 10 (load, store, fetch). Source: rules 7.
+    line(415, access(Scene::Mapped, PAGE_OF_131, 1, 1, good) == 11);
+    line(416, access(Scene::Mapped, PAGE_OF_136, 1, 1, good) == 11);
     line(417, access(Scene::Mapped, SHORT_ANSWER, 1, 1, good) == 11);
     line(418, access(Scene::Mapped, LONG_ANSWER, 1, 1, good) == 11);
     line(419, access(Scene::Mapped, RIGHT, 8, 1, good) == 6);
@@ -79,14 +79,14 @@ pub fn numbers_first() {
     let four = page_of(SDR1, SEGMENT, OFF, SHARED);
     let five = page_of(SDR1, BAD_SEGMENT, OFF, OFF);
     // Access: 11 before 6, 2, 3, 4, 5, 1, 10. Source: rules 7.
-    line(432, access(Scene::Mapped, SHORT_PAGE, 8, 1, good) == 11);
+    line(432, access(Scene::Mapped, PAGE_OF_131, 8, 1, good) == 11);
     line(433, access(Scene::Mapped, SHORT_ANSWER, 1, 1, two) == 11);
-    line(434, access(Scene::Mapped, SHORT_PAGE, 1, 1, three) == 11);
+    line(434, access(Scene::Mapped, PAGE_OF_131, 1, 1, three) == 11);
     line(435, access(Scene::Mapped, LONG_ANSWER, 1, 1, four) == 11);
-    line(436, access(Scene::Mapped, LONG_PAGE, 1, 1, five) == 11);
+    line(436, access(Scene::Mapped, PAGE_OF_136, 1, 1, five) == 11);
     line(
         437,
-        access(Scene::Mapped, SHORT_PAGE_AND_TABLE, 1, 1, good) == 11,
+        access(Scene::Mapped, PAGE_OF_131_AND_TABLE, 1, 1, good) == 11,
     );
     line(
         438,

@@ -1,22 +1,128 @@
 -- What the tests of blocks decide: a shared address is found bit by bit, and two blocks that cover one address clash.
 use Prim.Native.Nat.{ℕ, _+_, _-_, _*_, _/_, _%_, _^_, _≤_, _<_}
-use mathlib.Core.Bool.{Bool, true, false, cond, not, _&&_}
+use mathlib.Core.Bool.{Bool, true, false, cond, not, _&&_, _||_, true≢false}
 use mathlib.Core.Logic.{_↔_}
-use mathlib.Core.Path.{_≡_, sym, ap, ap₂, _∙_}
+use mathlib.Core.Path.{_≡_, refl, sym, ap, ap₂, _∙_}
 use native.Mathlib.Nat.{mod-lt, add-zero}
 use native.Mathlib.Omega.{arith}
-use lib.Bits.{bitAnd, bitOr, and-mask, and-step, or-comm, or-lt}
+use lib.Bits.{bitAnd, bitOr, and-mask, and-high, and-zero-r, and-comm, and-step, or-comm, or-lt}
 use lib.Dec.{eqb}
 use lib.Pow.{pow-pos, pow-mono, split, shl-shr, shr-shr, shr-mod}
 use lib.Ieee.{size}
-use borrow.Author.Tests.{eqb-true, eq-eqb, ne-eqb}
+use borrow.Author.Tests.{eqb-true, eqb-false, eq-eqb, ne-eqb}
 use Rattle.words.specs.Bits.{bits}
 use Rattle.words.specs.Ones.{lowOnes}
 use Rattle.words.proofs.Ones.{ones-true, ones-width}
 use Rattle.words.proofs.Tests.{both}
 use Rattle.words.proofs.Masks.{and-not-in}
 use Rattle.words.proofs.Without.{or-without, and-without}
-use Rattle.register_words.specs.Block.{bepiOf, blOf, upperShape, inBlock, shareAddress, validFor, commonV, clash, covers}
+use Rattle.register_words.specs.Block.{blWidth, bepiOf, blOf, off, upperShape, lowerShape, blockShape, narrow, inBlock, blockPhysical, shareAddress, validFor, commonV, clash, covers}
+
+-- ---- short and long pages: BL of 11 bits is BL of 15 bits whose upper four are zero
+
+and-false : (a b : Bool) → (a && false) && b ≡ false
+and-false true b = refl
+and-false false b = refl
+
+-- where bits 15 to 18 are zero the width of BL makes no difference
+pub bl-same : (upper : ℕ) → bits 15 18 upper ≡ 0 → blOf 11 upper ≡ blOf 15 upper
+bl-same upper z = omega (arith, z)
+
+-- bits 15 to 18 by one mask
+high-masked : (upper : ℕ) → bitAnd upper 0x1E000 ≡ bits 15 18 upper * 2 ^ 13
+high-masked upper = and-high upper 4 13
+
+-- the shape of a block's upper word, with BL of 15 bits and a mask for bits 15 to 18
+abbrev pub wideUpper : Bool → ℕ → Bool
+wideUpper long upper = lowOnes (blOf 15 upper) && eqb (bitAnd upper (cond long 0 0x1E000)) 0 && eqb (bitAnd (bepiOf upper) (blOf 15 upper)) 0
+
+pub shape-wide : (long side : Bool) (upper lower : ℕ)
+    → blockShape (blWidth long) side upper lower ≡ (off upper || (wideUpper long upper && lowerShape 15 side upper lower))
+unfolding blockShape upperShape lowerShape
+shape-wide true side upper lower = let none : bits 15 14 upper ≡ 0 = omega arith in rw (none, and-zero-r upper)
+shape-wide false side upper lower = go (eqb (bits 15 18 upper) 0) refl
+  where
+    go : (t : Bool) → eqb (bits 15 18 upper) 0 ≡ t
+        → blockShape 11 side upper lower ≡ (off upper || (wideUpper false upper && lowerShape 15 side upper lower))
+    go true e =
+        let z = eqb-true (bits 15 18 upper) 0 e in
+        rw (bl-same upper z, high-masked upper, z)
+    go false e =
+        let some : eqb (bitAnd upper 0x1E000) 0 ≡ false = ne-eqb (bitAnd upper 0x1E000) 0 (λ q. eqb-false (bits 15 18 upper) 0 e (omega (arith, high-masked upper, q))) in
+        rw (e, some, and-false (lowOnes (blOf 11 upper)) (eqb (bitAnd (bepiOf upper) (blOf 11 upper)) 0), and-false (lowOnes (blOf 15 upper)) (eqb (bitAnd (bepiOf upper) (blOf 15 upper)) 0))
+
+-- a pair that is off, or has bits 15 to 18 zero
+narrow-by : {P : Type 0} (upper : ℕ) → narrow upper ≡ true → (off upper ≡ true → P) → (bits 15 18 upper ≡ 0 → P) → P
+unfolding narrow
+narrow-by {P} upper e f g = go (off upper) refl e
+  where
+    go : (t : Bool) → off upper ≡ t → (t || eqb (bits 15 18 upper) 0) ≡ true → P
+    go true q r = f q
+    go false q r = g (eqb-true (bits 15 18 upper) 0 r)
+
+-- a block of a short page's shape is such a pair, and for such a pair every test is the same with BL of 11 and of 15 bits
+pub shape-narrow : (side : Bool) (upper lower : ℕ) → blockShape 11 side upper lower ≡ true → narrow upper ≡ true
+unfolding narrow
+shape-narrow side upper lower e = go (off upper) (sym (shape-wide false side upper lower) ∙ e)
+  where
+    go : (t : Bool) → (t || (wideUpper false upper && lowerShape 15 side upper lower)) ≡ true → (t || eqb (bits 15 18 upper) 0) ≡ true
+    go true q = refl
+    go false q =
+        let (shape, lower-good) = both (wideUpper false upper) (lowerShape 15 side upper lower) q in
+        let (ones, clear) = both (lowOnes (blOf 15 upper) && eqb (bitAnd upper 0x1E000) 0) (eqb (bitAnd (bepiOf upper) (blOf 15 upper)) 0) shape in
+        let zero-bits = eqb-true (bitAnd upper 0x1E000) 0 (both (lowOnes (blOf 15 upper)) (eqb (bitAnd upper 0x1E000) 0) ones .1) in
+        eq-eqb (bits 15 18 upper) 0 (omega (arith, high-masked upper, zero-bits))
+
+pub shape-same : (side : Bool) (upper lower : ℕ) → narrow upper ≡ true → blockShape 11 side upper lower ≡ blockShape 15 side upper lower
+shape-same side upper lower e =
+    shape-wide false side upper lower
+    ∙ narrow-by upper e (λ o. rw o) (λ z. rw (high-masked upper, z, and-zero-r upper))
+    ∙ sym (shape-wide true side upper lower)
+
+valid-off : (user : Bool) (upper : ℕ) → off upper ≡ true → validFor user upper ≡ false
+unfolding off validFor
+valid-off true upper o = let z = eqb-true (bits 30 31 upper) 0 o in ne-eqb (bits 31 31 upper) 1 (λ q. omega (arith, z, q))
+valid-off false upper o = let z = eqb-true (bits 30 31 upper) 0 o in ne-eqb (bits 30 30 upper) 1 (λ q. omega (arith, z, q))
+
+common-off : (upper₁ upper₂ : ℕ) → off upper₁ ≡ true → commonV upper₁ upper₂ ≡ false
+unfolding off commonV
+common-off upper₁ upper₂ o = rw (eqb-true (bits 30 31 upper₁) 0 o)
+
+common-swap : (upper₁ upper₂ : ℕ) → commonV upper₁ upper₂ ≡ commonV upper₂ upper₁
+unfolding commonV
+common-swap upper₁ upper₂ = rw (and-comm (bits 30 31 upper₁) (bits 30 31 upper₂))
+
+-- a pair that is off has its shape, clashes with none and covers nothing, whatever the width of BL
+module _ (width upper : ℕ) (o : off upper ≡ true) where
+  pub off-shape : (side : Bool) (lower : ℕ) → blockShape width side upper lower ≡ true
+  unfolding blockShape
+  off-shape side lower = rw o
+
+  pub off-clash : (other : ℕ) → (clash width upper other ≡ false) × (clash width other upper ≡ false)
+  unfolding clash
+  off-clash other = (rw (common-off upper other o), rw (common-swap other upper, common-off upper other o))
+
+  pub off-covers : (user : Bool) (address : ℕ) → covers width user upper address ≡ false
+  unfolding covers
+  off-covers user address = rw (valid-off user upper o)
+
+pub clash-same : (upper₁ upper₂ : ℕ) → narrow upper₁ ≡ true → narrow upper₂ ≡ true → clash 11 upper₁ upper₂ ≡ clash 15 upper₁ upper₂
+unfolding clash shareAddress
+clash-same upper₁ upper₂ e₁ e₂ =
+    narrow-by upper₁ e₁ (λ o. rw (common-off upper₁ upper₂ o))
+    (λ z₁. narrow-by upper₂ e₂ (λ o. rw (common-swap upper₁ upper₂, common-off upper₂ upper₁ o)) (λ z₂. rw (bl-same upper₁ z₁, bl-same upper₂ z₂)))
+
+pub covers-same : (user : Bool) (upper address : ℕ) → narrow upper ≡ true → covers 11 user upper address ≡ covers 15 user upper address
+unfolding covers inBlock
+covers-same user upper address e = narrow-by upper e (λ o. rw (valid-off user upper o)) (λ z. rw (bl-same upper z))
+
+-- and so is the physical address in a block that covers an address
+pub physical-same : (user : Bool) (upper lower address : ℕ) → narrow upper ≡ true → covers 15 user upper address ≡ true
+    → blockPhysical 11 upper lower address ≡ blockPhysical 15 upper lower address
+unfolding covers blockPhysical
+physical-same user upper lower address e c =
+    narrow-by upper e (λ o. absurd (true≢false (sym (both (validFor user upper) (inBlock 15 upper address) c .0) ∙ valid-off user upper o)))
+    (λ z. rw (bl-same upper z))
 
 module _ (width : ℕ) (wide : width ≤ 15) where
   -- BL is below 2 ^ 15

@@ -18,6 +18,9 @@ register-words-tables = record {
   upper-bits = record { equal = refl };
   lower-bits = record { equal = refl };
   wide-rows = record { equal = refl };
+  wide-bits = record { equal = refl };
+  wide-blocks = record { equal = refl };
+  wide-physical = record { equal = refl };
   valid-bits = record { equal = refl };
   valid-rows = record { equal = refl };
   edge-rows = record { equal = refl };

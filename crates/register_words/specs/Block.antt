@@ -1,14 +1,14 @@
 -- A block pair, its upper and its lower word (rules 3), over the width of BL.
 use Prim.Native.Nat.{ℕ, _+_, _-_, _^_}
-use mathlib.Core.Bool.{Bool, cond, not, _&&_, _||_}
+use mathlib.Core.Bool.{Bool, true, cond, not, _&&_, _||_}
 use lib.Bits.{bitAnd, bitOr}
 use lib.Dec.{eqb}
 use Rattle.words.specs.Bits.{bits, placed}
 use Rattle.words.specs.Ones.{lowOnes}
 
--- BL has 11 bits
-abbrev pub blWidth : ℕ
-blWidth = 11
+-- BL has 11 bits on a short register page (false) and 15 on a long one (true)
+abbrev pub blWidth : Bool → ℕ
+blWidth long = cond long 15 11
 
 -- BEPI, the block's effective start, bits 0 to 14 of the upper word
 abbrev pub bepiOf : ℕ → ℕ
@@ -29,6 +29,11 @@ blockPP lower = bits 30 31 lower
 -- "off": Vs and Vp, bits 30 and 31 of the upper word, are both 0
 unfoldable pub off : ℕ → Bool
 off upper = eqb (bits 30 31 upper) 0
+
+-- a pair that is off, or has bits 15 to 18 of its upper word zero: BL of 11 bits and of 15 bits are then the same
+unfoldable pub narrow : ℕ → Bool
+unfolding off
+narrow upper = off upper || eqb (bits 15 18 upper) 0
 
 -- valid for the user by Vp, for the supervisor by Vs
 unfoldable pub validFor : Bool → ℕ → Bool

@@ -76,66 +76,92 @@ pub record RegisterWordsTables : Type 0 where
       )
   -- upper words: bits 15 to 18, BL (case 10), BEPI under BL, pairs off
   pub upper-rows : Hold (
-      (blockShape blWidth true 0x80001FFE 0x10000002, true)
-      ∷ (blockShape blWidth true 0xFFFE0003 0, true)
-      ∷ (blockShape blWidth true 0x00010002 0, false)
-      ∷ (blockShape blWidth true 0x00008002 0, false)
-      ∷ (blockShape blWidth true 0x00004002 0, false)
-      ∷ (blockShape blWidth true 0x00002002 0, false)
-      ∷ (blockShape blWidth true 0x00000006 0, true)
-      ∷ (blockShape blWidth true 0x0000000A 0, false)
-      ∷ (blockShape blWidth true 0x0000000E 0, true)
-      ∷ (blockShape blWidth true 0x00000016 0, false)
-      ∷ (blockShape blWidth true 0x00001002 0, false)
-      ∷ (blockShape blWidth true 0x00020006 0, false)
-      ∷ (blockShape blWidth true 0x00040006 0, true)
-      ∷ (blockShape blWidth true 0x08001FFE 0, false)
-      ∷ (blockShape blWidth true 0x10001FFE 0, true)
-      ∷ (blockShape blWidth true 0x00000009 0, false)
-      ∷ (blockShape blWidth true 0x00000008 0, true)
-      ∷ (blockShape blWidth true 0xFFFFFFFC 0xFFFFFFFF, true)
-      ∷ (blockShape blWidth false 0xFFFFFFFC 0xFFFFFFFF, true)
-      ∷ (blockShape blWidth false 0x0000000A 0, false)
+      (blockShape (blWidth false) true 0x80001FFE 0x10000002, true)
+      ∷ (blockShape (blWidth false) true 0xFFFE0003 0, true)
+      ∷ (blockShape (blWidth false) true 0x00010002 0, false)
+      ∷ (blockShape (blWidth false) true 0x00008002 0, false)
+      ∷ (blockShape (blWidth false) true 0x00004002 0, false)
+      ∷ (blockShape (blWidth false) true 0x00002002 0, false)
+      ∷ (blockShape (blWidth false) true 0x00000006 0, true)
+      ∷ (blockShape (blWidth false) true 0x0000000A 0, false)
+      ∷ (blockShape (blWidth false) true 0x0000000E 0, true)
+      ∷ (blockShape (blWidth false) true 0x00000016 0, false)
+      ∷ (blockShape (blWidth false) true 0x00001002 0, false)
+      ∷ (blockShape (blWidth false) true 0x00020006 0, false)
+      ∷ (blockShape (blWidth false) true 0x00040006 0, true)
+      ∷ (blockShape (blWidth false) true 0x08001FFE 0, false)
+      ∷ (blockShape (blWidth false) true 0x10001FFE 0, true)
+      ∷ (blockShape (blWidth false) true 0x00000009 0, false)
+      ∷ (blockShape (blWidth false) true 0x00000008 0, true)
+      ∷ (blockShape (blWidth false) true 0xFFFFFFFC 0xFFFFFFFF, true)
+      ∷ (blockShape (blWidth false) false 0xFFFFFFFC 0xFFFFFFFF, true)
+      ∷ (blockShape (blWidth false) false 0x0000000A 0, false)
       ∷ []
       )
   -- lower words: BRPN under BL, bits 15 to 24, bit 29, W with I, and W and G of an instruction block
   pub lower-rows : Hold (
-      (blockShape blWidth true 0x00000006 0x00020000, false)
-      ∷ (blockShape blWidth true 0x00000006 0x00040000, true)
-      ∷ (blockShape blWidth true 0x00000002 0x00010000, false)
-      ∷ (blockShape blWidth true 0x00000002 0x00000080, false)
-      ∷ (blockShape blWidth true 0x00000002 0x00000004, false)
-      ∷ (blockShape blWidth true 0x00000002 0xFFFE0003, true)
-      ∷ (blockShape blWidth true 0x00000002 0x00000060, false)
-      ∷ (blockShape blWidth true 0x00000002 0x00000078, false)
-      ∷ (blockShape blWidth true 0x00000002 0x00000058, true)
-      ∷ (blockShape blWidth true 0x00000002 0x00000038, true)
-      ∷ (blockShape blWidth false 0x00000002 0x00000040, false)
-      ∷ (blockShape blWidth false 0x00000002 0x00000008, false)
-      ∷ (blockShape blWidth false 0x00000002 0x00000060, false)
-      ∷ (blockShape blWidth false 0x00000002 0x00000030, true)
+      (blockShape (blWidth false) true 0x00000006 0x00020000, false)
+      ∷ (blockShape (blWidth false) true 0x00000006 0x00040000, true)
+      ∷ (blockShape (blWidth false) true 0x00000002 0x00010000, false)
+      ∷ (blockShape (blWidth false) true 0x00000002 0x00000080, false)
+      ∷ (blockShape (blWidth false) true 0x00000002 0x00000004, false)
+      ∷ (blockShape (blWidth false) true 0x00000002 0xFFFE0003, true)
+      ∷ (blockShape (blWidth false) true 0x00000002 0x00000060, false)
+      ∷ (blockShape (blWidth false) true 0x00000002 0x00000078, false)
+      ∷ (blockShape (blWidth false) true 0x00000002 0x00000058, true)
+      ∷ (blockShape (blWidth false) true 0x00000002 0x00000038, true)
+      ∷ (blockShape (blWidth false) false 0x00000002 0x00000040, false)
+      ∷ (blockShape (blWidth false) false 0x00000002 0x00000008, false)
+      ∷ (blockShape (blWidth false) false 0x00000002 0x00000060, false)
+      ∷ (blockShape (blWidth false) false 0x00000002 0x00000030, true)
       ∷ []
       )
   -- a pair that is on, with one bit more in its upper word: BEPI, bits 15 to 18, BL, of which only the lowest bit stands alone
   pub upper-bits : Hold (
-      (map (λ bit. blockShape blWidth true (bit + 2) 0) (take 30 eachBit), replicate 15 true ++ replicate 14 false ++ (true ∷ []))
-      ∷ (map (λ bit. blockShape blWidth false (bit + 1) 0) (take 30 eachBit), replicate 15 true ++ replicate 14 false ++ (true ∷ []))
+      (map (λ bit. blockShape (blWidth false) true (bit + 2) 0) (take 30 eachBit), replicate 15 true ++ replicate 14 false ++ (true ∷ []))
+      ∷ (map (λ bit. blockShape (blWidth false) false (bit + 1) 0) (take 30 eachBit), replicate 15 true ++ replicate 14 false ++ (true ∷ []))
       ∷ []
       )
   -- and one bit in its lower word: BRPN, bits 15 to 24, W, I, M, G, bit 29, PP
   pub lower-bits : Hold (
-      (map (blockShape blWidth true 2) eachBit, replicate 15 true ++ replicate 10 false ++ replicate 4 true ++ (false ∷ true ∷ true ∷ []))
+      (map (blockShape (blWidth false) true 2) eachBit, replicate 15 true ++ replicate 10 false ++ replicate 4 true ++ (false ∷ true ∷ true ∷ []))
       ∷ (
-        map (blockShape blWidth false 2) eachBit,
+        map (blockShape (blWidth false) false 2) eachBit,
         replicate 15 true ++ replicate 10 false ++ (false ∷ true ∷ true ∷ false ∷ []) ++ (false ∷ true ∷ true ∷ []),
       )
       ∷ []
       )
   -- BL of 15 bits: bits 15 to 18 belong to it, and the largest block is 4 GB
   pub wide-rows : Hold (
-      (blockShape 15 true 0x0001FFFE 0, true)
-      ∷ (inBlock 15 0x0001FFFE 0xFFFFFFFF, true)
-      ∷ (blockShape 15 true 0x00010002 0, false)
+      (blockShape (blWidth true) true 0x0001FFFE 0, true)
+      ∷ (blockShape (blWidth false) true 0x0001FFFE 0, false)
+      ∷ (blockShape (blWidth true) true 0x00003FFE 0, true)
+      ∷ (blockShape (blWidth false) true 0x00003FFE 0, false)
+      ∷ (blockShape (blWidth true) true 0x00010002 0, false)
+      ∷ (blockShape (blWidth true) true 0x0002FFFE 0, false)
+      ∷ (blockShape (blWidth true) true 0x80001FFE 0x10000002, true)
+      ∷ (blockShape (blWidth true) true 0x0001FFFC 0, true)
+      ∷ (blockShape (blWidth false) true 0x0001FFFC 0, true)
+      ∷ (blockShape (blWidth true) true 0x0001FFFE 0x80000000, false)
+      ∷ []
+      )
+  pub wide-bits : Hold (
+      (map (λ bit. blockShape (blWidth true) true (bit + 2) 0) (take 30 eachBit), replicate 15 true ++ replicate 14 false ++ true ∷ [])
+      ∷ (map (λ bit. inBlock (blWidth true) 0x0001FFFE bit) eachBit, replicate 32 true)
+      ∷ (map (λ bit. clash (blWidth true) 0x0001FFFE (bit + 2)) (take 15 eachBit), replicate 15 true)
+      ∷ (map (λ bit. clash (blWidth true) (bit + 1) 0x0001FFFF) (take 15 eachBit), replicate 15 true)
+      ∷ []
+      )
+  -- a block of 4 GB holds every address and clashes with each block that has its V bit; one of 512 MB
+  pub wide-blocks : Hold (
+      (covers (blWidth true) false 0x0001FFFE 0 ∷ covers (blWidth true) false 0x0001FFFE 0xFFFFFFFF ∷ covers (blWidth true) true 0x0001FFFE 0 ∷ [], true ∷ true ∷ false ∷ [])
+      ∷ (clash (blWidth true) 0x0001FFFE 0xFFFE0002 ∷ clash (blWidth true) 0x0001FFFE 0xFFFE0001 ∷ clash (blWidth true) 0x0001FFFE 0x0001FFFE ∷ [], true ∷ false ∷ true ∷ [])
+      ∷ (covers (blWidth true) false 0x20003FFE 0x3FFFFFFF ∷ covers (blWidth true) false 0x20003FFE 0x40000000 ∷ covers (blWidth true) false 0x20003FFE 0x1FFFFFFF ∷ [], true ∷ false ∷ false ∷ [])
+      ∷ []
+      )
+  pub wide-physical : Hold (
+      (blockPhysical (blWidth true) 0x0001FFFE 0x00000002 0xDEADBEEF, 0xDEADBEEF)
+      ∷ (blockPhysical (blWidth true) 0x20003FFE 0x60000002 0x3FFFFFFF, 0x7FFFFFFF)
       ∷ []
       )
   -- Vs for the supervisor, Vp for the user, and a V bit in common
@@ -157,24 +183,24 @@ pub record RegisterWordsTables : Type 0 where
       )
   -- the edges of blocks: cases 8 and 9, and the privilege
   pub edge-rows : Hold (
-      (covers blWidth false 0x80001FFE 0x8FFFFFFF, true)
-      ∷ (covers blWidth false 0x80001FFE 0x80000000, true)
-      ∷ (covers blWidth false 0x80001FFE 0x90000000, false)
-      ∷ (covers blWidth false 0x80001FFE 0x7FFFFFFF, false)
-      ∷ (covers blWidth true 0x80001FFE 0x8FFFFFFF, false)
-      ∷ (covers blWidth false 0x00000002 0x0001FFFF, true)
-      ∷ (covers blWidth false 0x00000002 0x00020000, false)
-      ∷ (clash blWidth 0x80001FFE 0x88000002, true)
-      ∷ (clash blWidth 0x88000002 0x80001FFE, true)
-      ∷ (clash blWidth 0x90000002 0x80001FFE, false)
-      ∷ (clash blWidth 0x80001FFE 0x90000002, false)
-      ∷ (clash blWidth 0x80001FFE 0x88000001, false)
+      (covers (blWidth false) false 0x80001FFE 0x8FFFFFFF, true)
+      ∷ (covers (blWidth false) false 0x80001FFE 0x80000000, true)
+      ∷ (covers (blWidth false) false 0x80001FFE 0x90000000, false)
+      ∷ (covers (blWidth false) false 0x80001FFE 0x7FFFFFFF, false)
+      ∷ (covers (blWidth false) true 0x80001FFE 0x8FFFFFFF, false)
+      ∷ (covers (blWidth false) false 0x00000002 0x0001FFFF, true)
+      ∷ (covers (blWidth false) false 0x00000002 0x00020000, false)
+      ∷ (clash (blWidth false) 0x80001FFE 0x88000002, true)
+      ∷ (clash (blWidth false) 0x88000002 0x80001FFE, true)
+      ∷ (clash (blWidth false) 0x90000002 0x80001FFE, false)
+      ∷ (clash (blWidth false) 0x80001FFE 0x90000002, false)
+      ∷ (clash (blWidth false) 0x80001FFE 0x88000001, false)
       ∷ []
       )
   pub physical-rows : Hold (
-      (blockPhysical blWidth 0x80001FFE 0x10000002 0x8FFFFFFF, 0x1FFFFFFF)
-      ∷ (blockPhysical blWidth 0x80001FFE 0x10000002 0x80000000, 0x10000000)
-      ∷ (blockPhysical blWidth 0x00000002 0x20000002 0x0001FFFF, 0x2001FFFF)
+      (blockPhysical (blWidth false) 0x80001FFE 0x10000002 0x8FFFFFFF, 0x1FFFFFFF)
+      ∷ (blockPhysical (blWidth false) 0x80001FFE 0x10000002 0x80000000, 0x10000000)
+      ∷ (blockPhysical (blWidth false) 0x00000002 0x20000002 0x0001FFFF, 0x2001FFFF)
       ∷ []
       )
   -- of the lower word WIMG is bits 25 to 28 and PP bits 30 and 31

@@ -36,20 +36,22 @@ pub fn segment_shape(word: u32) -> bool
     (word >> 31 == 0) & ((word >> 24) & 0xF == 0)
 }
 
-// Whether a block pair has the shape of its side; a pair that is off may hold anything.
-pub fn block_shape(side: bool, upper: u32, lower: u32) -> bool
-    ensures { λ r. ⌜ r ≡ blockShape blWidth side upper lower ⌝ }
+// Whether a block pair of a short or a long page has the shape of its side; a pair that is off may hold anything.
+pub fn block_shape(long: bool, side: bool, upper: u32, lower: u32) -> bool
+    ensures { λ r. ⌜ r ≡ blockShape (blWidth long) side upper lower ⌝ }
 {
     if upper & 3 == 0 {
         return true;
     }
-    let bl = (upper >> 2) & 0x7FF;
+    let bl = (upper >> 2) & 0x7FFF;
     if !words::low_ones(bl) {
         return false;
     }
     // W and G, which are zero in an instruction block; a mask by the side, since one mask serves all blocks of a side.
     let side_zeros = if side { 0 } else { 0x48 };
-    let upper_good = ((upper >> 13) & 0xF == 0) & ((upper >> 17) & bl == 0);
+    // Bits 15 to 18, which a block of a short page has zero.
+    let short_zeros = if long { 0 } else { 0x1E000 };
+    let upper_good = (upper & short_zeros == 0) & ((upper >> 17) & bl == 0);
     let lower_good = ((lower >> 17) & bl == 0)
         & ((lower >> 7) & 0x3FF == 0)
         & ((lower >> 2) & 1 == 0)
@@ -58,24 +60,24 @@ pub fn block_shape(side: bool, upper: u32, lower: u32) -> bool
     upper_good & lower_good
 }
 
-// Whether two blocks have a V bit in common and share an effective address.
+// Whether two blocks have a V bit in common and share an effective address. Here and below BL has 15 bits, of which a short page's blocks use 11.
 pub fn blocks_clash(first: u32, second: u32) -> bool
-    ensures { λ r. ⌜ r ≡ clash blWidth first second ⌝ }
+    ensures { λ r. ⌜ r ≡ clash (blWidth true) first second ⌝ }
 {
-    let either = ((first >> 2) & 0x7FF) | ((second >> 2) & 0x7FF);
+    let either = ((first >> 2) & 0x7FFF) | ((second >> 2) & 0x7FFF);
     ((first & 3) & (second & 3) != 0) & (either | (first >> 17) == either | (second >> 17))
 }
 
 // Whether the address with the block's BL bits and the low 17 removed is the block's start.
 pub fn in_block(upper: u32, address: u32) -> bool
-    ensures { λ r. ⌜ r ≡ inBlock blWidth upper address ⌝ }
+    ensures { λ r. ⌜ r ≡ inBlock (blWidth true) upper address ⌝ }
 {
-    (address >> 17) & (0x7FFF - ((upper >> 2) & 0x7FF)) == upper >> 17
+    (address >> 17) & (0x7FFF - ((upper >> 2) & 0x7FFF)) == upper >> 17
 }
 
 // Whether a block is valid for the user or the supervisor and holds the address.
 pub fn block_covers(user: bool, upper: u32, address: u32) -> bool
-    ensures { λ r. ⌜ r ≡ covers blWidth user upper address ⌝ }
+    ensures { λ r. ⌜ r ≡ covers (blWidth true) user upper address ⌝ }
 {
     let valid = if user { upper & 1 } else { (upper >> 1) & 1 };
     (valid == 1) & in_block(upper, address)
@@ -83,8 +85,8 @@ pub fn block_covers(user: bool, upper: u32, address: u32) -> bool
 
 // The physical address of an address in a block.
 pub fn block_physical(upper: u32, lower: u32, address: u32) -> u32
-    ensures { λ r. ⌜ r ≡ blockPhysical blWidth upper lower address ⌝ }
+    ensures { λ r. ⌜ r ≡ blockPhysical (blWidth true) upper lower address ⌝ }
 {
-    let start = (lower >> 17) | ((address >> 17) & ((upper >> 2) & 0x7FF));
+    let start = (lower >> 17) | ((address >> 17) & ((upper >> 2) & 0x7FFF));
     (start << 17) | (address & 0x1FFFF)
 }

@@ -1,5 +1,9 @@
 -- What callers' proofs cite of the register set.
 pub mod Set
+pub mod Spread
+pub mod Wide
+pub mod Widened
+pub mod Placed
 pub mod Blocks
 pub mod Computes
 pub mod Tables

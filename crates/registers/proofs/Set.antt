@@ -1,19 +1,38 @@
 -- Laws of the register set: where a side's pairs stand, and what a set that passed the check has.
 use mathlib.Core.Path.{_≡_, refl}
-use mathlib.Core.Bool.{Bool, true, false, cond, not, _&&_}
+use mathlib.Core.Bool.{Bool, true, false, cond, not, _&&_, _||_}
 use mathlib.Core.List.{List}
 use Prim.Native.Nat.{ℕ, _≤_, _<_}
 use native.Mathlib.Omega.{arith}
-use lib.Dec.{ltb, lit≤}
-use borrow.Author.Tests.{not-false, ltb-true}
+use lib.Dec.{eqb, ltb, lit≤}
+use lib.ListN.{length}
+use Rattle.words.specs.Words.{wordsAt}
+use borrow.Author.Tests.{not-false, ltb-true, eqb-true}
 use Rattle.words.proofs.Tests.{both}
 use Rattle.register_words.specs.Sdr1.{sdr1Shape}
-use Rattle.registers.specs.Set.{sdr1Of, segmentsShape, sideStart, sideShape, sideApart, checkWords, replacing}
+use Rattle.registers.specs.Set.{isPage, sdr1Of, segmentsShape, sideStart, sideShape, sideApart, checkWords, registerCount, registerWords, replacing}
 
 -- a side's pairs end with the set
-pub start-at-most : (side : Bool) → sideStart 4 side ≤ 25
+pub start-at-most : (side : Bool) → sideStart 8 side ≤ 33
 start-at-most true = lit≤ tt
 start-at-most false = lit≤ tt
+
+-- a page that is not long is short
+pub short-page : (size : ℕ) → isPage size ≡ true → (size ≡ 196 → ⊥) → size ≡ 132
+short-page size page long = go (eqb size 132) refl page
+  where
+    go : (t : Bool) → eqb size 132 ≡ t → (t || eqb size 196) ≡ true → size ≡ 132
+    go true e p = eqb-true size 132 e
+    go false e p = absurd (long (eqb-true size 196 p))
+
+-- the words of a long and of a short page
+pub words-long : (registers : List ℕ) → length registers ≡ 196 → registerWords registers ≡ wordsAt registers 0 49
+unfolding registerWords
+words-long registers e = rw e
+
+pub words-short : (registers : List ℕ) → length registers ≡ 132 → registerWords registers ≡ wordsAt registers 0 33
+unfolding registerWords
+words-short registers e = rw e
 
 -- where the first broken rule is none, a rule is kept, and so are those behind it
 pub rule-kept : (broken : Bool) (number rest : ℕ) → (number ≡ 0 → ⊥) → cond broken number rest ≡ 0 → (broken ≡ false) × (rest ≡ 0)
@@ -50,11 +69,11 @@ checked pairs width words passed =
       segments = not-false segments kept₅;
     }
 
--- a word is replaced only under a number below 33
-pub replaced-number : (words : List ℕ) (number word : ℕ) → replacing words number word ≡ 0 → number < 33
+-- a word is replaced only under a number of its page
+pub replaced-number : (long : Bool) (words : List ℕ) (number word : ℕ) → replacing long words number word ≡ 0 → number < registerCount long
 unfolding replacing
-replaced-number words number word done = go (ltb number 33) refl
+replaced-number long words number word done = go (ltb number (registerCount long)) refl
   where
-    go : (t : Bool) → ltb number 33 ≡ t → number < 33
-    go true e = ltb-true number 33 e
+    go : (t : Bool) → ltb number (registerCount long) ≡ t → number < registerCount long
+    go true e = ltb-true number (registerCount long) e
     go false e = absurd (let z : _≡_ {A = ℕ} 6 0 = (rw e at done) in omega arith)

@@ -7,7 +7,12 @@ pub registers-tables : RegistersTables
 unfolding registers-compute
 registers-tables = record {
   places = record { equal = refl };
+  long-places = record { equal = refl };
+  limits = record { equal = refl };
+  widened-rows = record { equal = refl };
   check-rows = record { equal = refl };
   covering-rows = record { equal = refl };
+  long-rows = record { equal = refl };
   replaced-rows = record { equal = refl };
+  replacing-rows = record { equal = refl };
 }

@@ -1,11 +1,12 @@
 -- The register set as its words: SDR1, sixteen segment registers, the instruction pairs, the data pairs (upper word, then lower).
 -- Over the number of pairs a side and the width of BL (rules 3).
 use Prim.Native.Nat.{ℕ, _+_, _*_}
-use mathlib.Core.Bool.{Bool, true, false, cond, not, _&&_}
-use mathlib.Core.List.{List, [], _∷_}
+use mathlib.Core.Bool.{Bool, true, false, cond, not, _&&_, _||_}
+use mathlib.Core.List.{List, [], _∷_, _++_}
 use lib.Dec.{eqb, ltb}
-use lib.ListN.{getD, set}
-use Rattle.numbers.specs.Numbers.{refusedSdr1, refusedBlock, refusedBlocksShare, refusedSegment, refusedArgument, registerCount}
+use lib.ListN.{length, getD, set, take, drop, replicate}
+use Rattle.numbers.specs.Numbers.{refusedSdr1, refusedBlock, refusedBlocksShare, refusedSegment, refusedArgument}
+use Rattle.numbers.specs.Numbers.{registersSizeShort, registersSizeLong, registerCountShort, registerCountLong}
 use Rattle.words.specs.Below.{everyBelow, firstBelow}
 use Rattle.words.specs.Words.{wordsAt}
 use Rattle.registers.specs.Rules.{firstBroken}
@@ -15,9 +16,19 @@ use Rattle.register_words.specs.Block.{blWidth, blockShape, clash, covers}
 use Rattle.registers.specs.declared.Registers.{Registers}
 use Rattle.registers.specs.declared.Replaced.{Replaced}
 
--- four pairs a side
-abbrev pub blockPairs : ℕ
-blockPairs = 4
+-- a register page is short, 132 bytes, or long, 196 bytes; its length alone tells which
+abbrev pub isPage : ℕ → Bool
+isPage size = eqb size registersSizeShort || eqb size registersSizeLong
+
+abbrev pub isLong : ℕ → Bool
+isLong size = eqb size registersSizeLong
+
+-- how many block pairs a side and how many words a short (false) or a long page (true) has
+abbrev pub blockPairs : Bool → ℕ
+blockPairs long = cond long 8 4
+
+abbrev pub registerCount : Bool → ℕ
+registerCount long = cond long registerCountLong registerCountShort
 
 abbrev pub sdr1Of : List ℕ → ℕ
 sdr1Of words = getD words 0 0
@@ -74,16 +85,33 @@ module _ (pairs : ℕ) where
     unfoldable pub coveringPair : List ℕ → Bool → Bool → ℕ → ℕ
     coveringPair words side user address = firstBelow pairs (pairCovers words side user address)
 
--- replacing the word of a number: 0, or the refusal, of the number's range, then those of the new set
-unfoldable pub replacing : List ℕ → ℕ → ℕ → ℕ
-replacing words number word = cond (ltb number registerCount) (checkWords blockPairs blWidth (set words number word)) refusedArgument
+-- the words of a register page
+unfoldable pub registerWords : List ℕ → List ℕ
+registerWords registers = wordsAt registers 0 (registerCount (isLong (length registers)))
+
+-- replacing the word of a number on a short or a long page: 0, or the refusal, of the number's range, then those of the new set
+unfoldable pub replacing : Bool → List ℕ → ℕ → ℕ → ℕ
+replacing long words number word = cond (ltb number (registerCount long)) (checkWords (blockPairs long) (blWidth long) (set words number word)) refusedArgument
+
+-- a list with zeros between its first part and its last, and behind it
+unfoldable pub spread : ℕ → ℕ → List ℕ → List ℕ
+spread front gap xs = take front xs ++ (replicate gap 0 ++ (drop front xs ++ replicate gap 0))
+
+-- the words of a short page as those of a long one: the data pairs moved to their place, pairs 4 to 7 of each side zero
+unfoldable pub widened : List ℕ → List ℕ
+widened words = spread 25 8 words
+
+-- the words of a page of either length as the 49 words of a set
+unfoldable pub setWords : List ℕ → List ℕ
+setWords registers = cond (isLong (length registers)) (registerWords registers) (widened (registerWords registers))
+
+-- where the word of a page's number stands in a set
+abbrev pub placeInSet : Bool → ℕ → ℕ
+placeInSet long number = cond (long || ltb number 25) number (number + 8)
 
 -- the set with the word replaced, or the refusal and the old set
 unfoldable pub replaced : Registers → ℕ → ℕ → Replaced
 replaced registers number word =
-    let result = replacing (registers .words) number word in
-    record { result = result; set = cond (eqb result 0) (record { words = set (registers .words) number word }) registers }
-
--- the words of a register page
-unfoldable pub registerWords : List ℕ → List ℕ
-registerWords registers = wordsAt registers 0 registerCount
+    let next = set (registers .words) (placeInSet (registers .long) number) word in
+    let result = cond (ltb number (registerCount (registers .long))) (checkWords (blockPairs true) (blWidth (registers .long)) next) refusedArgument in
+    record { result = result; set = cond (eqb result 0) (record { words = next; long = registers .long }) registers }

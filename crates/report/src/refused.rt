@@ -17,13 +17,13 @@ pub const RIGHT: Lengths = Lengths {
     table: 65536,
 };
 
-pub const SHORT_PAGE: Lengths = Lengths {
+pub const PAGE_OF_131: Lengths = Lengths {
     page: 131,
     answer: 48,
     table: 65536,
 };
 
-pub const LONG_PAGE: Lengths = Lengths {
+pub const PAGE_OF_136: Lengths = Lengths {
     page: 136,
     answer: 48,
     table: 65536,
@@ -53,7 +53,7 @@ pub const LONG_TABLE: Lengths = Lengths {
     table: 131072,
 };
 
-pub const SHORT_PAGE_AND_TABLE: Lengths = Lengths {
+pub const PAGE_OF_131_AND_TABLE: Lengths = Lengths {
     page: 131,
     answer: 48,
     table: 65535,

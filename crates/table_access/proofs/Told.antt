@@ -77,7 +77,7 @@ module _ (words : List ℕ) (access : Access) (k : ℕ) (t : List ℕ) where
         where
           by : (e : Early) → partEarly words access true ≡ e → SameMatches k e t (mark 0 false t)
           by (Decided outcome) is = tt
-          by (Search wanted) is = second-kept words (access .mode) (access .kind) (access .address) (access .length) over k 0 t good wanted is
+          by (Search wanted) is = second-kept 8 15 words (access .mode) (access .kind) (access .address) (access .length) over k 0 t good wanted is
 
 -- a table of right length, in which every element is a byte
 pub good-table : (sdr1 : ℕ) (t : List ℕ) → sdr1Shape sdr1 ≡ true → length t ≡ tableLength sdr1 → ((i : ℕ) → getD t i 0 < 2 ^ 8) → GoodTable (maskOnes sdr1) t

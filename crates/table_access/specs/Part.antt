@@ -42,7 +42,7 @@ Marks k kind early t part =
 module _ (words : List ℕ) (access : Access) where
   -- steps 1 to 3 of the first part (false) or the second (true)
   abbrev pub partEarly : Bool → Early
-  partEarly second = beforeSearch blockPairs blWidth words (access .mode) (access .kind) (partStart (access .address) (access .length) second)
+  partEarly second = beforeSearch (blockPairs true) (blWidth true) words (access .mode) (access .kind) (partStart (access .address) (access .length) second)
 
   module _ (k : ℕ) (t : List ℕ) where
     -- what a part answers by itself

@@ -7,11 +7,11 @@ ghost use mathlib.Core.List.{List, [], _∷_, _++_};
 ghost use Prim.Native.Nat.{ℕ, _+_, _*_, _<_, _≤_, _^_};
 ghost use lib.Dec.{eqb, ltb};
 ghost use lib.ListN.{length};
-ghost use Rattle.numbers.specs.Numbers.{refusedTableLength, refusedArgument, refusedOperandLength, registersSize, accessAnswerSize, groupEntries, done};
+ghost use Rattle.numbers.specs.Numbers.{refusedTableLength, refusedArgument, refusedOperandLength, accessAnswerSize, groupEntries, done};
 ghost use Rattle.registers.specs.Rules.{firstBroken};
 ghost use Rattle.register_words.specs.Sdr1.{sdr1Shape, tableLength, maskOnes};
 ghost use Rattle.register_words.specs.Block.{blWidth};
-ghost use Rattle.registers.specs.Set.{blockPairs, sdr1Of, registerRules, registerWords};
+ghost use Rattle.registers.specs.Set.{isPage, blockPairs, sdr1Of, registerRules};
 ghost use Rattle.matches.specs.Search.{summary};
 ghost use Rattle.tables.specs.Matches.{Match};
 ghost use Rattle.translation.specs.Steps.{afterSearch, outcomeOf};
@@ -43,11 +43,11 @@ pub struct Part {
     pub second: u32,
 }
 
-// The first broken rule after the lent lengths, or 0: the arguments' ranges, then the register set, then the table's length.
-fn refusal(words: &[u32; 33], access: Access, lent: usize) -> u32
+// The first broken rule after the lent lengths, or 0: the arguments' ranges, then the register set of a short or a long page, then the table's length.
+fn refusal(words: &[u32; 49], long: bool, access: Access, lent: usize) -> u32
     ensures { λ r. ⌜ r ≡ firstBroken ((not (ltb (access .mode) 8 && ltb (access .kind) 3), refusedArgument)
         ∷ (not (operandInRange (access .length)), refusedOperandLength)
-        ∷ registerRules blockPairs blWidth (now (words .entry))
+        ∷ registerRules (blockPairs true) (blWidth long) (now (words .entry))
         ++ ((not (eqb lent (tableLength (sdr1Of (now (words .entry))))), refusedTableLength) ∷ [])) ⌝ }
 {
     if !((access.mode < 8) & (access.kind < 3)) {
@@ -56,7 +56,7 @@ fn refusal(words: &[u32; 33], access: Access, lent: usize) -> u32
     if !((0 < access.length) & (access.length <= numbers::LONGEST_OPERAND)) {
         return numbers::REFUSED_OPERAND_LENGTH;
     }
-    let broken = registers::check_words(words);
+    let broken = registers::check_words(words, long);
     if broken != numbers::DONE {
         return broken;
     }
@@ -143,7 +143,7 @@ fn mark(table: &mut [u8], kind: u32, part: Part)
 
 // An operand over a page edge whose first part is done: the second part by itself, and both marks when it is done too.
 fn over_edge(
-    words: &[u32; 33],
+    words: &[u32; 49],
     access: Access,
     first: Part,
     answer: translation::Answer,
@@ -174,7 +174,7 @@ fn over_edge(
 
 // The parts of an operand whose arguments are not refused.
 fn by_parts(
-    words: &[u32; 33],
+    words: &[u32; 49],
     access: Access,
     table: &mut [u8],
 ) -> translation::operand::OperandAnswer
@@ -203,7 +203,7 @@ pub fn translate(
     asked: Access,
     table: &mut [u8],
 ) -> translation::operand::OperandAnswer
-    requires { ⌜ length (now registers) ≡ registersSize ⌝ }
+    requires { ⌜ isPage (length (now registers)) ≡ true ⌝ }
     ensures { λ r. ⌜ ((answer : List ℕ) → length answer ≡ accessAnswerSize
         → ended (r .part .result) (now (table .exit)) (accessAnswer r)
         ≡ onBytes (access (record {
@@ -215,9 +215,10 @@ pub fn translate(
           answer = answer;
         })) (now (table .entry))) ⌝ }
 {
-    let mut words = [0u32; 33];
+    let mut words = [0u32; 49];
     registers::read_words(registers, &mut words);
-    let number = refusal(&words, asked, table.len());
+    let long = registers.len() == numbers::REGISTERS_SIZE_LONG;
+    let number = refusal(&words, long, asked, table.len());
     if number != numbers::DONE {
         let outcome = translation::Outcome::Refused(number);
         let answer = translation::answer_of(asked.kind, asked.address, outcome);

@@ -14,7 +14,8 @@ use Rattle.entry.proofs.RoundTrip.{packing-agrees}
 use Rattle.entry.proofs.Tables.{entry-tables}
 use Rattle.register_words.proofs.Tables.{register-words-tables}
 use Rattle.registers.proofs.Tables.{registers-tables}
-use Rattle.registers.specs.Set.{checkWords, pairCovers, coveringPair}
+use Rattle.register_words.specs.Block.{blWidth}
+use Rattle.registers.specs.Set.{blockPairs, checkWords, pairCovers, coveringPair}
 use Rattle.registers.proofs.Blocks.{blocks-decide}
 use Rattle.protection.specs.Access.{userMode, fetching, storing, relocated, sideOf}
 use Rattle.protection.specs.Protection.{pageWritable, pageAllows}
@@ -115,6 +116,11 @@ module _ (kind address : ℕ) where
     refused = answer-refused kind address;
   }
 
+-- BL has at most 15 bits
+at-most-15 : (long : Bool) → blWidth long ≤ 15
+at-most-15 true = lit≤ tt
+at-most-15 false = lit≤ tt
+
 pub access-as-stated : AccessAsStated
 access-as-stated = record {
   numbers = numbers-tables;
@@ -123,9 +129,9 @@ access-as-stated = record {
   entries = entry-tables;
   register-words = register-words-tables;
   registers = registers-tables;
-  blocks = blocks-decide 4 11 (lit≤ tt);
-  block-physical = λ side upper lower address shape-u shape-l. block-offset 11 (lit≤ tt) side upper lower address shape-u shape-l;
-  before = steps-before 4 11 (lit≤ tt);
+  blocks = λ long. blocks-decide (blockPairs long) (blWidth long) (at-most-15 long);
+  block-physical = λ long side upper lower address shape-u shape-l. block-offset (blWidth long) (at-most-15 long) side upper lower address shape-u shape-l;
+  before = λ long. steps-before (blockPairs long) (blWidth long) (at-most-15 long);
   after = steps-after;
   answers = answers-stated;
   operands = operand-stated;

@@ -8,6 +8,7 @@ unfolding translation-computes
 access-tables = record {
   real-mode = record { equal = refl };
   blocks = record { equal = refl };
+  long-blocks = record { equal = refl };
   block-sides = record { equal = refl };
   block-privilege = record { equal = refl };
   block-before-segment = record { equal = refl };

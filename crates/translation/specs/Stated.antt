@@ -138,11 +138,12 @@ pub record AccessAsStated : Type 0 where
   pub entries : EntryTables
   pub register-words : RegisterWordsTables
   pub registers : RegistersTables
-  pub blocks : BlocksDecide blockPairs blWidth
+  -- both limits: four pairs and BL of 11 bits on a short register page, eight and 15 on a long one
+  pub blocks : (long : Bool) → BlocksDecide (blockPairs long) (blWidth long)
   -- in a block of right shape the physical address is its physical start and the address's 17 + k low bits, where BL has k ones
-  pub block-physical : (side : Bool) (upper lower address : ℕ) → upperShape blWidth upper ≡ true → lowerShape blWidth side upper lower ≡ true
-      → blockPhysical blWidth upper lower address ≡ placed 14 (brpnOf lower) + address % 2 ^ (17 + size (blOf blWidth upper))
-  pub before : (words : List ℕ) (mode kind address : ℕ) → StepsBefore blockPairs blWidth words mode kind address
+  pub block-physical : (long side : Bool) (upper lower address : ℕ) → upperShape (blWidth long) upper ≡ true → lowerShape (blWidth long) side upper lower ≡ true
+      → blockPhysical (blWidth long) upper lower address ≡ placed 14 (brpnOf lower) + address % 2 ^ (17 + size (blOf (blWidth long) upper))
+  pub before : (long : Bool) (words : List ℕ) (mode kind address : ℕ) → StepsBefore (blockPairs long) (blWidth long) words mode kind address
   pub after : (kind : ℕ) (key : Bool) → StepsAfter kind key
   pub answers : (kind address : ℕ) → AnswersStated kind address
   pub operands : (address length : ℕ) → OperandStated address length

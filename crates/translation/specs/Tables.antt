@@ -9,7 +9,7 @@ use Rattle.words.specs.Rows.{Hold, eachBit}
 use Rattle.register_words.specs.Block.{blWidth}
 use Rattle.registers.specs.Set.{blockPairs}
 use Rattle.protection.specs.Tables.{byKind}
-use Rattle.registers.specs.Tables.{one, two, three}
+use Rattle.registers.specs.Tables.{one, two, three, longTwo}
 use Rattle.translation.specs.Steps.{segmentAt, beforeSearch, afterSearch, outcomeOf, answerOf}
 use Rattle.translation.specs.declared.Outcome.{Outcome}
 use Rattle.translation.specs.declared.Outcome.the-variants.{Real, Block, BlockProtection, NoExecute, NoMatch, Guarded, Protection, Done, Refused}
@@ -45,7 +45,7 @@ holding second wanted = cond (eqb (wanted .vsid) 0x0C701C && eqb (wanted .index)
 
 -- a whole access to that table
 abbrev pub wholeAccess : ℕ → List ℕ → ℕ → ℕ → ℕ → Answer
-wholeAccess second words mode kind address = answerOf kind address (outcomeOf kind (holding second) (beforeSearch blockPairs blWidth words mode kind address))
+wholeAccess second words mode kind address = answerOf kind address (outcomeOf kind (holding second) (beforeSearch (blockPairs false) (blWidth false) words mode kind address))
 
 -- segment 0 no-execute, and blocks that allow nothing over its first 128 KB on both sides
 abbrev pub forbidding : List ℕ
@@ -60,7 +60,7 @@ sixteenSegments = 0 ∷ map (λ i. 0x00A5A500 + i) below16 ++ replicate 16 0
 
 -- fetch, load and store by segment register 0, in a mode with IR and DR on
 abbrev pub through : ℕ → ℕ → List Early
-through segment mode = byKind (λ (kind : ℕ). beforeSearch blockPairs blWidth (one 1 segment) mode kind 0x00FFA01B)
+through segment mode = byKind (λ (kind : ℕ). beforeSearch (blockPairs false) (blWidth false) (one 1 segment) mode kind 0x00FFA01B)
 
 -- each of the three goes to the search with this key; the fetch faults, and the others do
 abbrev pub keyed : Bool → List Early
@@ -114,75 +114,86 @@ went key = record { key = key; group = 0x3E6; entry = 5 }
 pub record AccessTables : Type 0 where
   -- step 1 comes before all others
   pub real-mode : Hold (
-      (beforeSearch blockPairs blWidth forbidding 0 0 0x00001234, Decided Real)
-      ∷ (beforeSearch blockPairs blWidth forbidding 5 0 0x00001234, Decided Real)
-      ∷ (beforeSearch blockPairs blWidth forbidding 2 1 0x00001234, Decided Real)
-      ∷ (beforeSearch blockPairs blWidth forbidding 6 2 0x00001234, Decided Real)
-      ∷ (beforeSearch blockPairs blWidth forbidding 2 0 0x00001234, Decided (BlockProtection 0))
-      ∷ (beforeSearch blockPairs blWidth forbidding 1 1 0x00001234, Decided (BlockProtection 0))
+      (beforeSearch (blockPairs false) (blWidth false) forbidding 0 0 0x00001234, Decided Real)
+      ∷ (beforeSearch (blockPairs false) (blWidth false) forbidding 5 0 0x00001234, Decided Real)
+      ∷ (beforeSearch (blockPairs false) (blWidth false) forbidding 2 1 0x00001234, Decided Real)
+      ∷ (beforeSearch (blockPairs false) (blWidth false) forbidding 6 2 0x00001234, Decided Real)
+      ∷ (beforeSearch (blockPairs false) (blWidth false) forbidding 2 0 0x00001234, Decided (BlockProtection 0))
+      ∷ (beforeSearch (blockPairs false) (blWidth false) forbidding 1 1 0x00001234, Decided (BlockProtection 0))
       ∷ []
       )
   -- step 2: cases 8 and 9, the edges, the attributes, the first and the last pair of each side
   pub blocks : Hold (
-      (beforeSearch blockPairs blWidth (two 25 0x80001FFE 26 0x10000002) 1 1 0x8FFFFFFF, Decided (Block 0 0x1FFFFFFF 0))
-      ∷ (beforeSearch blockPairs blWidth (two 25 0x80001FFE 26 0x10000002) 1 1 0x80000000, Decided (Block 0 0x10000000 0))
-      ∷ (beforeSearch blockPairs blWidth (two 25 0x80001FFE 26 0x10000002) 1 1 0x90000000, search 0 0 false)
-      ∷ (beforeSearch blockPairs blWidth (two 25 0x00000002 26 0x20000002) 1 1 0x0001FFFF, Decided (Block 0 0x2001FFFF 0))
-      ∷ (beforeSearch blockPairs blWidth (two 25 0x00000002 26 0x20000002) 1 1 0x00020000, search 0 0x20 false)
-      ∷ (beforeSearch blockPairs blWidth (two 31 0x00000002 32 0x2000005A) 1 2 0x00001234, Decided (Block 3 0x20001234 11))
-      ∷ (beforeSearch blockPairs blWidth (two 17 0x00000002 18 0x20000033) 2 0 0x00001234, Decided (Block 0 0x20001234 6))
-      ∷ (beforeSearch blockPairs blWidth (two 23 0x00000002 24 0x20000001) 2 0 0x00001234, Decided (Block 3 0x20001234 0))
+      (beforeSearch (blockPairs false) (blWidth false) (two 25 0x80001FFE 26 0x10000002) 1 1 0x8FFFFFFF, Decided (Block 0 0x1FFFFFFF 0))
+      ∷ (beforeSearch (blockPairs false) (blWidth false) (two 25 0x80001FFE 26 0x10000002) 1 1 0x80000000, Decided (Block 0 0x10000000 0))
+      ∷ (beforeSearch (blockPairs false) (blWidth false) (two 25 0x80001FFE 26 0x10000002) 1 1 0x90000000, search 0 0 false)
+      ∷ (beforeSearch (blockPairs false) (blWidth false) (two 25 0x00000002 26 0x20000002) 1 1 0x0001FFFF, Decided (Block 0 0x2001FFFF 0))
+      ∷ (beforeSearch (blockPairs false) (blWidth false) (two 25 0x00000002 26 0x20000002) 1 1 0x00020000, search 0 0x20 false)
+      ∷ (beforeSearch (blockPairs false) (blWidth false) (two 31 0x00000002 32 0x2000005A) 1 2 0x00001234, Decided (Block 3 0x20001234 11))
+      ∷ (beforeSearch (blockPairs false) (blWidth false) (two 17 0x00000002 18 0x20000033) 2 0 0x00001234, Decided (Block 0 0x20001234 6))
+      ∷ (beforeSearch (blockPairs false) (blWidth false) (two 23 0x00000002 24 0x20000001) 2 0 0x00001234, Decided (Block 3 0x20001234 0))
+      ∷ []
+      )
+  -- a long page: the first and the last pair of each side, and a block of 4 GB
+  pub long-blocks : Hold (
+      (beforeSearch (blockPairs true) (blWidth true) (longTwo 33 0x80001FFE 34 0x10000002) 1 1 0x8FFFFFFF, Decided (Block 0 0x1FFFFFFF 0))
+      ∷ (beforeSearch (blockPairs true) (blWidth true) (longTwo 47 0x00000002 48 0x2000005A) 1 2 0x00001234, Decided (Block 7 0x20001234 11))
+      ∷ (beforeSearch (blockPairs true) (blWidth true) (longTwo 31 0x00000002 32 0x20000033) 2 0 0x00001234, Decided (Block 7 0x20001234 6))
+      ∷ (beforeSearch (blockPairs true) (blWidth true) (longTwo 25 0x00000002 26 0x20000001) 2 0 0x00001234, Decided (Block 4 0x20001234 0))
+      ∷ (beforeSearch (blockPairs true) (blWidth true) (longTwo 25 0x00000002 26 0x20000002) 1 1 0x00001234, search 0 1 false)
+      ∷ (beforeSearch (blockPairs true) (blWidth true) (longTwo 41 0x0001FFFE 42 0x00000002) 1 1 0xDEADBEEF, Decided (Block 4 0xDEADBEEF 0))
+      ∷ (beforeSearch (blockPairs true) (blWidth true) (longTwo 41 0x0001FFFE 42 0x00000001) 1 2 0xDEADBEEF, Decided (BlockProtection 4))
       ∷ []
       )
   -- the other side's block does not count
   pub block-sides : Hold (
-      (beforeSearch blockPairs blWidth (two 17 0x00000003 18 0x20000002) 3 0 0x00001234, Decided (Block 0 0x20001234 0))
-      ∷ (beforeSearch blockPairs blWidth (two 17 0x00000003 18 0x20000002) 3 1 0x00001234, search 0 1 false)
-      ∷ (beforeSearch blockPairs blWidth (two 17 0x00000003 18 0x20000002) 3 2 0x00001234, search 0 1 false)
-      ∷ (beforeSearch blockPairs blWidth (two 25 0x00000003 26 0x20000002) 3 0 0x00001234, search 0 1 false)
-      ∷ (beforeSearch blockPairs blWidth (two 25 0x00000003 26 0x20000002) 3 1 0x00001234, Decided (Block 0 0x20001234 0))
-      ∷ (beforeSearch blockPairs blWidth (two 25 0x00000003 26 0x20000002) 3 2 0x00001234, Decided (Block 0 0x20001234 0))
+      (beforeSearch (blockPairs false) (blWidth false) (two 17 0x00000003 18 0x20000002) 3 0 0x00001234, Decided (Block 0 0x20001234 0))
+      ∷ (beforeSearch (blockPairs false) (blWidth false) (two 17 0x00000003 18 0x20000002) 3 1 0x00001234, search 0 1 false)
+      ∷ (beforeSearch (blockPairs false) (blWidth false) (two 17 0x00000003 18 0x20000002) 3 2 0x00001234, search 0 1 false)
+      ∷ (beforeSearch (blockPairs false) (blWidth false) (two 25 0x00000003 26 0x20000002) 3 0 0x00001234, search 0 1 false)
+      ∷ (beforeSearch (blockPairs false) (blWidth false) (two 25 0x00000003 26 0x20000002) 3 1 0x00001234, Decided (Block 0 0x20001234 0))
+      ∷ (beforeSearch (blockPairs false) (blWidth false) (two 25 0x00000003 26 0x20000002) 3 2 0x00001234, Decided (Block 0 0x20001234 0))
       ∷ []
       )
   -- Vs for the supervisor, Vp for the user
   pub block-privilege : Hold (
-      (beforeSearch blockPairs blWidth (two 25 0x00000002 26 0x20000002) 3 1 0x00001234, Decided (Block 0 0x20001234 0))
-      ∷ (beforeSearch blockPairs blWidth (two 25 0x00000002 26 0x20000002) 7 1 0x00001234, search 0 1 false)
-      ∷ (beforeSearch blockPairs blWidth (two 25 0x00000001 26 0x20000002) 3 1 0x00001234, search 0 1 false)
-      ∷ (beforeSearch blockPairs blWidth (two 25 0x00000001 26 0x20000002) 7 1 0x00001234, Decided (Block 0 0x20001234 0))
-      ∷ (beforeSearch blockPairs blWidth (three 25 0x00000002 27 0x00000001 28 0x30000002) 7 1 0x00001234, Decided (Block 1 0x30001234 0))
+      (beforeSearch (blockPairs false) (blWidth false) (two 25 0x00000002 26 0x20000002) 3 1 0x00001234, Decided (Block 0 0x20001234 0))
+      ∷ (beforeSearch (blockPairs false) (blWidth false) (two 25 0x00000002 26 0x20000002) 7 1 0x00001234, search 0 1 false)
+      ∷ (beforeSearch (blockPairs false) (blWidth false) (two 25 0x00000001 26 0x20000002) 3 1 0x00001234, search 0 1 false)
+      ∷ (beforeSearch (blockPairs false) (blWidth false) (two 25 0x00000001 26 0x20000002) 7 1 0x00001234, Decided (Block 0 0x20001234 0))
+      ∷ (beforeSearch (blockPairs false) (blWidth false) (three 25 0x00000002 27 0x00000001 28 0x30000002) 7 1 0x00001234, Decided (Block 1 0x30001234 0))
       ∷ []
       )
   -- a block decides before the segment, also by its protection
   pub block-before-segment : Hold (
-      (beforeSearch blockPairs blWidth (three 1 0x700C701C 17 0x00000003 18 0x20000001) 2 0 0x00001234, Decided (Block 0 0x20001234 0))
-      ∷ (beforeSearch blockPairs blWidth (three 1 0x700C701C 17 0x00000003 18 0x20000000) 2 0 0x00001234, Decided (BlockProtection 0))
-      ∷ (beforeSearch blockPairs blWidth (three 1 0x000C701C 25 0x00000003 26 0x20000001) 1 1 0x00001234, Decided (Block 0 0x20001234 0))
-      ∷ (beforeSearch blockPairs blWidth (three 1 0x000C701C 25 0x00000003 26 0x20000001) 1 2 0x00001234, Decided (BlockProtection 0))
-      ∷ (beforeSearch blockPairs blWidth (three 1 0x000C701C 31 0x00000003 32 0x20000003) 5 2 0x00001234, Decided (BlockProtection 3))
+      (beforeSearch (blockPairs false) (blWidth false) (three 1 0x700C701C 17 0x00000003 18 0x20000001) 2 0 0x00001234, Decided (Block 0 0x20001234 0))
+      ∷ (beforeSearch (blockPairs false) (blWidth false) (three 1 0x700C701C 17 0x00000003 18 0x20000000) 2 0 0x00001234, Decided (BlockProtection 0))
+      ∷ (beforeSearch (blockPairs false) (blWidth false) (three 1 0x000C701C 25 0x00000003 26 0x20000001) 1 1 0x00001234, Decided (Block 0 0x20001234 0))
+      ∷ (beforeSearch (blockPairs false) (blWidth false) (three 1 0x000C701C 25 0x00000003 26 0x20000001) 1 2 0x00001234, Decided (BlockProtection 0))
+      ∷ (beforeSearch (blockPairs false) (blWidth false) (three 1 0x000C701C 31 0x00000003 32 0x20000003) 5 2 0x00001234, Decided (BlockProtection 3))
       ∷ []
       )
   -- step 3: the segment by address bits 0 to 3; N stops a fetch and no other access; the key goes with the page
   pub segments : Hold (
-      (beforeSearch blockPairs blWidth (one 16 0x100C701C) 3 0 0xF0FFA01B, Decided NoExecute)
-      ∷ (beforeSearch blockPairs blWidth (one 16 0x100C701C) 3 1 0xF0FFA01B, search 0x0C701C 0x0FFA false)
-      ∷ (beforeSearch blockPairs blWidth (one 16 0x100C701C) 3 2 0xF0FFA01B, search 0x0C701C 0x0FFA false)
-      ∷ (beforeSearch blockPairs blWidth (one 16 0x100C701C) 3 0 0x00FFA01B, search 0 0x0FFA false)
-      ∷ (beforeSearch blockPairs blWidth (one 1 0x100C701C) 3 0 0x00FFA01B, Decided NoExecute)
-      ∷ (beforeSearch blockPairs blWidth (one 1 0x60FFFFFF) 3 0 0x0FFFFFFF, search 0xFFFFFF 0xFFFF true)
-      ∷ (beforeSearch blockPairs blWidth (one 1 0x400C701C) 3 1 0x00FFA01B, search 0x0C701C 0x0FFA true)
-      ∷ (beforeSearch blockPairs blWidth (one 1 0x400C701C) 7 1 0x00FFA01B, search 0x0C701C 0x0FFA false)
-      ∷ (beforeSearch blockPairs blWidth (one 1 0x200C701C) 3 1 0x00FFA01B, search 0x0C701C 0x0FFA false)
-      ∷ (beforeSearch blockPairs blWidth (one 1 0x200C701C) 7 1 0x00FFA01B, search 0x0C701C 0x0FFA true)
+      (beforeSearch (blockPairs false) (blWidth false) (one 16 0x100C701C) 3 0 0xF0FFA01B, Decided NoExecute)
+      ∷ (beforeSearch (blockPairs false) (blWidth false) (one 16 0x100C701C) 3 1 0xF0FFA01B, search 0x0C701C 0x0FFA false)
+      ∷ (beforeSearch (blockPairs false) (blWidth false) (one 16 0x100C701C) 3 2 0xF0FFA01B, search 0x0C701C 0x0FFA false)
+      ∷ (beforeSearch (blockPairs false) (blWidth false) (one 16 0x100C701C) 3 0 0x00FFA01B, search 0 0x0FFA false)
+      ∷ (beforeSearch (blockPairs false) (blWidth false) (one 1 0x100C701C) 3 0 0x00FFA01B, Decided NoExecute)
+      ∷ (beforeSearch (blockPairs false) (blWidth false) (one 1 0x60FFFFFF) 3 0 0x0FFFFFFF, search 0xFFFFFF 0xFFFF true)
+      ∷ (beforeSearch (blockPairs false) (blWidth false) (one 1 0x400C701C) 3 1 0x00FFA01B, search 0x0C701C 0x0FFA true)
+      ∷ (beforeSearch (blockPairs false) (blWidth false) (one 1 0x400C701C) 7 1 0x00FFA01B, search 0x0C701C 0x0FFA false)
+      ∷ (beforeSearch (blockPairs false) (blWidth false) (one 1 0x200C701C) 3 1 0x00FFA01B, search 0x0C701C 0x0FFA false)
+      ∷ (beforeSearch (blockPairs false) (blWidth false) (one 1 0x200C701C) 7 1 0x00FFA01B, search 0x0C701C 0x0FFA true)
       ∷ []
       )
   -- each of the sixteen segments, at its first and its last address; and by each address bit alone
   pub sixteen-segments : Hold ((
-    map (λ i. beforeSearch blockPairs blWidth sixteenSegments 3 1 (i * 0x10000000)) below16,
+    map (λ i. beforeSearch (blockPairs false) (blWidth false) sixteenSegments 3 1 (i * 0x10000000)) below16,
     map (λ i. search (0x00A5A500 + i) 0 false) below16,
   )
       ∷ (
-        map (λ i. beforeSearch blockPairs blWidth sixteenSegments 3 1 (i * 0x10000000 + 0x0FFFFFFF)) below16,
+        map (λ i. beforeSearch (blockPairs false) (blWidth false) sixteenSegments 3 1 (i * 0x10000000 + 0x0FFFFFFF)) below16,
         map (λ i. search (0x00A5A500 + i) 0xFFFF false) below16,
       )
       ∷ []

@@ -4,6 +4,7 @@ pub mod decision;
 pub mod operand;
 
 ghost use mathlib.Core.Path.{_≡_};
+ghost use mathlib.Core.Bool.{true};
 ghost use Prim.Native.Nat.{_<_};
 ghost use Rattle.register_words.specs.Block.{blWidth};
 ghost use Rattle.registers.specs.Set.{blockPairs};
@@ -57,9 +58,9 @@ pub struct Answer {
 }
 
 // Step 2 by the block of a pair that covers the address.
-fn block_outcome(words: &[u32; 33], kind: u32, address: u32, pair: usize) -> Outcome
-    requires { ⌜ pair < blockPairs ⌝ }
-    ensures { λ r. ⌜ r ≡ blockOutcome blockPairs blWidth (now (words .entry)) kind address pair ⌝ }
+fn block_outcome(words: &[u32; 49], kind: u32, address: u32, pair: usize) -> Outcome
+    requires { ⌜ pair < blockPairs true ⌝ }
+    ensures { λ r. ⌜ r ≡ blockOutcome (blockPairs true) (blWidth true) (now (words .entry)) kind address pair ⌝ }
 {
     let upper = registers::upper(words, kind != numbers::FETCH, pair);
     let lower = registers::lower(words, kind != numbers::FETCH, pair);
@@ -86,8 +87,8 @@ fn wanted_of(user: bool, segment: u32, address: u32) -> Wanted
 }
 
 // Steps 1 to 3, by the words of the register set: real mode, a block, a fetch with N = 1, or else the page to search for.
-pub fn before_search(words: &[u32; 33], mode: u32, kind: u32, address: u32) -> Early
-    ensures { λ r. ⌜ r ≡ beforeSearch blockPairs blWidth (now (words .entry)) mode kind address ⌝ }
+pub fn before_search(words: &[u32; 49], mode: u32, kind: u32, address: u32) -> Early
+    ensures { λ r. ⌜ r ≡ beforeSearch (blockPairs true) (blWidth true) (now (words .entry)) mode kind address ⌝ }
 {
     if !protection::is_relocated(mode, kind) {
         return Early::Decided(Outcome::Real);

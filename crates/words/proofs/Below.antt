@@ -1,11 +1,13 @@
 -- Laws of tests of the numbers below a bound: every number passes, or the first that does.
-use mathlib.Core.Path.{_≡_, refl, sym, ap, _∙_}
+use mathlib.Core.Path.{_≡_, refl, sym, ap, ap₂, _∙_}
 use mathlib.Core.Bool.{Bool, true, false, cond, _&&_}
 use mathlib.Core.Logic.{⊎-elim}
-use Prim.Native.Nat.{ℕ, zero, suc, _+_, _<_}
+use Prim.Native.Nat.{ℕ, zero, suc, _+_, _<_, _≤_}
 use native.Mathlib.Nat.{not-suc-le-zero}
 use native.Mathlib.Numerals.{add-one}
 use native.Mathlib.Omega.{arith}
+use lib.Dec.{ltb, leb}
+use borrow.Author.Tests.{ltb-true, ltb-false, leb-true, leb-false}
 use Rattle.words.proofs.Tests.{both, three}
 use Rattle.words.specs.Below.{everyBelow, firstBelow}
 
@@ -83,3 +85,53 @@ first-before test (suc n) k h = go (first-before (λ i. test (suc i)) n) (test 0
     go again true e j l = absurd (not-suc-le-zero l)
     go again false e zero l = e
     go again false e (suc j) l = again j (omega arith)
+
+and-true : (a : Bool) → (a && true) ≡ a
+and-true true = refl
+and-true false = refl
+
+-- tests that are the same below n
+pub every-same : (f g : ℕ → Bool) (n : ℕ) → ((k : ℕ) → k < n → f k ≡ g k) → everyBelow n f ≡ everyBelow n g
+unfolding everyBelow
+every-same f g zero same = refl
+every-same f g (suc n) same = ap₂ _&&_ (every-same f g n (λ k l. same k (omega arith))) (same n (omega arith))
+
+pub first-same : (f g : ℕ → Bool) (n : ℕ) → ((k : ℕ) → k < n → f k ≡ g k) → firstBelow n f ≡ firstBelow n g
+unfolding firstBelow
+first-same f g zero same = refl
+first-same f g (suc n) same =
+    ap₂ (λ (t : Bool) (r : ℕ). cond t 0 (suc r)) (same 0 (omega arith)) (first-same (λ i. f (suc i)) (λ i. g (suc i)) n (λ k l. same (suc k) (omega arith)))
+
+-- numbers more that all pass, or that all fail
+pub every-further : (test : ℕ → Bool) (n m : ℕ) → n ≤ m → ((k : ℕ) → n ≤ k → k < m → test k ≡ true) → everyBelow m test ≡ everyBelow n test
+unfolding everyBelow
+every-further test n zero l pass = let z : n ≡ 0 = omega (arith, l) in rw z
+every-further test n (suc m) l pass = go (leb n m) refl (λ k. every-further test n m k (λ i a b. pass i a (omega arith)))
+  where
+    go : (t : Bool) → leb n m ≡ t → (n ≤ m → everyBelow m test ≡ everyBelow n test) → (everyBelow m test && test m) ≡ everyBelow n test
+    go true e again = rw (pass m (leb-true n m e) (omega arith), and-true (everyBelow m test)) (again (leb-true n m e))
+    go false e again = let z : n ≡ suc m = omega (arith, l, leb-false n m e) in rw z
+
+-- the first of n that passes, and the first of m of which the further ones fail: the same, or both none
+pub data FirstOf (n m : ℕ) : ℕ → ℕ → Type 0 where
+  same-first : (j : ℕ) → j < n → FirstOf n m j j
+  none-first : FirstOf n m n m
+
+pub first-further : (f g : ℕ → Bool) (n m : ℕ) → n ≤ m → ((k : ℕ) → k < n → f k ≡ g k) → ((k : ℕ) → n ≤ k → k < m → g k ≡ false)
+    → FirstOf n m (firstBelow n f) (firstBelow m g)
+first-further f g n m l same fail = go (ltb (firstBelow n f) n) refl
+  where
+    failing : (k : ℕ) → k < m → (t : Bool) → ltb k n ≡ t → ((i : ℕ) → i < n → f i ≡ false) → g k ≡ false
+    failing k h true e none = sym (same k (ltb-true k n e)) ∙ none k (ltb-true k n e)
+    failing k h false e none = fail k (ltb-false k n e) h
+
+    go : (t : Bool) → ltb (firstBelow n f) n ≡ t → FirstOf n m (firstBelow n f) (firstBelow m g)
+    go true e =
+        let j-lt = ltb-true (firstBelow n f) n e in
+        let is = first-found g m (firstBelow n f) (omega (arith, j-lt, l)) (sym (same (firstBelow n f) j-lt) ∙ first-passes f n j-lt)
+        (λ k h. sym (same k (omega (arith, h, j-lt))) ∙ first-before f n k h) in
+        rw is (same-first (firstBelow n f) j-lt)
+    go false e =
+        let j-ge = ltb-false (firstBelow n f) n e in
+        let none : (k : ℕ) → k < n → f k ≡ false = λ k h. first-before f n k (omega (arith, h, j-ge)) in
+        rw (first-none f n none, first-none g m (λ k h. failing k h (ltb k n) refl none)) none-first

@@ -45,12 +45,12 @@ static void change_registers(enum left_out flaw)
 {
     uint32_t number = MMU_REGISTER_SEGMENT(below(3)), word = some_vsid() | below(8) << 28, i;
     if (below(4) == 0) {
-        number = MMU_REGISTER_DATA_UPPER(0);
+        number = MMU_REGISTER_DATA_UPPER_LONG(0);
         word = below(2) ? 0x00000003u : 0;
     }
-    word &= number == MMU_REGISTER_DATA_UPPER(0) ? 0xFFFFFFFFu : ~MMU_SEGMENT_T;
+    word &= number == MMU_REGISTER_DATA_UPPER_LONG(0) ? 0xFFFFFFFFu : ~MMU_SEGMENT_T;
     for (i = 0; i < 2; i++)
-        EXPECT(mmu_set_register(cores[i].registers, MMU_REGISTERS_SIZE, number, word) == MMU_DONE);
+        EXPECT(mmu_set_register(cores[i].registers, sizeof cores[i].registers, number, word) == MMU_DONE);
     if (flaw != REGISTERS)
         drop_all(&tlb);
 }
@@ -102,8 +102,9 @@ static int run(enum left_out flaw)
         memset(&cores[i], 0, sizeof cores[i]);
         cores[i].memory = memories[i];
         cores[i].memory_size = SIZE;
-        EXPECT(mmu_set_register(cores[i].registers, MMU_REGISTERS_SIZE, MMU_REGISTER_SDR1, SDR1) == MMU_DONE);
-        EXPECT(mmu_set_register(cores[i].registers, MMU_REGISTERS_SIZE, MMU_REGISTER_DATA_LOWER(0), 0x00040002) == 0);
+        EXPECT(mmu_set_register(cores[i].registers, sizeof cores[i].registers, MMU_REGISTER_SDR1, SDR1) == MMU_DONE);
+        EXPECT(mmu_set_register(cores[i].registers, sizeof cores[i].registers, MMU_REGISTER_DATA_LOWER_LONG(0),
+                                0x00040002) == 0);
     }
     for (call = 0; call < CALLS; call++) {
         uint32_t choice = below(256);

@@ -4,7 +4,7 @@ use std::fmt::Write;
 
 use model::bytes::Model;
 use model::call::{Call, Lengths, Lent};
-use model::registers::{Registers, REGISTER_PAGE};
+use model::registers::{Layout, Side, LONG_PAGE, SHORT_PAGE};
 use model::search::{places, Place};
 use model::words::word_at;
 
@@ -63,12 +63,13 @@ impl<'a> Bench<'a> {
             answer: Region::new(0),
             tally: Tally::default(),
         };
-        bench.registers.lend(REGISTER_PAGE, Edge::End);
+        bench.registers.lend(SHORT_PAGE, Edge::End);
         bench
     }
 
-    pub fn put_registers(&mut self, words: &[u32; 33]) {
-        self.registers.lend(REGISTER_PAGE, Edge::End);
+    /// Lends a register page with these words, as long as they are.
+    pub fn put_registers(&mut self, words: &[u32]) {
+        self.registers.lend(4 * words.len(), Edge::End);
         for (number, word) in words.iter().enumerate() {
             self.registers.write(4 * number, &word.to_be_bytes());
         }
@@ -107,7 +108,7 @@ impl<'a> Bench<'a> {
         let before = self.before(call, lending);
         let expected = self.on_model(call, lending);
         let got = self.on_subject(call, lending);
-        self.tally.count(call, expected);
+        self.tally.count(call, expected, self.registers.length());
         if expected != got {
             let text = format!("result number\n  expected {expected}\n  got      {got}");
             return Err(self.difference(call, lending, &before, &text));
@@ -200,7 +201,7 @@ fn byte_difference(name: &str, region: &Region) -> Option<String> {
             let _ = write!(text, "\ngroup {:#x} entry {}", at / 64, at / 8 % 8);
             entry..(entry + 8).min(region.length())
         }
-        _ => 0..region.length().min(REGISTER_PAGE),
+        _ => 0..region.length().min(LONG_PAGE),
     };
     let (expected, got) = (&region.bytes()[shown.clone()], &region.subject_bytes()[shown]);
     let _ = write!(text, "\n  expected {expected:02X?}\n  got      {got:02X?}");
@@ -208,14 +209,15 @@ fn byte_difference(name: &str, region: &Region) -> Option<String> {
 }
 
 fn write_registers(text: &mut String, page: &[u8]) {
-    if Registers::read(page).is_none() {
-        return;
-    }
+    let Some(layout) = Layout::of_length(page.len()) else { return };
+    let [instruction, data] =
+        [Side::Instruction, Side::Data].map(|side| layout.first_register(side));
+    let pairs = layout.pairs;
     for (name, words) in [
         ("SDR1", 0..1),
         ("segments", 1..17),
-        ("instruction blocks", 17..25),
-        ("data blocks", 25..33),
+        ("instruction blocks", instruction..instruction + 2 * pairs),
+        ("data blocks", data..data + 2 * pairs),
     ] {
         let words: Vec<_> =
             words.map(|number| format!("{:08X}", word_at(page, 4 * number))).collect();

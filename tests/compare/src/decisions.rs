@@ -5,7 +5,7 @@ use std::collections::BTreeMap;
 use model::bytes::End;
 use model::call::{FETCH, LOAD, STORE};
 use model::record::{self, has_place};
-use model::registers::{Registers, Side};
+use model::registers::{Layout, Registers, Side};
 use model::translation::Outcome;
 
 /// Which part of which operand a record is of.
@@ -21,8 +21,8 @@ enum Shown {
 pub struct Decisions {
     /// By rule, whether it is done, kind and part.
     rules: BTreeMap<(u32, bool, u32, Shown), u64>,
-    /// By kind, number of the block and whether it is done.
-    blocks: BTreeMap<(u32, u32, bool), u64>,
+    /// By the page's length, kind, number of the block and whether it is done.
+    blocks: BTreeMap<(usize, u32, u32, bool), u64>,
     /// By rule, key × 4 + PP and whether it is the user's.
     keys: BTreeMap<(u32, u32, bool), u64>,
     /// By rule, primary or secondary group, and entry.
@@ -43,7 +43,10 @@ impl Decisions {
         };
         *self.rules.entry((rule, done, part.kind, shown)).or_default() += 1;
         match rule {
-            1 => *self.blocks.entry((part.kind, detail, done)).or_default() += 1,
+            1 => {
+                let length = set.layout.length();
+                *self.blocks.entry((length, part.kind, detail, done)).or_default() += 1
+            }
             5 | 6 => *self.keys.entry((rule, detail, part.in_problem_state())).or_default() += 1,
             _ => {}
         }
@@ -97,14 +100,20 @@ impl Decisions {
     }
 
     fn missing_blocks(&self) -> Vec<String> {
-        let every = [FETCH, LOAD, STORE].into_iter().flat_map(|kind| {
-            (0..4).flat_map(move |pair| [(kind, pair, true), (kind, pair, false)])
+        let pairs = Layout::BOTH
+            .into_iter()
+            .flat_map(|layout| (0..layout.pairs as u32).map(move |pair| (layout.length(), pair)));
+        let every = pairs.flat_map(|(length, pair)| {
+            let kinds = [FETCH, LOAD, STORE].into_iter();
+            kinds.flat_map(move |kind| [true, false].map(|done| (length, kind, pair, done)))
         });
         let unmet = every.filter(|key| !self.blocks.contains_key(key));
         unmet
-            .map(|(kind, pair, done)| {
+            .map(|(length, kind, pair, done)| {
                 let side = Side::of_kind(kind);
-                format!("no access of kind {kind} by block {pair}, {side:?}, done: {done}")
+                format!(
+                    "no access of kind {kind} by block {pair}, {side:?}, of {length} bytes, done: {done}"
+                )
             })
             .collect()
     }

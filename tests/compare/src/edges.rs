@@ -2,6 +2,7 @@
 //! sides; and every two ends that neighbouring pages can have.
 
 use model::call::{Access, Call, Page, FETCH, LOAD, STORE};
+use model::registers::{Layout, Side};
 use model::search::{group_numbers, ENTRY, GROUP};
 
 use crate::bench::{Bench, Difference, Lending};
@@ -76,8 +77,10 @@ const PAGE_EDGES: [u32; 4] = [0x00FF_B000, 0x0020_0000, 0x5000_0000, 0x0000_0000
 
 pub fn run(subject: &dyn Machine, _factor: u32) -> Result<Tally, Difference> {
     let mut bench = Bench::new(subject, 65_536, 0);
-    for scene in &SCENES {
-        every_length(&mut bench, scene)?;
+    for layout in Layout::BOTH {
+        for scene in &SCENES {
+            every_length(&mut bench, layout, scene)?;
+        }
     }
     for edge in PAGE_EDGES {
         for before in PAGES {
@@ -94,8 +97,8 @@ pub fn run(subject: &dyn Machine, _factor: u32) -> Result<Tally, Difference> {
 }
 
 /// Lengths 0 to past the longest from every byte up to as far before the edge, the kinds in turn.
-fn every_length(bench: &mut Bench, scene: &Scene) -> Result<(), Difference> {
-    let words = registers(scene.blocks, 0);
+fn every_length(bench: &mut Bench, layout: Layout, scene: &Scene) -> Result<(), Difference> {
+    let words = registers(layout, scene.blocks, 0);
     bench.put_registers(&words);
     for before in 0..=PAST_LONGEST {
         for length in (0..=PAST_LONGEST).chain(HIGH_BITS) {
@@ -112,7 +115,7 @@ fn every_length(bench: &mut Bench, scene: &Scene) -> Result<(), Difference> {
 fn every_end(bench: &mut Bench, edge: u32, seconds: [&[u32]; 2]) -> Result<(), Difference> {
     let segments = if edge % (1 << 28) == 0 { 2 } else { 1 };
     for keys in 0..1 << (3 * segments) {
-        let words = registers(NO_BLOCKS, keys);
+        let words = registers(Layout::SHORT, NO_BLOCKS, keys);
         bench.put_registers(&words);
         for mode in [SUPERVISOR, USER] {
             for kind in [FETCH, LOAD, STORE] {
@@ -124,17 +127,17 @@ fn every_end(bench: &mut Bench, edge: u32, seconds: [&[u32]; 2]) -> Result<(), D
     Ok(())
 }
 
-/// Sixteen VSIDs, Ks, Kp and N of the even segments and, three bits higher, of the odd ones; blocks.
-fn registers(blocks: &[[u32; 2]], keys: u32) -> Words {
-    let mut words = [0; 33];
+/// Sixteen VSIDs, Ks, Kp and N of the even segments and, three bits higher, of the odd ones; blocks in the last pairs.
+fn registers(layout: Layout, blocks: &[[u32; 2]], keys: u32) -> Words {
+    let mut words = Words::zero(layout);
     words[0] = SDR1;
     for segment in 0..16 {
         let keys = keys >> (3 * (segment % 2)) & 0b111;
         words[1 + segment] = keys << 28 | 0x0C_701C + 0x111 * segment as u32;
     }
-    for (pair, block) in blocks.iter().enumerate() {
-        for side in [17, 25] {
-            words[side + 2 * pair..][..2].copy_from_slice(block);
+    for (number, &block) in blocks.iter().enumerate() {
+        for side in [Side::Instruction, Side::Data] {
+            words.put_pair(side, layout.pairs - 1 - number, block);
         }
     }
     words

@@ -1,8 +1,9 @@
 //! Complete small tables: every mode, kind, key, N, PP and WIMG of a page, the same of a block, every
-//! two places of a page's matches, every choice of free entries among its sixteen, and every bit of the
-//! register words.
+//! two places of a page's matches, every choice of free entries among its sixteen, every BL, every two
+//! block pairs, and every bit of the register words, of both lengths of the register page.
 
 use model::call::{Access, Call, Page};
+use model::registers::{Layout, Side};
 use model::search::{group_numbers, ENTRY, GROUP};
 
 use crate::bench::{Bench, Difference, Lending};
@@ -10,7 +11,7 @@ use crate::machine::Machine;
 use crate::random::Random;
 use crate::region::Edge;
 use crate::scenes::groups::matching_word;
-use crate::scenes::registers;
+use crate::scenes::registers::{self, Words};
 use crate::tally::Tally;
 
 const SDR1: u32 = 0x0F98_0000;
@@ -25,7 +26,9 @@ pub fn run(subject: &dyn Machine, _factor: u32) -> Result<Tally, Difference> {
             bench.lend_answer(&access);
             by_page(&mut bench, &access)?;
             by_places(&mut bench, &access, &SOME_WORDS)?;
-            by_block(&mut bench, &access)?;
+            for layout in Layout::BOTH {
+                by_block(&mut bench, layout, &access)?;
+            }
         }
     }
     duplicates(&mut bench)?;
@@ -33,14 +36,18 @@ pub fn run(subject: &dyn Machine, _factor: u32) -> Result<Tally, Difference> {
     one_free_entry(&mut bench)?;
     sdr1_words(&mut bench)?;
     block_lengths(&mut bench)?;
-    single_bits(&mut bench)?;
+    long_block_lengths(&mut bench)?;
+    for layout in Layout::BOTH {
+        every_two_pairs(&mut bench, layout)?;
+        single_bits(&mut bench, layout)?;
+    }
     Ok(bench.tally)
 }
 
 /// Ks, Kp and N by WIMG, marks and PP, in either group, at an entry that goes with marks and bit 29.
 fn by_page(bench: &mut Bench, access: &Call) -> Result<(), Difference> {
     let page = Page::of_address(VSID, ADDRESS);
-    let mut words = [0; 33];
+    let mut words = Words::zero(Layout::SHORT);
     words[0] = SDR1;
     for keys in 0..8 {
         words[1] = keys << 28 | VSID;
@@ -134,7 +141,7 @@ fn one_free_entry(bench: &mut Bench) -> Result<(), Difference> {
 
 /// SDR1 and the segment of the page; every block is off.
 fn put_registers(bench: &mut Bench) {
-    let mut words = [0; 33];
+    let mut words = Words::zero(Layout::SHORT);
     words[0] = SDR1;
     words[1] = VSID;
     bench.put_registers(&words);
@@ -196,15 +203,18 @@ fn by_places(bench: &mut Bench, call: &Call, others: &[u32]) -> Result<(), Diffe
     Ok(())
 }
 
-/// A block of either side by its V bits, WIMG and PP; some of these are refused.
-fn by_block(bench: &mut Bench, access: &Call) -> Result<(), Difference> {
-    for number in (17..33).step_by(2) {
+const SIDES: [Side; 2] = [Side::Instruction, Side::Data];
+
+/// Each block of either side by its V bits, WIMG and PP; some of these are refused.
+fn by_block(bench: &mut Bench, layout: Layout, access: &Call) -> Result<(), Difference> {
+    for (side, pair) in SIDES.into_iter().flat_map(|side| (0..layout.pairs).map(move |p| (side, p)))
+    {
         for low in 0..0x100 {
-            let mut words = [0; 33];
+            let mut words = Words::zero(layout);
             words[0] = SDR1;
             words[1] = VSID;
-            words[number] = 0x00FE_0000 | low >> 6;
-            words[number + 1] = 0x1234_0000 | (low & 0x3C) << 1 | low & 3;
+            let lower = 0x1234_0000 | (low & 0x3C) << 1 | low & 3;
+            words.put_pair(side, pair, [0x00FE_0000 | low >> 6, lower]);
             bench.put_registers(&words);
             bench.compare(access, Lending::Table)?;
         }
@@ -223,18 +233,13 @@ fn sdr1_words(bench: &mut Bench) -> Result<(), Difference> {
     Ok(())
 }
 
-/// Every BL of an instruction and a data block, alone and with each bit of either start.
+/// Every BL of an instruction and a data block of a short page, alone and with each bit of either start.
 fn block_lengths(bench: &mut Bench) -> Result<(), Difference> {
-    for number in [17, 25] {
+    for side in SIDES {
         for length in 0..0x800 {
             for bit in 0..15 {
-                for (start, physical) in [(0, 0), (0x2_0000 << bit, 0), (0, 0x2_0000 << bit)] {
-                    let mut words = [0; 33];
-                    words[0] = SDR1;
-                    words[number] = start | length << 2 | 0b11;
-                    words[number + 1] = physical;
-                    bench.put_registers(&words);
-                    bench.compare(&Call::Check, Lending::Table)?;
+                for starts in [[0, 0], [0x2_0000 << bit, 0], [0, 0x2_0000 << bit]] {
+                    check_block(bench, Layout::SHORT, side, 0, length, starts)?;
                 }
             }
         }
@@ -242,19 +247,107 @@ fn block_lengths(bench: &mut Bench) -> Result<(), Difference> {
     Ok(())
 }
 
-/// Each bit of each register word turned over, in pages that keep every rule.
-fn single_bits(bench: &mut Bench) -> Result<(), Difference> {
+/// Every BL of a long page, the pairs in turn, alone and with one bit of either start; with each bit where BL is
+/// ones only at its low end. On a short page the same upper words, whose bits 15 to 18 are refused.
+fn long_block_lengths(bench: &mut Bench) -> Result<(), Difference> {
+    for side in SIDES {
+        for length in 0..0x8000u32 {
+            let every = (length + 1).is_power_of_two();
+            for bit in (0..15).filter(|&bit| every || bit == length % 15) {
+                for starts in [[0, 0], [0x2_0000 << bit, 0], [0, 0x2_0000 << bit]] {
+                    let pair = (length % 8) as usize;
+                    check_block(bench, Layout::LONG, side, pair, length, starts)?;
+                }
+            }
+            check_block(bench, Layout::SHORT, side, (length % 4) as usize, length, [0, 0])?;
+        }
+    }
+    Ok(())
+}
+
+/// A check of a page with one block on.
+fn check_block(
+    bench: &mut Bench,
+    layout: Layout,
+    side: Side,
+    pair: usize,
+    length: u32,
+    [start, physical]: [u32; 2],
+) -> Result<(), Difference> {
+    let mut words = Words::zero(layout);
+    words[0] = SDR1;
+    words.put_pair(side, pair, [start | length << 2 | 0b11, physical]);
+    bench.put_registers(&words);
+    bench.compare(&Call::Check, Lending::Table).map(|_| ())
+}
+
+/// Every two pairs of a side, of every two lengths, at one address, as neighbours and far apart, with V bits in
+/// common and without.
+fn every_two_pairs(bench: &mut Bench, layout: Layout) -> Result<(), Difference> {
+    let most = if layout.is_long() { 15 } else { 11 };
+    for side in SIDES {
+        for second in 1..layout.pairs {
+            for first in 0..second {
+                for lengths in (0..=most).flat_map(|one| (0..=most).map(move |other| [one, other]))
+                {
+                    two_pairs(bench, layout, side, [first, second], lengths)?;
+                }
+            }
+        }
+    }
+    Ok(())
+}
+
+/// Two blocks with BL of so many ones.
+fn two_pairs(
+    bench: &mut Bench,
+    layout: Layout,
+    side: Side,
+    pairs: [usize; 2],
+    ones: [u32; 2],
+) -> Result<(), Difference> {
+    let bl = ones.map(|ones| (1u32 << ones) - 1);
+    let wider = bl[0].max(bl[1]);
+    for (start, valid) in [
+        (0, [0b11, 0b11]),
+        (0, [0b01, 0b11]),
+        (0, [0b10, 0b01]),
+        (wider, [0b11, 0b11]),
+        (wider + 1, [0b11, 0b11]),
+        (0x4000, [0b11, 0b10]),
+    ] {
+        let starts = [0, start & 0x7FFF & !bl[1]];
+        let mut words = Words::zero(layout);
+        words[0] = SDR1;
+        for number in 0..2 {
+            let upper = starts[number] << 17 | bl[number] << 2 | valid[number];
+            words.put_pair(side, pairs[number], [upper, 0]);
+        }
+        bench.put_registers(&words);
+        bench.compare(&Call::Check, Lending::Table)?;
+    }
+    Ok(())
+}
+
+/// Each bit of each register word turned over, in pages that keep every rule; and the first numbers past the last.
+fn single_bits(bench: &mut Bench, layout: Layout) -> Result<(), Difference> {
     let mut random = Random::new(0xB175);
     for _ in 0..20 {
-        let good = registers::well_formed(&mut random, SDR1);
-        for number in 0..33 {
+        let good = registers::well_formed(&mut random, layout, SDR1);
+        for number in 0..layout.words + 20 {
             for bit in 0..32 {
                 let mut words = good;
-                words[number] ^= 1 << bit;
+                let word = match words.get_mut(number) {
+                    Some(word) => {
+                        *word ^= 1 << bit;
+                        *word
+                    }
+                    None => 1 << bit,
+                };
                 bench.put_registers(&words);
                 bench.compare(&Call::Check, Lending::Table)?;
                 bench.put_registers(&good);
-                let call = Call::SetRegister { number: number as u32, word: words[number] };
+                let call = Call::SetRegister { number: number as u32, word };
                 bench.compare(&call, Lending::Table)?;
             }
         }

@@ -6,7 +6,7 @@ use model::flaw::{Flaw, MapFlaw, RecordFlaw};
 use crate::bench::Difference;
 use crate::lists::{self, Judges};
 use crate::tally::Tally;
-use crate::{edges, exhaustive, lengths, packing, singles, Section};
+use crate::{edges, exhaustive, lengths, packing, singles, widened, Section};
 
 /// The comparisons a wrong model goes through, as the library does, until one finds it.
 const SECTIONS: [Section; 5] =
@@ -18,6 +18,7 @@ pub struct Found {
     pub models: usize,
     pub by_map: usize,
     pub by_edges: usize,
+    pub by_widening: usize,
     pub maps: usize,
     /// Those that the finite map, which knows no place, rightly lets pass.
     pub left_to_table: usize,
@@ -41,6 +42,7 @@ pub fn run(factor: u32) -> Result<Found, Difference> {
     by_the_comparison(&mut found, factor)?;
     by_the_map_alone(&mut found, factor)?;
     at_page_edges(&mut found, factor)?;
+    by_widening_alone(&mut found, factor)?;
     of_the_map(&mut found, factor)?;
     left_to_the_table(&mut found, factor)?;
     Ok(found)
@@ -51,7 +53,7 @@ fn by_the_comparison(found: &mut Found, factor: u32) -> Result<(), Difference> {
         [&RecordFlaw::IN_MAP[..], &RecordFlaw::IN_TABLE, &RecordFlaw::OF_PLACE].concat();
     let of_record = of_record.into_iter().map(Flaw::Record);
     let of_pages = Flaw::WITHIN_PAGE.into_iter().chain(Flaw::GAPS).chain(Flaw::DUPLICATES);
-    let of_calls = of_pages.chain(Flaw::OPERANDS).chain(Flaw::ORDERS);
+    let of_calls = of_pages.chain(Flaw::OPERANDS).chain(Flaw::LENGTHS).chain(Flaw::ORDERS);
     for flaw in of_calls.chain(of_record) {
         let model = Model::with(flaw);
         let outcome =
@@ -64,7 +66,8 @@ fn by_the_comparison(found: &mut Found, factor: u32) -> Result<(), Difference> {
 
 fn by_the_map_alone(found: &mut Found, factor: u32) -> Result<(), Difference> {
     let of_record = RecordFlaw::IN_MAP.into_iter().map(Flaw::Record);
-    for flaw in Flaw::AFTER_CLEAR.into_iter().chain(Flaw::OPERANDS).chain(of_record) {
+    let of_calls = Flaw::AFTER_CLEAR.into_iter().chain(Flaw::OPERANDS);
+    for flaw in of_calls.chain(Flaw::LENGTHS_IN_LISTS).chain(of_record) {
         let model = Model::with(flaw);
         let outcome = lists::run_with(&model, factor, Judges::MapAlone, None);
         found.calls(outcome, &format!("{flaw:?} by the finite map"))?;
@@ -79,6 +82,17 @@ fn at_page_edges(found: &mut Found, factor: u32) -> Result<(), Difference> {
         let outcome = edges::run(&Model::with(flaw), factor);
         found.calls(outcome, &format!("{flaw:?} at page edges"))?;
         found.by_edges += 1;
+    }
+    Ok(())
+}
+
+/// A short page held to the same page widened, without the model.
+fn by_widening_alone(found: &mut Found, factor: u32) -> Result<(), Difference> {
+    for flaw in Flaw::WIDENED {
+        let alone = widened::Judges::StatementAlone;
+        let outcome = widened::run_with(&Model::with(flaw), factor, alone);
+        found.calls(outcome, &format!("{flaw:?} by the widened page"))?;
+        found.by_widening += 1;
     }
     Ok(())
 }

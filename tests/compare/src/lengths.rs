@@ -5,7 +5,7 @@ use std::ops::RangeInclusive;
 
 use model::call::{Access, Call, Page};
 use model::entry::Fields;
-use model::registers::REGISTER_PAGE;
+use model::registers::{LONG_PAGE, SHORT_PAGE};
 
 use crate::bench::{Bench, Difference, Lending};
 use crate::machine::Machine;
@@ -15,6 +15,8 @@ use crate::scenes::groups;
 use crate::tally::Tally;
 
 const RIGHT: usize = 65_536;
+/// The longest slice that is lent as a register page.
+const LONGEST_PAGE: usize = 260;
 const SDR1: u32 = 0x0F98_0000;
 const PAGE: Page = Page { vsid: 0x0C_701C, page_index: 0x0FFA };
 
@@ -36,8 +38,11 @@ fn calls() -> Vec<Call> {
     let fields = |pp| Fields { v: 1, pp, ..Fields::default() };
     vec![
         Call::Check,
-        Call::SetRegister { number: 32, word: 5 },
-        Call::SetRegister { number: 33, word: 5 },
+        Call::SetRegister { number: 16, word: 5 },
+        Call::SetRegister { number: 32, word: 4 },
+        Call::SetRegister { number: 33, word: 4 },
+        Call::SetRegister { number: 48, word: 4 },
+        Call::SetRegister { number: 49, word: 4 },
         Call::Clear { sdr1 },
         Call::Clear { sdr1: sdr1 | 5 },
         map(elsewhere, 2),
@@ -87,20 +92,22 @@ impl Stage<'_, '_> {
         let answer = self.call.answer_length().unwrap_or(0);
         if self.call.is_lent_table() {
             for table in table_lengths() {
-                self.one(REGISTER_PAGE, table, answer)?;
+                self.one(SHORT_PAGE, table, answer)?;
+                self.one(LONG_PAGE, table, answer)?;
             }
-            self.one(REGISTER_PAGE, 7, answer + 1)?;
+            self.one(SHORT_PAGE, 7, answer + 1)?;
         }
         if self.call.is_lent_registers() {
-            for registers in 0..=REGISTER_PAGE + 12 {
+            for registers in 0..=LONGEST_PAGE {
                 self.one(registers, RIGHT, answer)?;
                 self.one(registers, 0, answer + 1)?;
             }
         }
         if self.call.answer_length().is_some() {
             for answer in 0..=answer + 16 {
-                self.one(REGISTER_PAGE, RIGHT, answer)?;
-                self.one(REGISTER_PAGE, 0, answer)?;
+                self.one(SHORT_PAGE, RIGHT, answer)?;
+                self.one(LONG_PAGE, RIGHT, answer)?;
+                self.one(SHORT_PAGE, 0, answer)?;
                 self.one(0, 0, answer)?;
             }
         }
@@ -121,7 +128,7 @@ impl Stage<'_, '_> {
 
     /// A page under which every access of the list is done, as far as it is lent.
     fn put_registers(&mut self, length: usize) {
-        let mut words = [0; 36];
+        let mut words = [0; LONGEST_PAGE / 4];
         words[0] = SDR1;
         words[1] = PAGE.vsid;
         let bytes: Vec<u8> = words.iter().flat_map(|word| word.to_be_bytes()).collect();

@@ -43,6 +43,7 @@ pub fn run(subject: &dyn Machine, factor: u32) -> Result<Tally, Difference> {
     let mut missing = tally.operands.missing_in_lists();
     missing.extend(tally.decisions.missing());
     missing.extend(tally.gaps.missing_in_lists());
+    missing.extend(tally.pages.missing_in_lists());
     match missing.first() {
         None => Ok(tally),
         Some(missing) => Err(Difference::new(format!("the lists were too short: {missing}"))),
@@ -226,7 +227,8 @@ impl Stage<'_> {
     /// Registers with the VSID in the segment of the address, and one of the list's in the next.
     fn put_registers(&mut self, access: &Access, vsid: u32) {
         let random = &mut self.random;
-        let mut words = registers::well_formed(random, self.sdr1);
+        let layout = registers::layout(random);
+        let mut words = registers::well_formed(random, layout, self.sdr1);
         let segment = (access.address >> 28) as usize;
         let in_next = self.neighbours.iter().filter(|page| page.page_index == 0);
         let in_next: Vec<u32> = in_next.map(|page| page.vsid).collect();
@@ -246,7 +248,7 @@ impl Stage<'_> {
         let random = &mut self.random;
         match random.below(6) {
             0 => {
-                let call = arguments::spoiled(random, call);
+                let call = arguments::spoiled(random, call, 0);
                 self.perform(call, Lending::Table)
             }
             5 => {
@@ -280,11 +282,12 @@ impl Stage<'_> {
         let random = &mut self.random;
         let sdr1 = random.word();
         let length = random.pick(&[0, 4, 8, 12, 15, 17, 20, 32, 47, 49, 64]);
+        let page = random.pick(&[0, 4, 64, 131, 133, 136, 160, 164, 192, 195, 197, 200]);
         let lending = random.pick(&[Lending::Table, Lending::Other]);
         let no_registers = random.once_in(2);
         self.lend_other();
         match (call, no_registers) {
-            (Call::Access(_), true) => self.bench.registers.lend(length, Edge::End),
+            (Call::Access(_), true) => self.bench.registers.lend(page, Edge::End),
             _ => self.bench.answer.lend(length, Edge::End),
         }
         self.perform_under(call, sdr1, lending)
@@ -301,7 +304,8 @@ impl Stage<'_> {
     fn refused_by_registers(&mut self, call: Call) -> Result<(), Difference> {
         if let Call::Access(_) = call {
             let random = &mut self.random;
-            let mut words = registers::well_formed(random, self.sdr1);
+            let layout = registers::layout(random);
+            let mut words = registers::well_formed(random, layout, self.sdr1);
             match random.below(3) {
                 0 => registers::spoil_block(random, &mut words),
                 1 => registers::share_blocks(random, &mut words),

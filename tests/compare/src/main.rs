@@ -17,6 +17,7 @@ mod lists;
 mod machine;
 mod operands;
 mod packing;
+mod pages;
 mod random;
 mod region;
 mod scenes;
@@ -24,6 +25,7 @@ mod singles;
 mod tally;
 mod vectors;
 mod watch;
+mod widened;
 
 use std::process::{Command, ExitCode};
 
@@ -39,11 +41,12 @@ use tally::Tally;
 /// A comparison of some machine with the model, its random part so many times as long.
 type Section = fn(&dyn Machine, u32) -> Result<Tally, Difference>;
 
-const SECTIONS: [(&str, Empty, Section); 8] = [
+const SECTIONS: [(&str, Empty, Section); 9] = [
     ("recorded accesses", Empty::Null, vectors::run),
     ("packing", Empty::Null, packing::run),
     ("complete tables", Empty::Null, exhaustive::run),
     ("operands at page edges", Empty::Null, edges::run),
+    ("short and widened pages", Empty::Null, widened::run),
     ("lengths, empty as NULL", Empty::Null, lengths::run),
     ("lengths, empty as lent", Empty::AsLent, lengths::run),
     ("single calls", Empty::Null, singles::run),
@@ -101,11 +104,13 @@ fn test_the_tests(factor: u32) -> Result<(), Difference> {
     println!("arrangements: {with} exist, {without} do not, as by trying all");
     let found = flaws::run(factor)?;
     println!(
-        "wrong models found: {}, {} of them by the finite map alone, {} at page edges alone; \
+        "wrong models found: {}, {} of them by the finite map alone, {} at page edges alone, \
+         {} by a widened page alone; \
          wrong maps found: {}; none took more than {} calls; {} wrong models only the table shows",
         found.models,
         found.by_map,
         found.by_edges,
+        found.by_widening,
         found.maps,
         found.most_calls,
         found.left_to_table

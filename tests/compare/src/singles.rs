@@ -104,7 +104,7 @@ impl Stage<'_> {
         }
         self.plant(&call, &words, lending);
         if defects.contains(&Defect::Argument) {
-            call = arguments::spoiled(&mut self.random, call);
+            call = arguments::spoiled(&mut self.random, call, words.len());
         }
         if defects.contains(&Defect::OperandLength) {
             call = arguments::with_spoiled_length(&mut self.random, call);
@@ -148,10 +148,12 @@ impl Stage<'_> {
 
     fn registers(&mut self, sdr1: u32, defects: &[Defect]) -> Words {
         let random = &mut self.random;
-        let mut words = registers::well_formed(random, sdr1);
+        let layout = registers::layout(random);
+        let mut words = registers::well_formed(random, layout, sdr1);
         match random.below(16) {
             0..=1 => registers::overlay(random, &mut words),
             2..=3 => registers::adjoin(random, &mut words),
+            4 => registers::whole(random, &mut words),
             _ => {}
         }
         for defect in defects {
@@ -196,7 +198,7 @@ impl Stage<'_> {
     fn set_register(&mut self, words: Words, defects: &[Defect]) -> Call {
         let random = &mut self.random;
         let sdr1 = arguments::sdr1(random, self.ones);
-        let good = registers::well_formed(random, sdr1);
+        let good = registers::well_formed(random, words.layout, sdr1);
         let mut spoiled = good;
         if defects.contains(&Defect::Sdr1) {
             spoiled[0] = words[0];
@@ -204,9 +206,10 @@ impl Stage<'_> {
         for defect in defects {
             defect.spoil(random, &mut spoiled);
         }
-        let differing: Vec<usize> = (0..33).filter(|&word| spoiled[word] != good[word]).collect();
+        let all = 0..words.len();
+        let differing: Vec<usize> = all.filter(|&word| spoiled[word] != good[word]).collect();
         let number = match differing.is_empty() || random.once_in(4) {
-            true => random.index(33),
+            true => random.index(words.len()),
             false => random.pick(&differing),
         };
         let (lent, word) = match random.below(4) {
@@ -253,7 +256,8 @@ impl Stage<'_> {
         let random = &mut self.random;
         let length = random.index(72);
         if call.is_lent_registers() && (call.answer_length().is_none() || random.once_in(3)) {
-            let length = random.pick(&[0, 3, 4, 128, 131, 133, 136, length]);
+            let length =
+                random.pick(&[0, 3, 4, 128, 131, 133, 136, 160, 164, 192, 195, 197, 200, length]);
             self.bench.registers.lend(length, Edge::End);
         } else if call.answer_length().is_some() {
             self.bench.answer.lend(length, Edge::End);

@@ -13,6 +13,7 @@ use crate::decisions::Decisions;
 use crate::duplicates::Duplicates;
 use crate::gaps::Gaps;
 use crate::operands::Operands;
+use crate::pages::Pages;
 
 /// Counts of calls by what they met.
 #[derive(Default)]
@@ -30,12 +31,15 @@ pub struct Tally {
     pub decisions: Decisions,
     pub duplicates: Duplicates,
     pub gaps: Gaps,
+    pub pages: Pages,
 }
 
 impl Tally {
-    pub fn count(&mut self, call: &Call, number: u32) {
+    /// A call that was lent a register page of this length, if any, and its result.
+    pub fn count(&mut self, call: &Call, number: u32, registers: usize) {
         self.calls += 1;
         *self.numbers.entry((call.name(), number)).or_default() += 1;
+        self.pages.count(call, number, registers);
     }
 
     pub fn numbers(&self) -> &BTreeMap<(&'static str, u32), u64> {
@@ -63,6 +67,7 @@ impl Tally {
     ) {
         let mut broken = model.broken(call, registers, lengths);
         let refused = !broken.is_empty();
+        self.pages.note(call, registers, broken.first().copied());
         if broken.iter().all(|number| [11, 6, 12, 5, 1].contains(number)) {
             broken.extend(self.note_search(call, registers, table));
         }
@@ -140,6 +145,7 @@ impl Tally {
         missing.extend(self.decisions.missing());
         missing.extend(self.duplicates.missing());
         missing.extend(self.gaps.missing());
+        missing.extend(self.pages.missing());
         missing
     }
 }

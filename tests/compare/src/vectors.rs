@@ -2,7 +2,7 @@
 
 use model::bytes::Model;
 use model::call::{Access, Call};
-use model::registers::{table_length, REGISTER_PAGE};
+use model::registers::{table_length, SHORT_PAGE};
 use model::words::word_at;
 
 use crate::bench::{Before, Bench, Difference, Lending};
@@ -114,7 +114,7 @@ fn parse(file: &'static str, line: &str) -> Vector {
 }
 
 fn bytes(text: &str) -> Vec<u8> {
-    assert_eq!(text.len(), 2 * REGISTER_PAGE);
+    assert_eq!(text.len(), 2 * SHORT_PAGE);
     let digits = |at| &text[at..at + 2];
     let byte = |at| u8::from_str_radix(digits(at), 16).expect("hexadecimal");
     (0..text.len()).step_by(2).map(byte).collect()

@@ -191,7 +191,8 @@ impl Model {
     }
 
     fn access(&self, lent: Lent, access: Access) -> u32 {
-        let registers = Registers::read(lent.registers).expect("the length was tested");
+        let registers =
+            Registers::read_wrongly(self.flaw, lent.registers).expect("the length was tested");
         let ends = self.ends(&registers, access, lent.table);
         let told: Vec<_> = ends.iter().map(|end| (end.part, end.outcome)).collect();
         let words = operand::answer(self.flaw, access, &told);

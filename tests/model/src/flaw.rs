@@ -157,6 +157,50 @@ pub enum Flaw {
     ChangedInFirstOnly,
     /// A mark writes the whole group as it was lent.
     MarkWritesGroup,
+    /// The long page's data pairs begin at word 25.
+    DataPairsAtWord25,
+    /// On a short page bits 15 to 18 of a pair that is on are not looked at.
+    ShortBitsLetThrough,
+    /// On a short page BL has 15 bits.
+    ShortBlOfFifteen,
+    /// On a short page bits 15 to 18 are refused in a pair that is off too.
+    OffPairBitsRefused,
+    /// A short page has eight pairs a side, from word 17 and word 25 on.
+    ShortHasEight,
+    /// On a long page BL has 11 bits, and bits 15 to 18 are not looked at.
+    LongBlOfEleven,
+    /// On a long page bits 15 to 18 of a pair that is on must be zero.
+    LongBitsRefused,
+    /// A long page whose pairs 4 to 7 are off has BL of 11 bits.
+    LimitByContents,
+    /// Pairs 3 and 4 of a side may share an address.
+    ThreeAndFourNotCompared,
+    /// Pairs 0 to 3 of a side may share an address with pairs 4 to 7.
+    HalvesNotCompared,
+    /// Neither shape nor addresses of pair 7 are judged.
+    LastPairUnchecked,
+    /// Neither shape nor addresses of pairs 4 to 7 are judged.
+    UpperPairsUnchecked,
+    /// Pair 7 holds no address.
+    LastPairNeverCovers,
+    /// Pairs 4 to 7 hold no address.
+    UpperPairsNeverCover,
+    /// A block of 4 GB may share its addresses.
+    WholeSharesNothing,
+    /// Number 33 is taken on a short page.
+    Number33OnShort,
+    /// Number 48 is refused on a long page.
+    Number48Refused,
+    /// Numbers past 32 are refused on a long page.
+    LongNumbersRefused,
+    /// Numbers up to 48 are taken on a short page.
+    AnyPageTakes48,
+    /// A page of 164 bytes is taken, with six pairs a side.
+    Length164Taken,
+    /// A page of 132 to 195 bytes is taken for a short one.
+    BetweenTakenAsShort,
+    /// A page of 196 bytes is refused.
+    LongRefused,
     /// The second refusal is tested before the first.
     Swapped(u32, u32),
     /// The rule that decided is shown wrong.
@@ -186,6 +230,8 @@ pub enum RecordFlaw {
     BlockAsRegister,
     /// A block is shown by its PP.
     BlockPp,
+    /// Blocks are counted from 0 to 3 twice.
+    BlockOfFour,
     /// PP × 4 + key is shown.
     KeyAndPpSwapped,
     /// The key shown is Kp for the supervisor too.
@@ -231,11 +277,12 @@ pub enum RecordFlaw {
 impl RecordFlaw {
     /// Those about rule, detail, part or refusal, which the finite map answers for.
     #[rustfmt::skip]
-    pub const IN_MAP: [RecordFlaw; 20] = [
+    pub const IN_MAP: [RecordFlaw; 21] = [
         RecordFlaw::RuleAsStep, RecordFlaw::BlockFaultAsProtection, RecordFlaw::GuardedAsNoExecute,
         RecordFlaw::NoExecuteAsGuarded, RecordFlaw::BlockInRealMode,
         RecordFlaw::NoExecuteBeforeBlock, RecordFlaw::GuardedData, RecordFlaw::BlockThroughSides,
-        RecordFlaw::BlockAsRegister, RecordFlaw::BlockPp, RecordFlaw::KeyAndPpSwapped,
+        RecordFlaw::BlockAsRegister, RecordFlaw::BlockPp, RecordFlaw::BlockOfFour,
+        RecordFlaw::KeyAndPpSwapped,
         RecordFlaw::KeyByKp, RecordFlaw::KeyWhenGuarded, RecordFlaw::DetailOfFaultsOnly,
         RecordFlaw::NoMatchWithPlace, RecordFlaw::PlaceBeforeSearch, RecordFlaw::SecondWhenDone,
         RecordFlaw::FirstForSecondFault, RecordFlaw::SecondForFirstFault, RecordFlaw::LeftAtRefusal,
@@ -344,6 +391,35 @@ impl Flaw {
         Flaw::BytesAfterFault, Flaw::BytesZeroInOnePage, Flaw::SecondAttributesOfFirst,
         Flaw::FirstMarkedEarly, Flaw::FirstMarkedOnly, Flaw::SecondMarkedOnly,
         Flaw::ChangedInFirstOnly, Flaw::MarkWritesGroup,
+    ];
+
+    /// Those about the two lengths of a register page: what a page of each holds, and its limit.
+    #[rustfmt::skip]
+    pub const LENGTHS: [Flaw; 22] = [
+        Flaw::DataPairsAtWord25, Flaw::ShortBitsLetThrough, Flaw::ShortBlOfFifteen,
+        Flaw::OffPairBitsRefused, Flaw::ShortHasEight, Flaw::LongBlOfEleven, Flaw::LongBitsRefused,
+        Flaw::LimitByContents, Flaw::ThreeAndFourNotCompared, Flaw::HalvesNotCompared,
+        Flaw::LastPairUnchecked, Flaw::UpperPairsUnchecked, Flaw::LastPairNeverCovers,
+        Flaw::UpperPairsNeverCover, Flaw::WholeSharesNothing, Flaw::Number33OnShort,
+        Flaw::Number48Refused, Flaw::LongNumbersRefused, Flaw::AnyPageTakes48,
+        Flaw::Length164Taken, Flaw::BetweenTakenAsShort, Flaw::LongRefused,
+    ];
+
+    /// Those of them that show in accesses of a list: the finite map has to find them too.
+    #[rustfmt::skip]
+    pub const LENGTHS_IN_LISTS: [Flaw; 12] = [
+        Flaw::DataPairsAtWord25, Flaw::ShortBitsLetThrough, Flaw::OffPairBitsRefused,
+        Flaw::ShortHasEight, Flaw::LongBlOfEleven, Flaw::LongBitsRefused, Flaw::HalvesNotCompared,
+        Flaw::UpperPairsUnchecked, Flaw::LastPairNeverCovers, Flaw::UpperPairsNeverCover,
+        Flaw::BetweenTakenAsShort, Flaw::LongRefused,
+    ];
+
+    /// Those of them by which a short page answers otherwise than the same page widened by zero pairs, or
+    /// takes one of bits 15 to 18 in a pair that is on: no other judge is asked.
+    #[rustfmt::skip]
+    pub const WIDENED: [Flaw; 6] = [
+        Flaw::DataPairsAtWord25, Flaw::ShortBitsLetThrough, Flaw::ShortBlOfFifteen,
+        Flaw::OffPairBitsRefused, Flaw::ShortHasEight, Flaw::LongRefused,
     ];
 
     /// Refusals in another order.

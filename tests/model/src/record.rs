@@ -80,8 +80,13 @@ fn wrong_detail(
     let segment = registers.segment(part.address);
     let (by_block, by_key) = (rule == 1, rule == 5 || rule == 6);
     let detail = match flaw {
-        RecordFlaw::BlockThroughSides if by_block && side == Side::Data => detail + 4,
-        RecordFlaw::BlockAsRegister if by_block => side.first_register() as u32 + 2 * detail,
+        RecordFlaw::BlockThroughSides if by_block && side == Side::Data => {
+            detail + registers.layout.pairs as u32
+        }
+        RecordFlaw::BlockOfFour if by_block => detail % 4,
+        RecordFlaw::BlockAsRegister if by_block => {
+            registers.layout.first_register(side) as u32 + 2 * detail
+        }
         RecordFlaw::BlockPp if by_block => registers.blocks(side)[detail as usize].pp(),
         RecordFlaw::KeyAndPpSwapped if by_key => detail % 4 * 4 + detail / 4,
         RecordFlaw::KeyByKp if by_key => segment.problem_key() * 4 + detail % 4,

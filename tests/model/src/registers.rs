@@ -1,9 +1,15 @@
 //! The register words and what the rules ask of them.
 
 use crate::call::FETCH;
+use crate::flaw::Flaw;
 use crate::words::{bits, ones_at_low_end, put_word, word_at};
 
-pub const REGISTER_PAGE: usize = 132;
+/// Bytes of a register page with four block pairs a side.
+pub const SHORT_PAGE: usize = 132;
+/// Bytes of one with eight pairs a side and BL of 15 bits (request 5).
+pub const LONG_PAGE: usize = 196;
+/// Words of the longer page.
+pub const MOST_WORDS: usize = 49;
 
 /// Whether SDR1 has the shape that the rules give it.
 pub fn sdr1_is_well_formed(sdr1: u32) -> bool {
@@ -23,14 +29,6 @@ pub enum Side {
 }
 
 impl Side {
-    /// The number of the register word that its first block begins with.
-    pub fn first_register(self) -> usize {
-        match self {
-            Side::Instruction => 17,
-            Side::Data => 25,
-        }
-    }
-
     /// The side of a kind of access.
     pub fn of_kind(kind: u32) -> Side {
         match kind {
@@ -40,36 +38,149 @@ impl Side {
     }
 }
 
+/// What a page of one length holds, and the limit that its blocks are held to.
+#[derive(Clone, Copy, Debug, PartialEq, Eq)]
+pub struct Layout {
+    /// SDR1, sixteen segments, and two words for each pair.
+    pub words: usize,
+    /// Block pairs of each side.
+    pub pairs: usize,
+    /// The words that the first instruction pair and the first data pair begin with.
+    first_registers: [usize; 2],
+    /// The bit of an upper word with which BL begins; those from 15 up to it are zero in a pair that is on.
+    bl_from: u32,
+    /// What a wrong model does with the page.
+    flaw: Option<Flaw>,
+}
+
+impl Layout {
+    pub const SHORT: Layout =
+        Layout { words: 33, pairs: 4, first_registers: [17, 25], bl_from: 19, flaw: None };
+    pub const LONG: Layout =
+        Layout { words: 49, pairs: 8, first_registers: [17, 33], bl_from: 15, flaw: None };
+    pub const BOTH: [Layout; 2] = [Layout::SHORT, Layout::LONG];
+
+    /// By the lent length alone; none where a page of that length is refused.
+    pub fn of_length(length: usize) -> Option<Layout> {
+        Layout::BOTH.into_iter().find(|layout| layout.length() == length)
+    }
+
+    /// The same, with a mistake about the two lengths.
+    fn wrong(flaw: Option<Flaw>, page: &[u8]) -> Option<Layout> {
+        let layout = Layout::of_length(page.len());
+        let short = layout == Some(Layout::SHORT);
+        let wrong = match (flaw, layout) {
+            (Some(Flaw::Length164Taken), None) if page.len() == 164 => {
+                Layout { words: 41, pairs: 6, first_registers: [17, 29], ..Layout::LONG }
+            }
+            (Some(Flaw::BetweenTakenAsShort), None)
+                if (SHORT_PAGE..LONG_PAGE).contains(&page.len()) =>
+            {
+                Layout::SHORT
+            }
+            (_, None) => return None,
+            (Some(Flaw::LongRefused), Some(_)) if !short => return None,
+            (Some(Flaw::DataPairsAtWord25), Some(layout)) => {
+                Layout { first_registers: [17, 25], ..layout }
+            }
+            (Some(Flaw::ShortBlOfFifteen), Some(layout)) => Layout { bl_from: 15, ..layout },
+            (Some(Flaw::LongBlOfEleven | Flaw::LongBitsRefused), Some(layout)) => {
+                Layout { bl_from: 19, ..layout }
+            }
+            (Some(Flaw::LimitByContents), Some(layout)) if !short && upper_pairs_off(page) => {
+                Layout { bl_from: 19, ..layout }
+            }
+            (Some(Flaw::ShortHasEight), Some(layout)) => Layout { pairs: 8, ..layout },
+            (_, Some(layout)) => layout,
+        };
+        Some(Layout { flaw, ..wrong })
+    }
+
+    /// The page's length in bytes.
+    pub fn length(self) -> usize {
+        4 * self.words
+    }
+
+    /// Whether the page is one of eight pairs a side.
+    pub fn is_long(self) -> bool {
+        self.words > Layout::SHORT.words
+    }
+
+    /// The highest register number.
+    pub fn last_number(self) -> u32 {
+        let last = self.words as u32 - 1;
+        match self.flaw {
+            Some(Flaw::Number33OnShort) if !self.is_long() => last + 1,
+            Some(Flaw::Number48Refused) if self.is_long() => last - 1,
+            Some(Flaw::LongNumbersRefused) => 32,
+            Some(Flaw::AnyPageTakes48) => 48,
+            _ => last,
+        }
+    }
+
+    /// The number of the register word that a side's first block begins with.
+    pub fn first_register(self, side: Side) -> usize {
+        self.first_registers[usize::from(side == Side::Data)]
+    }
+
+    /// Whether this is the mistake that is made.
+    fn has(self, flaw: Flaw) -> bool {
+        self.flaw == Some(flaw)
+    }
+}
+
+/// Whether pairs 4 to 7 of both sides of a long page are off.
+fn upper_pairs_off(page: &[u8]) -> bool {
+    let uppers = (25..33).chain(41..49).step_by(2);
+    uppers.map(|number| word_at(page, 4 * number)).all(|upper| bits(upper, 30, 31) == 0)
+}
+
 /// The register set, read from its page.
 #[derive(Clone, Copy)]
-pub struct Registers([u32; 33]);
+pub struct Registers {
+    pub layout: Layout,
+    words: [u32; MOST_WORDS],
+}
 
 impl Registers {
     /// None where the page has another length.
     pub fn read(page: &[u8]) -> Option<Registers> {
-        (page.len() == REGISTER_PAGE)
-            .then(|| Registers(std::array::from_fn(|number| word_at(page, 4 * number))))
+        Registers::read_wrongly(None, page)
     }
 
-    pub fn of_words(words: [u32; 33]) -> Registers {
-        Registers(words)
+    /// The same, with a mistake about the two lengths.
+    pub fn read_wrongly(flaw: Option<Flaw>, page: &[u8]) -> Option<Registers> {
+        Layout::wrong(flaw, page).map(|layout| {
+            let mut words = [0; MOST_WORDS];
+            for (word, bytes) in words.iter_mut().zip(page.chunks_exact(4)) {
+                *word = word_at(bytes, 0);
+            }
+            Registers { layout, words }
+        })
     }
 
-    /// The set with one word changed; a number past the last word changes none.
+    /// The set of a page with these words.
+    pub fn of_words(layout: Layout, of_page: &[u32]) -> Registers {
+        let mut words = [0; MOST_WORDS];
+        words[..layout.words].copy_from_slice(of_page);
+        Registers { layout, words }
+    }
+
+    /// The set with one word changed; a number past the page's last word changes none.
     pub fn with_word(mut self, number: u32, word: u32) -> Registers {
-        if let Some(old) = self.0.get_mut(number as usize) {
-            *old = word;
+        if (number as usize) < self.layout.words {
+            self.words[number as usize] = word;
         }
         self
     }
 
     pub fn sdr1(&self) -> u32 {
-        self.0[0]
+        self.words[0]
     }
 
     /// The segment register chosen by address bits 0 to 3.
     pub fn segment(&self, address: u32) -> Segment {
-        Segment(self.0[1 + bits(address, 0, 3) as usize])
+        Segment(self.words[1 + bits(address, 0, 3) as usize])
     }
 
     /// The set with the segment register of one address in the place of another's.
@@ -78,42 +189,82 @@ impl Registers {
     }
 
     pub fn segments(&self) -> impl Iterator<Item = Segment> + '_ {
-        self.0[1..17].iter().map(|&word| Segment(word))
+        self.words[1..17].iter().map(|&word| Segment(word))
     }
 
-    pub fn blocks(&self, side: Side) -> [Block; 4] {
-        let first = side.first_register();
-        std::array::from_fn(|pair| Block {
-            upper: self.0[first + 2 * pair],
-            lower: self.0[first + 2 * pair + 1],
-        })
+    /// The pairs of a side, by their numbers.
+    pub fn blocks(&self, side: Side) -> Vec<Block> {
+        let first = self.layout.first_register(side);
+        let word = |number: usize| self.words.get(number).copied().unwrap_or(0);
+        let pair = |pair: usize| Block {
+            upper: word(first + 2 * pair),
+            lower: word(first + 2 * pair + 1),
+            layout: self.layout,
+        };
+        (0..self.layout.pairs).map(pair).collect()
     }
 
     /// Whether every block that is on has its shape.
     pub fn blocks_are_well_formed(&self) -> bool {
         [Side::Instruction, Side::Data].into_iter().all(|side| {
-            let mut blocks = self.blocks(side).into_iter();
-            blocks.all(|block| !block.is_on() || block.is_well_formed(side))
+            let mut blocks = self.judged(side).into_iter();
+            blocks.all(|block| !block.is_judged() || block.is_well_formed(side))
         })
+    }
+
+    /// The pairs whose shape and addresses are judged: all of the page.
+    fn judged(&self, side: Side) -> Vec<Block> {
+        let mut blocks = self.blocks(side);
+        if self.layout.has(Flaw::LastPairUnchecked) {
+            blocks.truncate(7);
+        }
+        if self.layout.has(Flaw::UpperPairsUnchecked) {
+            blocks.truncate(4);
+        }
+        blocks
     }
 
     /// Whether two blocks of a side are in conflict, by the test given.
     pub fn some_two_blocks(&self, conflict: impl Fn(&Block, &Block) -> bool) -> bool {
         [Side::Instruction, Side::Data].into_iter().any(|side| {
-            let blocks = self.blocks(side);
+            let blocks = self.judged(side);
             let shaped = |block: &Block| block.is_on() && block.is_well_formed(side);
-            (1..4).any(|second| {
-                let mut earlier = blocks[..second].iter();
-                shaped(&blocks[second])
-                    && earlier.any(|block| shaped(block) && conflict(block, &blocks[second]))
+            let two = |first: usize, second: usize| {
+                !self.layout.passes_over(first, second) && conflict(&blocks[first], &blocks[second])
+            };
+            (1..blocks.len()).any(|second| {
+                let mut earlier = (0..second).filter(|&first| shaped(&blocks[first]));
+                shaped(&blocks[second]) && earlier.any(|first| two(first, second))
             })
         })
     }
 }
 
-/// Stores one word of a register page.
+impl Layout {
+    /// The mistakes by which two pairs are not compared.
+    fn passes_over(self, first: usize, second: usize) -> bool {
+        match self.flaw {
+            Some(Flaw::ThreeAndFourNotCompared) => (first, second) == (3, 4),
+            Some(Flaw::HalvesNotCompared) => first < 4 && second >= 4,
+            _ => false,
+        }
+    }
+
+    /// Whether a pair can hold an address: every one can.
+    pub fn may_cover(self, pair: u32) -> bool {
+        match self.flaw {
+            Some(Flaw::LastPairNeverCovers) => pair != 7,
+            Some(Flaw::UpperPairsNeverCover) => pair < 4,
+            _ => true,
+        }
+    }
+}
+
+/// Stores one word of a register page; a number past its end stores none.
 pub fn put_register(page: &mut [u8], number: u32, word: u32) {
-    put_word(page, 4 * number as usize, word);
+    if let Some(bytes) = page.chunks_exact_mut(4).nth(number as usize) {
+        put_word(bytes, 0, word);
+    }
 }
 
 #[derive(Clone, Copy)]
@@ -154,11 +305,21 @@ impl Segment {
 pub struct Block {
     pub upper: u32,
     pub lower: u32,
+    /// That of the page which the pair stands in.
+    pub layout: Layout,
 }
 
 impl Block {
     pub fn is_on(&self) -> bool {
         self.valid_bits() != 0
+    }
+
+    /// Whether its shape is asked about: it is on.
+    fn is_judged(&self) -> bool {
+        let bits_in_off = self.layout.has(Flaw::OffPairBitsRefused)
+            && !self.layout.is_long()
+            && bits(self.upper, 15, 18) != 0;
+        self.is_on() || bits_in_off
     }
 
     /// Vs and Vp, as they stand.
@@ -170,9 +331,24 @@ impl Block {
         u64::from(bits(self.upper, 0, 14)) << 17
     }
 
+    /// BL as its page has it: 11 bits, or 15.
+    fn bl(&self) -> u32 {
+        bits(self.upper, self.layout.bl_from, 29)
+    }
+
     /// The block's length in bytes, where BL is ones only at its low end.
     pub fn length(&self) -> u64 {
-        (u64::from(bits(self.upper, 19, 29)) + 1) << 17
+        (u64::from(self.bl()) + 1) << 17
+    }
+
+    /// Whether bits 15 to 18 of the upper word are as they must be where they are not of BL.
+    fn upper_reserved_zero(&self) -> bool {
+        match self.layout.bl_from {
+            15 => true,
+            _ if self.layout.has(Flaw::ShortBitsLetThrough) => true,
+            _ if self.layout.has(Flaw::LongBlOfEleven) && self.layout.is_long() => true,
+            first => bits(self.upper, 15, first - 1) == 0,
+        }
     }
 
     pub fn wimg(&self) -> u32 {
@@ -184,9 +360,9 @@ impl Block {
     }
 
     pub fn is_well_formed(&self, side: Side) -> bool {
-        let bl = bits(self.upper, 19, 29);
+        let bl = self.bl();
         let starts_fit = (bits(self.upper, 0, 14) | bits(self.lower, 0, 14)) & bl == 0;
-        let reserved_zero = bits(self.upper, 15, 18) == 0
+        let reserved_zero = self.upper_reserved_zero()
             && bits(self.lower, 15, 24) == 0
             && bits(self.lower, 29, 29) == 0;
         let wimg_fits = match side {
@@ -211,6 +387,10 @@ impl Block {
     }
 
     pub fn shares_an_address(&self, other: &Block) -> bool {
+        let whole = [self, other].into_iter().any(|block| block.length() == 1 << 32);
+        if whole && self.layout.has(Flaw::WholeSharesNothing) {
+            return false;
+        }
         self.start() < other.start() + other.length()
             && other.start() < self.start() + self.length()
     }

@@ -3,7 +3,7 @@
 use crate::call::{Call, Lengths, Page};
 use crate::flaw::Flaw;
 use crate::operand;
-use crate::registers::{sdr1_is_well_formed, table_length, Block, Registers, REGISTER_PAGE};
+use crate::registers::{sdr1_is_well_formed, table_length, Block, Layout, Registers};
 
 /// The numbers a call can be refused with before its table is searched, first tested first.
 fn order(call: &Call) -> &'static [u32] {
@@ -28,11 +28,11 @@ pub fn broken(flaw: Option<Flaw>, call: &Call, registers: &[u8], lengths: Length
     if flaw == Some(Flaw::RealModeUnchecked) && is_untranslated(call) {
         numbers.truncate(3);
     }
-    let judged = judged_set(call, registers);
+    let judged = judged_set(flaw, call, registers);
     let sdr1 = call.sdr1().or(judged.map(|set| set.sdr1()));
     numbers.retain(|&number| match number {
-        11 => length_is_wrong(call, lengths),
-        6 => !arguments_in_range(flaw, call),
+        11 => length_is_wrong(call, judged.is_some(), lengths),
+        6 => !arguments_in_range(flaw, call, judged.as_ref()),
         12 => !operand_in_range(flaw, call),
         2 => sdr1.is_some_and(|sdr1| !sdr1_is_well_formed(sdr1)),
         1 => sdr1.is_some_and(|sdr1| lengths.table != table_length(sdr1)),
@@ -52,27 +52,29 @@ fn is_untranslated(call: &Call) -> bool {
     matches!(call, Call::Access(access) if !access.is_translated())
 }
 
-/// The register set a call is judged by: the new one where a word is replaced.
-fn judged_set(call: &Call, registers: &[u8]) -> Option<Registers> {
+/// The register set a call is judged by, the new one where a word is replaced; none where the page has neither
+/// length, or where no page is lent.
+fn judged_set(flaw: Option<Flaw>, call: &Call, registers: &[u8]) -> Option<Registers> {
+    let set = Registers::read_wrongly(flaw, registers).filter(|_| call.is_lent_registers())?;
     match *call {
-        Call::SetRegister { number, word } => {
-            Registers::read(registers).map(|set| set.with_word(number, word))
-        }
-        Call::Check | Call::Access(_) => Registers::read(registers),
-        _ => None,
+        Call::SetRegister { number, word } => Some(set.with_word(number, word)),
+        _ => Some(set),
     }
 }
 
-fn length_is_wrong(call: &Call, lengths: Lengths) -> bool {
+fn length_is_wrong(call: &Call, has_registers: bool, lengths: Lengths) -> bool {
     let answer_is_wrong = call.answer_length().is_some_and(|length| lengths.answer != length);
-    answer_is_wrong || call.is_lent_registers() && lengths.registers != REGISTER_PAGE
+    answer_is_wrong || call.is_lent_registers() && !has_registers
 }
 
-fn arguments_in_range(flaw: Option<Flaw>, call: &Call) -> bool {
+fn arguments_in_range(flaw: Option<Flaw>, call: &Call, set: Option<&Registers>) -> bool {
     let page_fits = call.page().is_none_or(Page::in_range);
     page_fits
         && match *call {
-            Call::SetRegister { number, .. } => number <= 32,
+            // Of a page that has neither length, a number that no page has is out of range.
+            Call::SetRegister { number, .. } => {
+                number <= set.map_or(Layout::LONG, |set| set.layout).last_number()
+            }
             Call::Map { rpn, wimg, pp, .. } => {
                 rpn < 1 << 20 && wimg < 16 && !has_w_and_i(wimg) && pp < 4
             }

@@ -65,8 +65,10 @@ pub fn before_search(flaw: Option<Flaw>, registers: &Registers, access: Access) 
 /// The valid block of the access's side that holds its address, and its number on that side.
 pub fn block_of(registers: &Registers, access: Access) -> Option<(u32, Block)> {
     let blocks = registers.blocks(Side::of_kind(access.kind));
-    (0..).zip(blocks).find(|(_, block)| {
-        block.is_valid_in(access.in_problem_state()) && block.holds(access.address)
+    (0..).zip(blocks).find(|(number, block)| {
+        block.is_valid_in(access.in_problem_state())
+            && block.holds(access.address)
+            && registers.layout.may_cover(*number)
     })
 }
 

@@ -14,13 +14,13 @@ returns : tie.Need-returns
 unfolding blockPhysical
 returns c =
     let a = c .args .address in
-    let put = bitAnd (a / 2 ^ 17) (c .args .upper / 2 ^ 2 % 2 ^ 11) in
+    let put = bitAnd (a / 2 ^ 17) (c .args .upper / 2 ^ 2 % 2 ^ 15) in
     let start = bitOr (c .args .lower / 2 ^ 17) put in
     let inside : start < 2 ^ 15 =
-    or-lt 15 (c .args .lower / 2 ^ 17) put (omega arith) (omega (arith, and-le-l (a / 2 ^ 17) (c .args .upper / 2 ^ 2 % 2 ^ 11))) in
+    or-lt 15 (c .args .lower / 2 ^ 17) put (omega arith) (omega (arith, and-le-l (a / 2 ^ 17) (c .args .upper / 2 ^ 2 % 2 ^ 15))) in
     let e : (start * 2 ^ 17) % 2 ^ 32 ≡ start * 2 ^ 17 = omega arith in
     rw (
-      and-mask (c .args .upper / 2 ^ 2) 11,
+      and-mask (c .args .upper / 2 ^ 2) 15,
       e,
       and-mask a 17,
       or-sum 17 (start * 2 ^ 17) (a % 2 ^ 17) (omega arith) (omega arith),

@@ -12,7 +12,8 @@ use lib.Dec.{eqb, lit<}
 use lib.Pow.{shr-mod, split, pow-pos}
 use Rattle.words.proofs.Tests.{both, same-test}
 use Rattle.words.specs.Ones.{lowOnes}
-use Rattle.register_words.specs.Block.{blockShape, off, upperShape, lowerShape}
+use Rattle.register_words.specs.Block.{blockShape, off, lowerShape}
+use Rattle.register_words.proofs.Blocks.{shape-wide}
 use Rattle.register_words.proofs.block_shape.Statement.{statement}
 use Rattle.register_words.proofs.block_shape.Tie as tie
 
@@ -26,12 +27,12 @@ low-ones-requires : tie.Need-low-ones-requires
 low-ones-requires c κs = search needs
 
 returns-2 : tie.Need-returns-2
-unfolding blockShape off upperShape lowerShape
+unfolding off
 returns-2 c =
     let start = c .before .before .before in
     let u = start .args .upper in
-    let gap : lowOnes (u / 2 ^ 2 % 2 ^ 11) ≡ false = ap lowOnes (sym (and-mask (u / 2 ^ 2) 11)) ∙ sym (c .before .low-ones .ensures) ∙ not-true _ (c .if2 .taken) in
-    rw (div-one u, ne-eqb _ 0 (λ e. c .before .before .if1 .left (and-mask u 2 ∙ e)), gap)
+    let gap : lowOnes (u / 2 ^ 2 % 2 ^ 15) ≡ false = ap lowOnes (sym (and-mask (u / 2 ^ 2) 15)) ∙ sym (c .before .low-ones .ensures) ∙ not-true _ (c .if2 .taken) in
+    rw (shape-wide (start .args .long) (start .args .side) u (start .args .lower), div-one u, ne-eqb _ 0 (λ e. c .before .before .if1 .left (and-mask u 2 ∙ e)), gap)
 
 -- W and G, taken together by one mask
 w-and-g : (l : ℕ) → bitAnd l 0x48 ≡ l / 2 ^ 6 % 2 ^ 1 * 2 ^ 6 + l / 2 ^ 3 % 2 ^ 1 * 2 ^ 3
@@ -59,25 +60,28 @@ side-zeros false l =
     eq-eqb (bitAnd l 0x48) 0 (w-and-g l ∙ (rw (eqb-true (l / 2 ^ 6 % 2 ^ 1) 0 w, eqb-true (l / 2 ^ 3 % 2 ^ 1) 0 g))))
 
 returns-3 : tie.Need-returns-3
-unfolding blockShape off upperShape lowerShape
+unfolding off lowerShape
 returns-3 c =
-    let at-if = c .before in
-    let at-ones = at-if .before .before in
+    let at-if = c .before .before in
+    let at-side = at-if .before in
+    let at-ones = at-side .before .before in
     let start = at-ones .before .before in
     let u = start .args .upper in
     let l = start .args .lower in
-    let ones : lowOnes (u / 2 ^ 2 % 2 ^ 11) ≡ true = ap lowOnes (sym (and-mask (u / 2 ^ 2) 11)) ∙ sym (at-ones .low-ones .ensures) ∙ not-false _ (at-if .before .if2 .left) in
-    let mask : at-if .if3 .side-zeros ≡ cond (start .args .side) 0 0x48 = ⊎-elim (λ w. w .1 ∙ (rw (w .0 .taken))) (λ w. w .1 ∙ (rw (w .0 .left))) (at-if .if3 .came) in
+    let ones : lowOnes (u / 2 ^ 2 % 2 ^ 15) ≡ true = ap lowOnes (sym (and-mask (u / 2 ^ 2) 15)) ∙ sym (at-ones .low-ones .ensures) ∙ not-false _ (at-side .before .if2 .left) in
+    let mask : at-side .if3 .side-zeros ≡ cond (start .args .side) 0 0x48 = ⊎-elim (λ w. w .1 ∙ (rw (w .0 .taken))) (λ w. w .1 ∙ (rw (w .0 .left))) (at-side .if3 .came) in
+    let zeros : at-if .if4 .short-zeros ≡ cond (start .args .long) 0 0x1E000 = ⊎-elim (λ w. w .1 ∙ (rw (w .0 .taken))) (λ w. w .1 ∙ (rw (w .0 .left))) (at-if .if4 .came) in
     rw (
+      shape-wide (start .args .long) (start .args .side) u l,
       div-one u,
       ne-eqb _ 0 (λ e. at-ones .before .if1 .left (and-mask u 2 ∙ e)),
       ones,
-      and-mask (u / 2 ^ 2) 11,
-      and-mask (u / 2 ^ 13) 4,
+      and-mask (u / 2 ^ 2) 15,
       and-mask (l / 2 ^ 7) 10,
       and-mask (l / 2 ^ 2) 1,
       and-mask (l / 2 ^ 5) 2,
       mask,
+      zeros,
       side-zeros (start .args .side) l,
       shr-mod 15 17 (start .fits .upper .fits),
       shr-mod 15 17 (start .fits .lower .fits),

@@ -17,8 +17,8 @@ returns c =
       div-one b,
       and-mask a 2,
       and-mask b 2,
-      and-mask (a / 2 ^ 2) 11,
-      and-mask (b / 2 ^ 2) 11,
+      and-mask (a / 2 ^ 2) 15,
+      and-mask (b / 2 ^ 2) 15,
       shr-mod 15 17 (c .fits .first .fits),
       shr-mod 15 17 (c .fits .second .fits),
     )

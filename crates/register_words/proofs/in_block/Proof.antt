@@ -8,13 +8,13 @@ use Rattle.register_words.proofs.in_block.Statement.{statement}
 use Rattle.register_words.proofs.in_block.Tie as tie
 
 sub-result : tie.Need-sub-result
-sub-result c = omega (arith, mask-lt (c .args .upper / 2 ^ 2) 11)
+sub-result c = omega (arith, mask-lt (c .args .upper / 2 ^ 2) 15)
 
 returns : tie.Need-returns
 unfolding inBlock
 returns c =
     rw (
-      and-mask (c .args .upper / 2 ^ 2) 11,
+      and-mask (c .args .upper / 2 ^ 2) 15,
       shr-mod 15 17 (c .fits .upper .fits),
       shr-mod 15 17 (c .fits .address .fits),
     )

@@ -1,7 +1,13 @@
 -- `registers::check_words` meets its contract: each test on the way is a rule of the set, in the rules' order.
 use mathlib.Core.Path.{_≡_, sym, ap, ap₂, _∙_}
-use mathlib.Core.Bool.{Bool, not, _&&_}
-use Rattle.registers.specs.Set.{checkWords}
+use mathlib.Core.Bool.{Bool, true, false, not, _&&_}
+use mathlib.Core.List.{List}
+use Prim.Native.Nat.{ℕ}
+use borrow.Author.Tests.{not-false}
+use Rattle.words.proofs.Tests.{both}
+use Rattle.register_words.specs.Block.{blWidth}
+use Rattle.registers.specs.Set.{sideShape, sideApart, checkWords}
+use Rattle.registers.proofs.Wide.{apart-wide}
 use borrow.Author.Needs.{needs}
 use Rattle.registers.proofs.check_words.Statement.{statement}
 use Rattle.registers.proofs.check_words.Tie as tie
@@ -12,6 +18,14 @@ by-call e n = ap not (sym e) ∙ n
 
 by-two : {r s d e t : Bool} → r ≡ d → s ≡ e → not (r && s) ≡ t → not (d && e) ≡ t
 by-two p q n = ap not (sym (ap₂ _&&_ p q)) ∙ n
+
+-- two sides that have their shape are apart by BL of 15 bits exactly where they are by their own width
+by-apart : (long : Bool) (words : List ℕ) {p q r s t : Bool} → p ≡ sideShape 8 (blWidth long) words false → q ≡ sideShape 8 (blWidth long) words true → not (p && q) ≡ false
+    → r ≡ sideApart 8 15 words false → s ≡ sideApart 8 15 words true → not (r && s) ≡ t
+    → not (sideApart 8 (blWidth long) words false && sideApart 8 (blWidth long) words true) ≡ t
+by-apart long words {p} {q} f g shaped a b n =
+    let (shaped-f, shaped-t) = both p q (not-false (p && q) shaped) in
+    by-two (a ∙ sym (apart-wide long 8 words false (sym f ∙ shaped-f))) (b ∙ sym (apart-wide long 8 words true (sym g ∙ shaped-t))) n
 
 element-copy-out-sdr1-shape : tie.Need-element-copy-out-sdr1-shape
 element-copy-out-sdr1-shape c = search needs
@@ -49,7 +63,8 @@ returns-3 c =
     rw (
       by-call (shape .before .sdr1-shape .ensures) (shape .if1 .left),
       by-two (apart .before .before .side-shape .ensures) (apart .before .side-shape2 .ensures) (apart .if2 .left),
-      by-two (c .before .before .side-apart .ensures) (c .before .side-apart2 .ensures) (c .if3 .taken),
+      by-apart _ _ (apart .before .before .side-shape .ensures) (apart .before .side-shape2 .ensures) (apart .if2 .left)
+          (c .before .before .side-apart .ensures) (c .before .side-apart2 .ensures) (c .if3 .taken),
     )
 
 segments-shape-requires : tie.Need-segments-shape-requires
@@ -64,7 +79,8 @@ returns-4 c =
     rw (
       by-call (shape .before .sdr1-shape .ensures) (shape .if1 .left),
       by-two (apart .before .before .side-shape .ensures) (apart .before .side-shape2 .ensures) (apart .if2 .left),
-      by-two (segments .before .before .side-apart .ensures) (segments .before .side-apart2 .ensures) (segments .if3 .left),
+      by-apart _ _ (apart .before .before .side-shape .ensures) (apart .before .side-shape2 .ensures) (apart .if2 .left)
+          (segments .before .before .side-apart .ensures) (segments .before .side-apart2 .ensures) (segments .if3 .left),
       by-call (c .before .segments-shape .ensures) (c .if4 .taken),
     )
 
@@ -77,7 +93,8 @@ returns-5 c =
     rw (
       by-call (shape .before .sdr1-shape .ensures) (shape .if1 .left),
       by-two (apart .before .before .side-shape .ensures) (apart .before .side-shape2 .ensures) (apart .if2 .left),
-      by-two (segments .before .before .side-apart .ensures) (segments .before .side-apart2 .ensures) (segments .if3 .left),
+      by-apart _ _ (apart .before .before .side-shape .ensures) (apart .before .side-shape2 .ensures) (apart .if2 .left)
+          (segments .before .before .side-apart .ensures) (segments .before .side-apart2 .ensures) (segments .if3 .left),
       by-call (c .before .segments-shape .ensures) (c .if4 .left),
     )
 

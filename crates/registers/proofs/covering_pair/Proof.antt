@@ -14,21 +14,21 @@ use Rattle.registers.proofs.covering_pair.Statement.{statement}
 use Rattle.registers.proofs.covering_pair.Tie as tie
 
 abbrev Inv-loop : tie.InvT-loop
-Inv-loop words side user address start i₀ i = (i ≤ 4) × ((k : ℕ) → k < i → pairCovers 4 11 words side user address k ≡ false)
+Inv-loop words side user address start i₀ i = (i ≤ 8) × ((k : ℕ) → k < i → pairCovers 8 15 words side user address k ≡ false)
 
 abbrev μ-loop : tie.MeasureT-loop
-μ-loop words side user address start i₀ i = 4 - i
+μ-loop words side user address start i₀ i = 8 - i
 
 -- what the call gave is the test of that pair of the set
 covers-is : (c : tie.After-block-covers Inv-loop μ-loop) →
     let start = c .before .before .before .before .before in
-    c .block-covers .result ≡ pairCovers 4 11 (start .args .words .now) (start .args .side) (start .args .user) (start .args .address) (c .before .before .before .loop .i)
+    c .block-covers .result ≡ pairCovers 8 15 (start .args .words .now) (start .args .side) (start .args .user) (start .args .address) (c .before .before .before .loop .i)
 unfolding pairCovers
 covers-is c =
     let start = c .before .before .before .before .before in
     let words = start .args .words .now in
     c .block-covers .ensures
-    ∙ ap (λ (s : ℕ). covers 11 (start .args .user) (getD words (s + 2 * c .before .before .before .loop .i) 0) (start .args .address))
+    ∙ ap (λ (s : ℕ). covers 15 (start .args .user) (getD words (s + 2 * c .before .before .before .loop .i) 0) (start .args .address))
     (c .before .before .before .before .side-start .ensures)
 
 side-start-requires : tie.Need-side-start-requires Inv-loop μ-loop
@@ -56,7 +56,7 @@ returns : tie.Need-returns Inv-loop μ-loop
 unfolding coveringPair
 returns c =
     let at-loop = c .before .before .before .before in
-    sym (first-found _ 4 (at-loop .loop .i) (c .before .before .before .loop-test .taken) (sym (covers-is (c .before)) ∙ c .if1 .taken) (at-loop .loop .inv .1))
+    sym (first-found _ 8 (at-loop .loop .i) (c .before .before .before .loop-test .taken) (sym (covers-is (c .before)) ∙ c .if1 .taken) (at-loop .loop .inv .1))
 
 add-i : tie.Need-add-i Inv-loop μ-loop
 add-i c = search needs
@@ -72,8 +72,8 @@ loop-again c =
 returns-2 : tie.Need-returns-2 Inv-loop μ-loop
 unfolding coveringPair
 returns-2 c =
-    let end : c .before .loop .i ≡ 4 = omega arith in
-    sym (first-none _ 4 (rw end at (c .before .loop .inv .1)))
+    let end : c .before .loop .i ≡ 8 = omega arith in
+    sym (first-none _ 8 (rw end at (c .before .loop .inv .1)))
 
 pub covering-pair-spec : {M : Type 1} → statement M
 covering-pair-spec =

@@ -18,7 +18,7 @@ use Rattle.registers.proofs.pair_apart.Tie as tie
 
 -- pairs i and j of a side are apart
 abbrev apart : List ℕ → Bool → ℕ → ℕ → Bool
-apart words side j i = not (clash 11 (upperOf 4 words side i) (upperOf 4 words side j))
+apart words side j i = not (clash 15 (upperOf 8 words side i) (upperOf 8 words side j))
 
 abbrev Inv-loop : tie.InvT-loop
 Inv-loop words side j start own i₀ i = (i ≤ j) × (everyBelow i (apart words side j) ≡ true)
@@ -33,13 +33,13 @@ test c = let start = c .before .before .before .before in apart (start .args .wo
 -- what the call gave is the test of two pairs of the set
 clash-is : (c : tie.After-blocks-clash Inv-loop μ-loop) →
     let start = c .before .before .before .before .before .before .before in
-    c .blocks-clash .result ≡ clash 11 (upperOf 4 (start .args .words .now) (start .args .side) (c .before .before .before .loop .i))
-    (upperOf 4 (start .args .words .now) (start .args .side) (start .args .j))
+    c .blocks-clash .result ≡ clash 15 (upperOf 8 (start .args .words .now) (start .args .side) (c .before .before .before .loop .i))
+    (upperOf 8 (start .args .words .now) (start .args .side) (start .args .j))
 clash-is c =
     let start = c .before .before .before .before .before .before .before in
     let words = start .args .words .now in
     c .blocks-clash .ensures
-    ∙ ap (λ (s : ℕ). clash 11 (getD words (s + 2 * c .before .before .before .loop .i) 0) (getD words (s + 2 * start .args .j) 0))
+    ∙ ap (λ (s : ℕ). clash 15 (getD words (s + 2 * c .before .before .before .loop .i) 0) (getD words (s + 2 * start .args .j) 0))
     (c .before .before .before .before .before .before .side-start .ensures)
 
 side-start-requires : tie.Need-side-start-requires Inv-loop μ-loop
@@ -58,7 +58,7 @@ element-copy-out-own : tie.Need-element-copy-out-own Inv-loop μ-loop
 element-copy-out-own c = omega (arith, start-at-most (c .before .args .side), c .side-start .ensures)
 
 -- a pair that is off clashes with none
-off-apart : (u v : ℕ) → bitAnd v 3 ≡ 0 → clash 11 u v ≡ false
+off-apart : (u v : ℕ) → bitAnd v 3 ≡ 0 → clash 15 u v ≡ false
 unfolding clash commonV
 off-apart u v e =
     let zero : v / 2 ^ 0 % 2 ^ 2 ≡ 0 = rw (div-one v) (sym (and-mask v 2) ∙ e) in
@@ -70,9 +70,9 @@ returns c =
     let start = c .before .before .before in
     let a = start .args in
     let words = a .words .now in
-    let off : bitAnd (upperOf 4 words (a .side) (a .j)) 3 ≡ 0 =
+    let off : bitAnd (upperOf 8 words (a .side) (a .j)) 3 ≡ 0 =
     ap (λ (s : ℕ). bitAnd (getD words (s + 2 * a .j) 0) 3) (sym (c .before .before .side-start .ensures)) ∙ c .if1 .taken in
-    sym (every-all (apart words (a .side) (a .j)) (a .j) (λ i h. ap not (off-apart (upperOf 4 words (a .side) i) (upperOf 4 words (a .side) (a .j)) off)))
+    sym (every-all (apart words (a .side) (a .j)) (a .j) (λ i h. ap not (off-apart (upperOf 8 words (a .side) i) (upperOf 8 words (a .side) (a .j)) off)))
 
 loop-holds : tie.Need-loop-holds Inv-loop μ-loop
 unfolding everyBelow

@@ -1,5 +1,12 @@
 -- `registers::read_set` meets its contract: the words that were read are the set's.
 use borrow.Author.Needs.{needs}
+use mathlib.Core.Path.{_≡_, ap}
+use mathlib.Core.Bool.{Bool}
+use mathlib.Core.List.{List}
+use Prim.Native.Nat.{ℕ}
+use lib.ListN.{length}
+use Rattle.registers.specs.Set.{isLong}
+use Rattle.registers.specs.declared.Registers.{Registers}
 use Rattle.registers.proofs.read_set.Statement.{statement}
 use Rattle.registers.proofs.read_set.Tie as tie
 
@@ -9,8 +16,11 @@ slice-aggregate-read-words c = search needs
 read-words-requires : tie.Need-read-words-requires
 read-words-requires c κs = search needs
 
+abbrev made : Bool → List ℕ → Registers
+made long words = record { words = words; long = long }
+
 returns : tie.Need-returns
-returns c = λ j. record { words = c .before .read-words .ensures j }
+returns c = ap (made (isLong (length (c .before .before .before .before .args .registers .now)))) (c .before .read-words .ensures)
 
 pub read-set-spec : {M : Type 1} → statement M
 read-set-spec = tie.close (tie.spec slice-aggregate-read-words read-words-requires returns)

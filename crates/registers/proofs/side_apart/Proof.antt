@@ -12,10 +12,10 @@ use Rattle.registers.proofs.side_apart.Statement.{statement}
 use Rattle.registers.proofs.side_apart.Tie as tie
 
 abbrev Inv-loop : tie.InvT-loop
-Inv-loop words side j₀ j = (j ≤ 4) × (everyBelow j (pairApart 4 11 words side) ≡ true)
+Inv-loop words side j₀ j = (j ≤ 8) × (everyBelow j (pairApart 8 15 words side) ≡ true)
 
 abbrev μ-loop : tie.MeasureT-loop
-μ-loop words side j₀ j = 4 - j
+μ-loop words side j₀ j = 8 - j
 
 loop-holds : tie.Need-loop-holds Inv-loop μ-loop
 unfolding everyBelow
@@ -28,7 +28,7 @@ returns : tie.Need-returns Inv-loop μ-loop
 unfolding sideApart
 returns c =
     let at-loop = c .before .before .before in
-    every-not (pairApart 4 11 (at-loop .before .args .words .now) (at-loop .before .args .side)) 4 (at-loop .loop .j) (c .before .before .loop-test .taken)
+    every-not (pairApart 8 15 (at-loop .before .args .words .now) (at-loop .before .args .side)) 8 (at-loop .loop .j) (c .before .before .loop-test .taken)
     (sym (c .before .pair-apart .ensures) ∙ not-true _ (c .if1 .taken))
 
 add-j : tie.Need-add-j Inv-loop μ-loop
@@ -41,14 +41,14 @@ loop-again : tie.Need-loop-again Inv-loop μ-loop
 loop-again c =
     let at-loop = c .before .before .before in (
       search needs,
-      every-more (pairApart 4 11 (at-loop .before .args .words .now) (at-loop .before .args .side)) (at-loop .loop .j) (at-loop .loop .inv .1)
+      every-more (pairApart 8 15 (at-loop .before .args .words .now) (at-loop .before .args .side)) (at-loop .loop .j) (at-loop .loop .inv .1)
           (sym (c .before .pair-apart .ensures) ∙ not-false _ (c .if1 .left)),
     )
 
 returns-2 : tie.Need-returns-2 Inv-loop μ-loop
 unfolding sideApart
 returns-2 c =
-    let end : c .before .loop .j ≡ 4 = omega arith in
+    let end : c .before .loop .j ≡ 8 = omega arith in
     sym (rw end at (c .before .loop .inv .1))
 
 pub side-apart-spec : {M : Type 1} → statement M

@@ -26,7 +26,7 @@ early-is : (c : tie.After-before-search) →
     let a = c .before .before .args in c .before-search .result ≡ partEarly (a .words .now) (a .access) false
 early-is c =
     let a = c .before .before .args in
-    c .before-search .ensures ∙ ap (λ (s : ℕ). beforeSearch 4 11 (a .words .now) (a .access .mode) (a .access .kind) s) (sym (start-first (a .access .address) (a .access .length)))
+    c .before-search .ensures ∙ ap (λ (s : ℕ). beforeSearch 8 15 (a .words .now) (a .access .mode) (a .access .kind) s) (sym (start-first (a .access .address) (a .access .length)))
 
 -- what the first part answers
 answer-is : (c : tie.After-answer-of) →
@@ -84,7 +84,7 @@ part-of-requires c κs =
     let at-search = c .before .before in
     let start = at-search .before .before in
     let a = start .args in
-    (start .pre .0, start .pre .1, λ wanted e. wanted-in-range 4 11 (a .words .now) (a .access .mode) (a .access .kind) (a .access .address) wanted (sym (at-search .before-search .ensures) ∙ e))
+    (start .pre .0, start .pre .1, λ wanted e. wanted-in-range 8 15 (a .words .now) (a .access .mode) (a .access .kind) (a .access .address) wanted (sym (at-search .before-search .ensures) ∙ e))
 
 answer-of-requires : tie.Need-answer-of-requires
 answer-of-requires c κs = search needs

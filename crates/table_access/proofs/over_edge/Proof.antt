@@ -45,7 +45,7 @@ early-is : (c : tie.After-before-search) →
     let a = c .before .before .before .args in c .before-search .result ≡ partEarly (a .words .now) (a .access) true
 early-is c =
     let a = c .before .before .before .args in
-    c .before-search .ensures ∙ ap (λ (s : ℕ). beforeSearch 4 11 (a .words .now) (a .access .mode) (a .access .kind) s) (start-is (c .before))
+    c .before-search .ensures ∙ ap (λ (s : ℕ). beforeSearch 8 15 (a .words .now) (a .access .mode) (a .access .kind) s) (start-is (c .before))
 
 next-start-requires : tie.Need-next-start-requires
 next-start-requires c κs = search needs
@@ -61,7 +61,7 @@ part-of-requires c κs =
     let at-search = c .before .before in
     let start = at-search .before .before .before in
     let a = start .args in
-    (start .pre .0, start .pre .1, λ wanted e. wanted-in-range 4 11 (a .words .now) (a .access .mode) (a .access .kind) (at-search .before .next-start .result) wanted (sym (at-search .before-search .ensures) ∙ e))
+    (start .pre .0, start .pre .1, λ wanted e. wanted-in-range 8 15 (a .words .now) (a .access .mode) (a .access .kind) (at-search .before .next-start .result) wanted (sym (at-search .before-search .ensures) ∙ e))
 
 answer-of-requires : tie.Need-answer-of-requires
 answer-of-requires c κs = search needs

@@ -1,34 +1,72 @@
 -- `table_access::translate` meets its contract: a refusal and an operand answer as the definition does, on the words that were read.
 use borrow.Author.Needs.{needs}
 use mathlib.Core.Path.{_≡_, sym, ap, ap₂, _∙_}
+use mathlib.Core.Bool.{Bool, true, false, cond}
 use mathlib.Core.List.{List}
 use Prim.Native.Nat.{ℕ}
 use lib.ListN.{length}
 use Rattle.registers.specs.Rules.{firstBroken}
-use Rattle.registers.specs.Set.{registerWords}
-use Rattle.translation.specs.Operand.{stopped}
+use Rattle.register_words.specs.Sdr1.{sdr1Shape, tableLength, maskOnes}
+use Rattle.register_words.specs.Block.{blWidth}
+use Rattle.registers.specs.Set.{isLong, blockPairs, sdr1Of, checkWords, registerWords, setWords}
+use Rattle.translation.specs.Steps.{beforeSearch, outcomeOf, answerOf}
+use Rattle.translation.specs.Operand.{overEdge, partStart, operandAnswer, stopped}
+use Rattle.translation.specs.declared.Early.{Early}
 use Rattle.translation.specs.Decision.{decisionOf}
 use Rattle.translation.specs.declared.Answer.{Answer}
 use Rattle.translation.specs.declared.decision.Decision.{Decision}
 use Rattle.translation.specs.declared.operand.OperandAnswer.{OperandAnswer}
 use Rattle.translation.proofs.Answers.{answer-refused}
 use Rattle.calls.specs.Answers.{accessAnswer}
-use Rattle.calls.specs.OnBytes.{ended, bytesDo}
+use Rattle.calls.specs.OnBytes.{ended, usedBy, searchIn, firstPlaceIn, markedBy, bytesDo}
+use Rattle.table_access.specs.Part.{partEarly}
+use Rattle.table_access.specs.declared.Access.{Access}
 use Rattle.calls.proofs.Access.{rulesThen, then-kept, access-refused, access-taken}
+use Rattle.calls.proofs.Pages.{sdr1-set, rules-set, early-set}
 use Rattle.table_access.proofs.translate.Statement.{statement}
 use Rattle.table_access.proofs.translate.Tie as tie
+
+-- the rules of a register page by its own limits, and its check
+module _ (registers : List ℕ) where
+  abbrev ownRules : ℕ → ℕ → ℕ → ℕ → List (Bool × ℕ)
+  ownRules = rulesThen (blockPairs (isLong (length registers))) (blWidth (isLong (length registers))) (registerWords registers)
+
+-- steps 1 to 3 of a part by the page's own limits
+abbrev ownEarly : List ℕ → Access → Bool → Early
+ownEarly registers access second =
+    beforeSearch (blockPairs (isLong (length registers))) (blWidth (isLong (length registers))) (registerWords registers) (access .mode) (access .kind)
+    (partStart (access .address) (access .length) second)
+
+-- what an operand answers, and the table that it leaves, by what steps 1 to 3 of its parts come to
+module _ (access : Access) (k : ℕ) (t : List ℕ) (early : Bool → Early) where
+  abbrev toldBy : OperandAnswer
+  toldBy =
+      operandAnswer (access .address) (access .length)
+      (λ second. answerOf (access .kind) (partStart (access .address) (access .length) second) (outcomeOf (access .kind) (searchIn k t) (early second)))
+      (λ second. decisionOf (usedBy (firstPlaceIn k t) (early second)) (outcomeOf (access .kind) (searchIn k t) (early second)))
+
+  abbrev leftBy : List ℕ
+  leftBy =
+      let mark : Bool → List ℕ → List ℕ = λ second u. markedBy k (access .kind) (early second) (toldBy .part .result) u in
+      cond (overEdge (access .address) (access .length)) (mark true (mark false t)) (mark false t)
+
+-- two ways to tell a part's steps that agree for each part
+ext : {f g : Bool → Early} → ((second : Bool) → f second ≡ g second) → f ≡ g
+ext h = λ j second. h second j
 
 -- the words that were read are the register page's
 number-is : (c : tie.After-refusal) →
     let start = c .before .before .before .before .before .before .before in
     let a = start .args in
-    c .refusal .result
-    ≡ firstBroken (rulesThen (registerWords (a .registers .now)) (a .asked .mode) (a .asked .kind) (a .asked .length) (length (a .table .now)))
+    c .refusal .result ≡ firstBroken (ownRules (a .registers .now) (a .asked .mode) (a .asked .kind) (a .asked .length) (length (a .table .now)))
 number-is c =
     let read = c .before .before .before in
-    let a = read .before .before .before .before .args in
+    let start = read .before .before .before .before in
+    let a = start .args in
+    let r = a .registers .now in
     c .refusal .ensures
-    ∙ ap (λ (words : List ℕ). firstBroken (rulesThen words (a .asked .mode) (a .asked .kind) (a .asked .length) (length (a .table .now)))) (read .read-words .ensures)
+    ∙ ap (λ (words : List ℕ). firstBroken (rulesThen 8 (blWidth (isLong (length r))) words (a .asked .mode) (a .asked .kind) (a .asked .length) (length (a .table .now)))) (read .read-words .ensures)
+    ∙ ap firstBroken (rules-set r (start .pre) (a .asked .mode) (a .asked .kind) (a .asked .length) (length (a .table .now)))
 
 slice-aggregate-read-words : tie.Need-slice-aggregate-read-words
 slice-aggregate-read-words c = search needs
@@ -75,16 +113,28 @@ returns c answer right =
 -- the words that were read pass the rules
 kept : (c : tie.Else1) →
     let a = c .before .before .before .before .before .before .before .before .args in
-    firstBroken (rulesThen (registerWords (a .registers .now)) (a .asked .mode) (a .asked .kind) (a .asked .length) (length (a .table .now))) ≡ 0
+    firstBroken (ownRules (a .registers .now) (a .asked .mode) (a .asked .kind) (a .asked .length) (length (a .table .now))) ≡ 0
 kept c = sym (number-is (c .before)) ∙ c .if1 .left
+
+-- and so does the page: operand, check, SDR1 and the table's length
+passed : (c : tie.Else1) →
+    let a = c .before .before .before .before .before .before .before .before .args in
+    let r = a .registers .now in
+    (checkWords (blockPairs (isLong (length r))) (blWidth (isLong (length r))) (registerWords r) ≡ 0)
+    × (sdr1Shape (sdr1Of (registerWords r)) ≡ true) × (length (a .table .now) ≡ tableLength (sdr1Of (registerWords r)))
+passed c =
+    let a = c .before .before .before .before .before .before .before .before .args in
+    let r = a .registers .now in
+    let all = then-kept (blockPairs (isLong (length r))) (blWidth (isLong (length r))) (registerWords r) (a .asked .mode) (a .asked .kind) (a .asked .length) (length (a .table .now)) (kept c) in
+    (all .3, all .1, all .2)
 
 by-parts-requires : tie.Need-by-parts-requires
 by-parts-requires c κs =
     let else1 = c .before .before in
     let read = else1 .before .before .before .before in
-    let a = read .before .before .before .before .args in
-    let all = then-kept (registerWords (a .registers .now)) (a .asked .mode) (a .asked .kind) (a .asked .length) (length (a .table .now)) (kept else1) in
-    rw (read .read-words .ensures) (all .1, all .2)
+    let start = read .before .before .before .before in
+    let all = passed else1 in
+    rw (read .read-words .ensures, sdr1-set (start .args .registers .now) (start .pre)) (all .1, all .2)
 
 same-length : tie.Need-same-length
 same-length c = search needs
@@ -97,10 +147,14 @@ returns-2 c answer right =
     let read = else1 .before .before .before .before in
     let start = read .before .before .before .before in
     let a = start .args in
-    let parts = rw (read .read-words .ensures) at (at-parts .by-parts .ensures) in
-    ap₂ (λ (r : OperandAnswer) (u : List ℕ). ended (r .part .result) u (accessAnswer r)) (parts .0) (parts .1)
+    let r = a .registers .now in
+    let k = maskOnes (sdr1Of (registerWords r)) in
+    let t = a .table .now in
+    let own : partEarly (setWords r) (a .asked) ≡ ownEarly r (a .asked) = ext (λ second. early-set r (start .pre) (passed else1 .0) (a .asked .mode) (a .asked .kind) (partStart (a .asked .address) (a .asked .length) second)) in
+    let parts = rw (read .read-words .ensures, sdr1-set r (start .pre)) at (at-parts .by-parts .ensures) in
+    ap₂ (λ (r : OperandAnswer) (u : List ℕ). ended (r .part .result) u (accessAnswer r)) (parts .0 ∙ ap (toldBy (a .asked) k t) own) (parts .1 ∙ ap (leftBy (a .asked) k t) own)
     ∙ sym (access-taken (record {
-      registers = a .registers .now;
+      registers = r;
       mode = a .asked .mode;
       kind = a .asked .kind;
       address = a .asked .address;

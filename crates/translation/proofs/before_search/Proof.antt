@@ -22,14 +22,14 @@ relocation c = sym (c .before .is-relocated .ensures) ∙ not-false _ (c .if1 .l
 
 pair-is : (c : tie.After-covering-pair) →
     let start = c .before .before .before in
-    c .covering-pair .result ≡ coveringPair 4 11 (start .args .words .now) (sideOf (start .args .kind)) (userMode (start .args .mode)) (start .args .address)
+    c .covering-pair .result ≡ coveringPair 8 15 (start .args .words .now) (sideOf (start .args .kind)) (userMode (start .args .mode)) (start .args .address)
 unfolding sideOf fetching userMode
 pair-is c = c .covering-pair .ensures ∙ (rw (and-mask (c .before .before .before .args .mode / 4) 1))
 
 bare : (c : tie.Else2) →
     let start = c .before .before .before .before in
-    ltb (coveringPair 4 11 (start .args .words .now) (sideOf (start .args .kind)) (userMode (start .args .mode)) (start .args .address)) 4 ≡ false
-bare c = sym (ap (λ (pair : ℕ). ltb pair 4) (pair-is (c .before))) ∙ le-ltb _ _ (c .if2 .left)
+    ltb (coveringPair 8 15 (start .args .words .now) (sideOf (start .args .kind)) (userMode (start .args .mode)) (start .args .address)) 8 ≡ false
+bare c = sym (ap (λ (pair : ℕ). ltb pair 8) (pair-is (c .before))) ∙ le-ltb _ _ (c .if2 .left)
 
 segment-is : (c : tie.After-segment) →
     let start = c .before .before .before .before .before in
@@ -51,7 +51,7 @@ is-relocated-requires c κs = search needs
 returns : tie.Need-returns
 returns c =
     let a = c .before .before .args in
-    sym (before-real 4 11 (a .words .now) (a .mode) (a .kind) (a .address) (sym (c .before .is-relocated .ensures) ∙ not-true _ (c .if1 .taken)))
+    sym (before-real 8 15 (a .words .now) (a .mode) (a .kind) (a .address) (sym (c .before .is-relocated .ensures) ∙ not-true _ (c .if1 .taken)))
 
 covering-pair-requires : tie.Need-covering-pair-requires
 covering-pair-requires c κs = search needs
@@ -63,9 +63,9 @@ returns-2 : tie.Need-returns-2
 returns-2 c =
     let at-pair = c .before .before in
     let a = at-pair .before .before .before .args in
-    ap Decided (c .block-outcome .ensures ∙ ap (blockOutcome 4 11 (a .words .now) (a .kind) (a .address)) (pair-is at-pair))
-    ∙ sym (before-block 4 11 (a .words .now) (a .mode) (a .kind) (a .address) (relocation (at-pair .before))
-    (sym (ap (λ (pair : ℕ). ltb pair 4) (pair-is at-pair)) ∙ lt-ltb _ _ (c .before .if2 .taken)))
+    ap Decided (c .block-outcome .ensures ∙ ap (blockOutcome 8 15 (a .words .now) (a .kind) (a .address)) (pair-is at-pair))
+    ∙ sym (before-block 8 15 (a .words .now) (a .mode) (a .kind) (a .address) (relocation (at-pair .before))
+    (sym (ap (λ (pair : ℕ). ltb pair 8) (pair-is at-pair)) ∙ lt-ltb _ _ (c .before .if2 .taken)))
 
 cast-segment : tie.Need-cast-segment
 cast-segment c = search needs
@@ -77,7 +77,7 @@ returns-3 : tie.Need-returns-3
 returns-3 c =
     let at-pair = c .before .before .before in
     let a = at-pair .before .before .before .args in
-    sym (before-no-execute 4 11 (a .words .now) (a .mode) (a .kind) (a .address) (relocation (at-pair .before)) (bare (c .before .before)) (test (c .before) ∙ c .if3 .taken))
+    sym (before-no-execute 8 15 (a .words .now) (a .mode) (a .kind) (a .address) (relocation (at-pair .before)) (bare (c .before .before)) (test (c .before) ∙ c .if3 .taken))
 
 wanted-of-requires : tie.Need-wanted-of-requires
 wanted-of-requires c κs = search needs
@@ -88,7 +88,7 @@ returns-4 c =
     let at-pair = c .before .before .before .before in
     let a = at-pair .before .before .before .args in
     ap Search (c .wanted-of .ensures ∙ (rw (segment-is (c .before .before), and-mask (a .mode / 4) 1)))
-    ∙ sym (before-search 4 11 (a .words .now) (a .mode) (a .kind) (a .address) (relocation (at-pair .before)) (bare (c .before .before .before)) (test (c .before .before) ∙ c .before .if3 .left))
+    ∙ sym (before-search 8 15 (a .words .now) (a .mode) (a .kind) (a .address) (relocation (at-pair .before)) (bare (c .before .before .before)) (test (c .before .before) ∙ c .before .if3 .left))
 
 pub before-search-spec : {M : Type 1} → statement M
 before-search-spec =

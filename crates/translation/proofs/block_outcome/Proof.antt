@@ -30,18 +30,18 @@ cast-t15 : tie.Need-cast-t15
 cast-t15 c = search needs
 
 -- the words that were read are those of the pair
-upper-is : (c : tie.After-upper) → let start = c .before in c .upper .result ≡ upperOf 4 (start .args .words .now) (sideOf (start .args .kind)) (start .args .pair)
+upper-is : (c : tie.After-upper) → let start = c .before in c .upper .result ≡ upperOf 8 (start .args .words .now) (sideOf (start .args .kind)) (start .args .pair)
 unfolding sideOf fetching
 upper-is c = c .upper .ensures
 
-lower-is : (c : tie.After-lower) → let start = c .before .before in c .lower .result ≡ lowerOf 4 (start .args .words .now) (sideOf (start .args .kind)) (start .args .pair)
+lower-is : (c : tie.After-lower) → let start = c .before .before in c .lower .result ≡ lowerOf 8 (start .args .words .now) (sideOf (start .args .kind)) (start .args .pair)
 unfolding sideOf fetching
 lower-is c = c .lower .ensures
 
 -- what the code asks of PP is the test of step 2
 allowed : (c : tie.After-block-allows) →
     let start = c .before .before .before in
-    c .block-allows .result ≡ blockAllows (blockPP (lowerOf 4 (start .args .words .now) (sideOf (start .args .kind)) (start .args .pair))) (start .args .kind)
+    c .block-allows .result ≡ blockAllows (blockPP (lowerOf 8 (start .args .words .now) (sideOf (start .args .kind)) (start .args .pair))) (start .args .kind)
 unfolding blockPP
 allowed c =
     let kind = c .before .before .before .args .kind in

@@ -69,11 +69,16 @@ pub fn spoiled_fields(random: &mut Random, fields: Fields) -> Fields {
     Fields::of_list(list)
 }
 
-/// The call with one argument out of its range; a call without such an argument stays as it is.
-pub fn spoiled(random: &mut Random, call: Call) -> Call {
+/// The call with one argument out of its range; a call without such an argument stays as it is. The register
+/// page that it is lent has so many words.
+pub fn spoiled(random: &mut Random, call: Call, register_words: usize) -> Call {
     let mut call = call;
+    let first_past = register_words as u32;
     match &mut call {
-        Call::SetRegister { number, .. } => *number = past(random, 33),
+        Call::SetRegister { number, .. } => {
+            let past = past(random, first_past);
+            *number = random.pick(&[past, past, first_past.max(48)])
+        }
         Call::Map { page, rpn, wimg, pp, .. } => match random.below(6) {
             0 => *rpn = past(random, 1 << 20),
             1 => *wimg = past(random, 16),

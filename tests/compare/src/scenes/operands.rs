@@ -1,17 +1,17 @@
 //! Operands: where they begin, how long they are, and what covers their pages.
 
 use model::call::{Access, Page};
-use model::registers::{Block, Registers, Side};
+use model::registers::{Block, Side};
 
 use crate::random::Random;
 use crate::scenes::arguments;
-use crate::scenes::registers::{cover, Words, FIRST_BLOCK};
+use crate::scenes::registers::{cover, Words};
 
 /// An operand's address and length: anywhere, or over or up to an edge of a page, of a block of its
 /// side, or of a segment.
 pub fn anywhere(random: &mut Random, words: &Words, side: Side) -> (u32, u32) {
     let length = arguments::length(random);
-    let address = address(random, words);
+    let address = address(random, words, side);
     let edge = match random.below(8) {
         0..=2 => return (address, length),
         3..=4 => address.wrapping_add(0x800) & 0xFFFF_F000,
@@ -24,27 +24,27 @@ pub fn anywhere(random: &mut Random, words: &Words, side: Side) -> (u32, u32) {
 
 /// Where a block of a side begins or ends, of one that is on if there is any.
 fn block_edge(random: &mut Random, words: &Words, side: Side) -> u32 {
-    let blocks = Registers::of_words(*words).blocks(side);
-    let on: Vec<Block> = blocks.into_iter().filter(Block::is_on).collect();
+    let blocks = words.set().blocks(side);
+    let on: Vec<Block> = blocks.iter().copied().filter(Block::is_on).collect();
     let block = random.pick(if on.is_empty() { &blocks } else { &on });
     let [start, end] = [block.start(), block.start() + block.length()];
     random.pick(&[start, end]) as u32
 }
 
-/// An effective address: anywhere, or at an end of a block.
-fn address(random: &mut Random, words: &Words) -> u32 {
+/// An effective address: anywhere, or in or at an end of a block of either side, more often of its own.
+fn address(random: &mut Random, words: &Words, side: Side) -> u32 {
     if random.below(3) > 0 {
         return random.word();
     }
-    let upper = words[FIRST_BLOCK + 2 * random.index(8)];
-    let start = upper & 0xFFFE_0000;
-    let length = (upper & 0x1FFC) << 15 | 0x1_FFFF;
+    let side = random.pick(&[side, side, Side::Instruction, Side::Data]);
+    let block = random.pick(&words.set().blocks(side));
+    let (start, last) = (block.start() as u32, (block.length() - 1) as u32);
     match random.below(5) {
         0 => start,
         1 => start.wrapping_sub(1),
-        2 => start.wrapping_add(length),
-        3 => start.wrapping_add(length).wrapping_add(1),
-        _ => start.wrapping_add(random.word() & length),
+        2 => start.wrapping_add(last),
+        3 => start.wrapping_add(last).wrapping_add(1),
+        _ => start.wrapping_add(random.word() & last),
     }
 }
 
@@ -74,9 +74,10 @@ pub fn cover_parts(random: &mut Random, words: &mut Words, access: &Access) {
     let which =
         random.pick(&[[true, false], [false, true], [true, last >> 17 != access.address >> 17]]);
     words[17..].fill(0);
-    for (pair, (covered, address)) in which.into_iter().zip([access.address, last]).enumerate() {
+    let first = random.index(words.layout.pairs);
+    for (number, (covered, address)) in which.into_iter().zip([access.address, last]).enumerate() {
         if covered {
-            cover(random, words, pair, address);
+            cover(random, words, (first + number) % words.layout.pairs, address);
         }
     }
 }

@@ -1,8 +1,11 @@
 -- `mmu::access::mmu_access` meets its contract: a wrong length is refused, and else it writes the twelve words of what the access answers.
 use borrow.Author.Needs.{needs}
 use borrow.Author.Tests.{eqb-true, not-true, not-false}
-use mathlib.Core.Path.{_≡_, sym}
+use mathlib.Core.Path.{_≡_, sym, ap, _∙_}
+use mathlib.Core.Bool.{Bool, true, _&&_}
+use lib.Dec.{eqb}
 use lib.ListN.{length}
+use Rattle.registers.specs.Set.{isPage}
 use Rattle.words.proofs.Tests.{both}
 use Rattle.calls.specs.Answers.{accessAnswer}
 use Rattle.calls.proofs.Access.{access-wrong-length}
@@ -11,18 +14,21 @@ use Rattle.mmu.proofs.access.mmu_access.Tie as tie
 
 -- past the refusal of a length both lengths are right
 lengths : (c : tie.Else1) →
-    let start = c .before .before .before .before in
-    (length (start .args .registers .now) ≡ 132) × (length (start .args .answer .now) ≡ 48)
+    let start = c .before .before .before .before .before in
+    (isPage (length (start .args .registers .now)) ≡ true) × (length (start .args .answer .now) ≡ 48)
 lengths c =
     let right = both _ _ (not-false _ (c .if1 .left)) in
-    (eqb-true _ 132 (right .0), eqb-true _ 48 (right .1))
+    (sym (c .before .is-page .ensures) ∙ right .0, eqb-true _ 48 (right .1))
+
+is-page-requires : tie.Need-is-page-requires
+is-page-requires c κs = search needs
 
 returns : tie.Need-returns
 returns c =
-    let a = c .before .before .before .before .args in
+    let a = c .before .before .before .before .before .args in
     sym
     (access-wrong-length (record { registers = a .registers .now; mode = a .mode; kind = a .kind; address = a .address; length = a .length; answer = a .answer .now }) (a .table .now)
-    (not-true _ (c .if1 .taken)))
+    (ap (λ (b : Bool). b && eqb (length (a .answer .now)) 48) (sym (c .before .is-page .ensures)) ∙ not-true _ (c .if1 .taken)))
 
 translate-requires : tie.Need-translate-requires
 translate-requires c κs = lengths (c .before) .0
@@ -44,13 +50,14 @@ unfolding accessAnswer
 returns-2 c =
     let at-translate = c .before .before .before .before .before .before .before .before .before in
     let at-else = at-translate .before .before in
-    let a = at-else .before .before .before .before .args in
+    let a = at-else .before .before .before .before .before .args in
     rw (c .before .before .write-words .ensures) (at-translate .translate .ensures (a .answer .now) (lengths at-else .1))
 
 pub mmu-access-spec : {M : Type 1} → statement M
 mmu-access-spec =
     tie.close
     (tie.spec
+    is-page-requires
     returns
     translate-requires
     slice-aggregate-write-words

@@ -6,11 +6,18 @@
 
 #include <string.h>
 
-/* Every small function is to melt into its caller, where a constant argument takes tests away. */
+/*
+ * Every small function is to melt into its caller, where a constant argument takes tests away. What few calls need
+ * stays out of line, so that it costs the others no register.
+ */
 #if defined(__GNUC__)
 #define INLINE static inline __attribute__((always_inline))
+#define NOINLINE __attribute__((noinline))
+#define UNLIKELY(condition) __builtin_expect(condition, 0)
 #else
 #define INLINE static inline
+#define NOINLINE
+#define UNLIKELY(condition) (condition)
 #endif
 
 enum { FETCH, LOAD, STORE };
@@ -111,254 +118,281 @@ INLINE uint32_t inner_bits(uint32_t upper)
     return upper << 15 | 0x1FFFF;
 }
 
-/* A block's upper word and the address bits that run within it. */
-struct block {
-    uint32_t upper, inner;
+/* A block pair is one number, its upper word above its lower. Its bits that must be zero, by the side: */
+#define INSTRUCTION_ZERO UINT64_C(0x1FFCC)
+#define DATA_ZERO UINT64_C(0x1FF84)
+
+/* BL's bits of a block over 256 MB, which must be zero on a short page. */
+#define OVER_256_MB UINT64_C(0x0001E00000000000)
+
+/* BL's lowest one, a one at the low end of BEPI, BL and BRPN each, and a one in each hexadecimal digit. */
+struct numbers {
+    uint64_t bl_one, bl_places, digit[16];
 };
 
+static const struct numbers the_numbers = {
+    UINT64_C(1) << 34, UINT64_C(1) << 49 | UINT64_C(1) << 34 | UINT64_C(1) << 17,
+    { UINT64_C(1) << 0, UINT64_C(1) << 4, UINT64_C(1) << 8, UINT64_C(1) << 12,
+      UINT64_C(1) << 16, UINT64_C(1) << 20, UINT64_C(1) << 24, UINT64_C(1) << 28,
+      UINT64_C(1) << 32, UINT64_C(1) << 36, UINT64_C(1) << 40, UINT64_C(1) << 44,
+      UINT64_C(1) << 48, UINT64_C(1) << 52, UINT64_C(1) << 56, UINT64_C(1) << 60 },
+};
+
+/* Read once a call, so that the compiler uses the numbers where they lie; it would load each anew for each pair. */
+static const struct numbers *const volatile numbers_place = &the_numbers;
+
 /*
- * Reads a pair; whether it is on and breaks a rule. `zero` has the bits of both words that must be zero.
- * BL has a gap where the carry of inner + 1 stops under a one of BL. W and I both one carry into a bit of `zero`.
- * `bl` keeps BL of the upper word moved to its address bits: on a long page BL itself stands where the V bits come to.
+ * Not zero where BL of a pair has a gap or BEPI or BRPN has a one under a one of BL: BL is moved under all three, and
+ * in the pair BL + 1 takes BL's place. Of BL 7FFF, whose carry leaves BL, it says nothing.
  */
-INLINE int block_bad(struct block *block, const uint8_t *bytes, uint64_t zero, uint32_t bl)
+INLINE uint64_t under_bl(uint64_t pair, const struct numbers *numbers)
 {
-    uint64_t pair = words_at(bytes);
-    uint32_t upper = (uint32_t)(pair >> 32);
-    uint32_t inner = inner_bits(upper);
-    uint32_t under_bl = ((inner + 1) | upper | (uint32_t)pair) & upper << 15 & bl;
-    uint64_t reserved = zero & 0x40 ? pair & zero : (pair | (pair + 0x20)) & zero;
-    block->upper = upper;
-    block->inner = inner;
-    return (upper & 3) && (under_bl | reserved);
+    uint64_t bl = pair >> 34 & 0x7FFF;
+    return (pair + numbers->bl_one) & bl * numbers->bl_places;
 }
 
-/* The V bits in common of two blocks that share an address; BL's ones are at the low end by then. */
-INLINE uint32_t shared(struct block one, struct block other)
-{
-    if ((one.upper ^ other.upper) > (one.inner | other.inner))
-        return 0;
-    return one.upper & other.upper & 3;
-}
+/* The pairs of a side that are on: their bits, and how many begin at each value of the top four address bits. */
+struct side {
+    uint64_t any, begins;
+};
 
-/* Whether one of four pairs is on. */
-INLINE int some_on(const uint8_t *pairs)
-{
-    static const uint8_t valid[8] = { 0, 0, 0, 3, 0, 0, 0, 0 };
-    return ((raw_words_at(pairs) | raw_words_at(pairs + 8) | raw_words_at(pairs + 16) | raw_words_at(pairs + 24))
-            & raw_words_at(valid)) != 0;
-}
+/* The bits of `begins` that make a digit over one, and blocks that may begin anywhere. */
+#define CROWDED UINT64_C(0xEEEEEEEEEEEEEEEE)
+#define EVERYWHERE UINT64_C(0xFFFFFFFFFFFFFFFF)
 
-/* 3 or 4 where a side of a short page breaks that rule, 3 before 4; a side that is off as a whole is quick. */
-INLINE uint32_t short_side(const uint8_t *pairs, uint64_t zero)
+/* Sums a side up; `wrong` gets a one where BL, BEPI or BRPN of a pair is wrong. */
+INLINE struct side sum_up(const uint8_t *pairs, uint32_t count, const struct numbers *numbers, uint64_t *wrong)
 {
-    struct block a, b, c, d;
-    if (!some_on(pairs))
-        return 0;
-    if (block_bad(&a, pairs, zero, ~0u) || block_bad(&b, pairs + 8, zero, ~0u) || block_bad(&c, pairs + 16, zero, ~0u)
-        || block_bad(&d, pairs + 24, zero, ~0u))
-        return 3;
-    if (shared(a, b) || shared(a, c) || shared(a, d) || shared(b, c) || shared(b, d) || shared(c, d))
-        return 4;
-    return 0;
-}
-
-/* Whether one of eight pairs that is on breaks a rule, and whether two of them share an address and a V bit. */
-static int long_shape_bad(const uint8_t *pairs, uint64_t zero)
-{
-    struct block block;
-    int i;
-    for (i = 0; i < 8; i++)
-        if (block_bad(&block, pairs + 8 * i, zero, 0xFFFE0000u))
-            return 1;
-    return 0;
-}
-
-static int long_shared(const uint8_t *pairs)
-{
-    struct block blocks[8];
-    int i, j;
-    for (i = 0; i < 8; i++) {
-        blocks[i].upper = word_at(pairs + 8 * i);
-        blocks[i].inner = inner_bits(blocks[i].upper);
+    struct side side = { 0, 0 };
+#define ADD_PAIR(i) \
+    if (i < count && pairs[8 * i + 3] & 3) { \
+        uint64_t pair = words_at(pairs + 8 * i); \
+        side.any |= pair; \
+        *wrong |= under_bl(pair, numbers); \
+        side.begins += numbers->digit[(uint32_t)pairs[8 * i] >> 4]; \
     }
-    for (i = 1; i < 8; i++)
-        for (j = 0; j < i; j++)
-            if (shared(blocks[i], blocks[j]))
-                return 1;
-    return 0;
+    ADD_PAIR(0) ADD_PAIR(1) ADD_PAIR(2) ADD_PAIR(3) ADD_PAIR(4) ADD_PAIR(5) ADD_PAIR(6) ADD_PAIR(7)
+    return side;
 }
 
 /*
- * The same of a long page. The shapes of most sides are right at once: no pair, on or off, has a bit that must be zero
- * or a wrong BL. And no two blocks share an address where none is over 256 MB and no two that are on have the same top
- * four address bits. What is not right at once is asked by itself.
+ * The quick test of all pairs: it may say "right" only where no pair breaks a rule, and it never says so where a block
+ * is over 256 MB, where two of a side begin in the same 256 MB or where W is of one data block and I of another.
  */
-INLINE uint32_t long_side(const uint8_t *pairs, uint64_t zero)
+INLINE int quick_pairs(const uint8_t *pairs, uint32_t count, uint64_t begins[2])
 {
-    uint64_t any = 0;
-    uint32_t under_bl = 0, seen = 0, again = 0, i;
-    if (!some_on(pairs) && !some_on(pairs + 32))
-        return 0;
-    for (i = 0; i < 8; i++) {
-        uint64_t pair = words_at(pairs + 8 * i);
-        uint32_t upper = (uint32_t)(pair >> 32), bl = upper << 15 & 0xFFFE0000u;
-        uint32_t segment = (uint32_t)((upper & 3) != 0) << (upper >> 28);
-        any |= pair;
-        under_bl |= ((bl + 0x20000) | upper | (uint32_t)pair) & bl;
-        again |= seen & segment;
-        seen |= segment;
-    }
-    if ((under_bl | ((zero & 0x40 ? any : any | (any + 0x20)) & zero)) && long_shape_bad(pairs, zero))
-        return 3;
-    if ((again | (any & UINT64_C(0x0001E00000000000))) && long_shared(pairs))
-        return 4;
-    return 0;
+    const struct numbers *numbers = numbers_place;
+    uint64_t wrong = 0;
+    struct side instruction = sum_up(pairs, count, numbers, &wrong);
+    struct side data = sum_up(pairs + 8 * count, count, numbers, &wrong);
+    begins[0] = instruction.begins;
+    begins[1] = data.begins;
+    if ((instruction.begins | data.begins) == 0)
+        return 1;
+    wrong |= instruction.any & (INSTRUCTION_ZERO | OVER_256_MB);
+    wrong |= (data.any | (data.any + 0x20)) & (DATA_ZERO | OVER_256_MB);
+    wrong |= (instruction.begins | data.begins) & CROWDED;
+    return wrong == 0;
 }
 
 /* The segments' words are put together as they lie in memory: only their first bytes are asked about. */
 INLINE int segments_bad(const uint8_t *segments)
 {
     static const uint8_t zero[8] = { 0x8F, 0, 0, 0, 0x8F, 0, 0, 0 };
-    uint64_t any = 0;
-    int i;
-    for (i = 0; i < 8; i++)
-        any |= raw_words_at(segments + 8 * i);
+    uint64_t any = raw_words_at(segments) | raw_words_at(segments + 8) | raw_words_at(segments + 16)
+                 | raw_words_at(segments + 24) | raw_words_at(segments + 32) | raw_words_at(segments + 40)
+                 | raw_words_at(segments + 48) | raw_words_at(segments + 56);
     return (any & raw_words_at(zero)) != 0;
 }
 
-/* The first broken rule of a page with so many pairs a side, four or eight. */
-INLINE uint32_t check_pairs(const uint8_t *registers, uint32_t pairs)
+/* Whether one of a side's pairs that are on has a wrong shape; `zero` are the bits that must be zero. */
+INLINE int shapes_bad(const uint8_t *pairs, uint32_t count, uint64_t zero)
 {
-    const uint8_t *data_pairs = registers + PAIRS + 8 * pairs;
-    uint32_t instruction, data;
+    uint64_t wrong = 0;
+    uint32_t i;
+    for (i = 0; i < count; i++) {
+        uint64_t pair = words_at(pairs + 8 * i), bl = pair >> 34 & 0x7FFF;
+        if ((pair & (UINT64_C(3) << 32)) == 0)
+            continue;
+        wrong |= ((bl + 1) & bl) | (pair & bl * (UINT64_C(1) << 49 | UINT64_C(1) << 17));
+        wrong |= (zero & 0x40 ? pair : pair | (pair + 0x20)) & zero;
+    }
+    return wrong != 0;
+}
+
+/* The upper words of a side's pairs and the address bits that run within each block. */
+struct blocks {
+    uint32_t upper[8], inner[8];
+};
+
+/* Whether block i shares an address and a V bit with one before it; their shapes are right by now. */
+INLINE int clashes(const struct blocks *blocks, uint32_t i)
+{
+    uint32_t upper = blocks->upper[i], inner = blocks->inner[i];
+#define RETURN_IF_SHARED(j) \
+    if (j < i && (upper ^ blocks->upper[j]) <= (inner | blocks->inner[j]) && upper & blocks->upper[j] & 3) \
+        return 1;
+    RETURN_IF_SHARED(0) RETURN_IF_SHARED(1) RETURN_IF_SHARED(2) RETURN_IF_SHARED(3)
+    RETURN_IF_SHARED(4) RETURN_IF_SHARED(5) RETURN_IF_SHARED(6)
+    return 0;
+}
+
+/* Whether two of a side's pairs share an address and a V bit; one that is off has none. */
+INLINE int some_clash(const uint8_t *pairs, uint32_t count)
+{
+    struct blocks blocks;
+    uint32_t i;
+    for (i = 0; i < count; i++) {
+        blocks.upper[i] = word_at(pairs + 8 * i);
+        blocks.inner[i] = inner_bits(blocks.upper[i]);
+    }
+    if (clashes(&blocks, 1) || clashes(&blocks, 2) || clashes(&blocks, 3))
+        return 1;
+    return count == 8 && (clashes(&blocks, 4) || clashes(&blocks, 5) || clashes(&blocks, 6) || clashes(&blocks, 7));
+}
+
+/* The exact check: the first broken rule of any page with so many pairs a side. It decides what is left open. */
+INLINE uint32_t exact_check(const uint8_t *registers, uint32_t count)
+{
+    const uint8_t *instruction = registers + PAIRS, *data = instruction + 8 * count;
+    uint64_t over = count == 4 ? OVER_256_MB : 0;
     if (sdr1_bad(word_at(registers)))
         return 2;
-    if (pairs == 4) {
-        instruction = short_side(registers + PAIRS, UINT64_C(0x0001E0000001FFCC));
-        data = short_side(data_pairs, UINT64_C(0x0001E0000001FF84));
-    } else {
-        instruction = long_side(registers + PAIRS, UINT64_C(0x000000000001FFCC));
-        data = long_side(data_pairs, UINT64_C(0x000000000001FF84));
-    }
-    if (instruction | data)
-        return instruction == 3 || data == 3 ? 3 : 4;
+    if (shapes_bad(instruction, count, INSTRUCTION_ZERO | over) || shapes_bad(data, count, DATA_ZERO | over))
+        return 3;
+    if (some_clash(instruction, count) || some_clash(data, count))
+        return 4;
     return segments_bad(registers + SEGMENTS) ? 5 : 0;
 }
 
-static uint32_t check_short(const uint8_t *registers)
+static NOINLINE uint32_t exact_short(const uint8_t *registers)
 {
-    return check_pairs(registers, 4);
+    return exact_check(registers, 4);
 }
 
-static uint32_t check_long(const uint8_t *registers)
+static NOINLINE uint32_t exact_long(const uint8_t *registers)
 {
-    return check_pairs(registers, 8);
+    return exact_check(registers, 8);
+}
+
+/* The quick test of a page: it may say "right" only of a page that breaks no rule, and of no page that it is wrong. */
+INLINE int quick_page(const uint8_t *registers, uint32_t count, uint64_t begins[2])
+{
+    return !sdr1_bad(word_at(registers)) && !segments_bad(registers + SEGMENTS)
+        && quick_pairs(registers + PAIRS, count, begins);
+}
+
+/* The first broken rule of a page with so many pairs a side. */
+INLINE uint32_t check_page(const uint8_t *registers, uint32_t count)
+{
+    uint64_t begins[2];
+    if (quick_page(registers, count, begins))
+        return 0;
+    return count == 4 ? exact_short(registers) : exact_long(registers);
 }
 
 uint32_t PLAIN(check)(const uint8_t *registers, size_t registers_len)
 {
     if (registers_len == SHORT_PAGE)
-        return check_short(registers);
-    return registers_len == LONG_PAGE ? check_long(registers) : 11;
+        return check_page(registers, 4);
+    return registers_len == LONG_PAGE ? check_page(registers, 8) : 11;
 }
 
-/* Puts a word into a copy of the page, and into the page where the copy breaks no rule. */
-INLINE uint32_t set_checked(uint8_t *registers, size_t len, uint32_t number, uint32_t word,
-                            uint32_t (*check)(const uint8_t *))
+/* Puts a word into the page, and the old one back where the new page breaks a rule. */
+INLINE uint32_t set_checked(uint8_t *registers, uint32_t count, uint32_t number, uint32_t word)
 {
-    uint8_t next[LONG_PAGE];
-    uint32_t result;
-    if (number >= len / 4)
+    uint32_t old, result;
+    if (number >= 17 + 4 * count)
         return 6;
-    memcpy(next, registers, len);
-    put_word(next + 4 * number, word);
-    result = check(next);
-    if (result == 0)
-        put_word(registers + 4 * number, word);
+    old = raw_at(registers + 4 * number);
+    put_word(registers + 4 * number, word);
+    result = check_page(registers, count);
+    if (result != 0)
+        memcpy(registers + 4 * number, &old, 4);
     return result;
 }
 
 uint32_t PLAIN(set_register)(uint8_t *registers, size_t registers_len, uint32_t number, uint32_t word)
 {
     if (registers_len == SHORT_PAGE)
-        return set_checked(registers, SHORT_PAGE, number, word, check_short);
-    if (registers_len == LONG_PAGE)
-        return set_checked(registers, LONG_PAGE, number, word, check_long);
-    return 11;
+        return set_checked(registers, 4, number, word);
+    return registers_len == LONG_PAGE ? set_checked(registers, 8, number, word) : 11;
 }
 
 /* ---- Groups ----------------------------------------------------------------------------------- */
 
-/* A group, to be addressed by entry. */
-struct group {
-    uint8_t entry[8][8];
+/* A page's two groups and their numbers, and the first words, as they lie in memory, that match in each. */
+struct groups {
+    uint8_t *primary, *secondary;
+    uint32_t primary_number, secondary_number, primary_word, secondary_word;
 };
 
-/* A page's two groups and the first words, as they lie in memory, that match in each. */
-struct pair {
-    struct group *primary, *secondary;
-    uint32_t primary_word, secondary_word;
-};
-
-INLINE struct pair pair_of(uint32_t sdr1, uint32_t vsid, uint32_t page_index, uint8_t *table)
+/* The table's length is that of SDR1 by now, and has the mask of the hash. */
+INLINE struct groups groups_of(uint32_t vsid, uint32_t page_index, uint8_t *table, size_t table_len)
 {
-    struct pair pair;
-    struct group *groups = (struct group *)table;
-    uint32_t mask = (sdr1 & 0xFFFF) << 10 | 0x3FF;
-    uint32_t hash = (vsid ^ page_index) & mask;
-    uint32_t first = 0x80000000u | vsid << 7 | page_index >> 10;
-    pair.primary = groups + hash;
-    pair.secondary = groups + (hash ^ mask);
-    pair.primary_word = raw_of(first);
-    pair.secondary_word = pair.primary_word | raw_of(0x40);
-    return pair;
+    struct groups groups;
+    uint32_t last = (uint32_t)table_len - 64, hash = vsid ^ page_index, primary = hash << 6 & last;
+    groups.primary = table + primary;
+    groups.secondary = table + (primary ^ last);
+    groups.primary_number = hash & last >> 6;
+    groups.secondary_number = groups.primary_number ^ last >> 6;
+    groups.primary_word = raw_of(0x80000000u | vsid << 7 | page_index >> 10);
+    groups.secondary_word = groups.primary_word | raw_of(0x40);
+    return groups;
 }
 
 /* A statement for each entry of a group; written out, since a loop would cost more than the comparison in it. */
 #define EACH_ENTRY(DO) DO(0) DO(1) DO(2) DO(3) DO(4) DO(5) DO(6) DO(7)
 
-INLINE int group_has(const struct group *group, uint32_t word)
-{
-#define RETURN_IF_MATCH(i) if (raw_at(group->entry[i]) == word) return 1;
-    EACH_ENTRY(RETURN_IF_MATCH)
-    return 0;
-}
-
-/*
- * The matches of a page: the first one's place in search order, or NONE, its second word as it lies in memory, and
- * whether another's does not agree; V, VSID and API are equal in all.
- */
-struct matches {
-    uint32_t place, second;
-    int contradict;
+/* A match: the entry, or NULL, its group's number and its own. */
+struct match {
+    uint8_t *entry;
+    uint32_t group, number;
 };
 
-enum { NONE = 16 };
+enum found { NONE, ONE, SEVERAL };
 
-INLINE void note_match(struct matches *matches, const uint8_t *entry, uint32_t place)
+/* The quick search: it answers a page's only match or that there is none; of several it says that alone. */
+INLINE enum found find(struct match *match, struct groups groups)
 {
-    uint32_t second = raw_at(entry + 4);
-    if (matches->place == NONE) {
-        matches->place = place;
-        matches->second = second;
-    } else if ((second ^ matches->second) & raw_of(AGREED)) {
-        matches->contradict = 1;
+    match->entry = NULL;
+#define FIND_IN(half, i) \
+    if (raw_at(groups.half + 8 * i) == groups.half##_word) { \
+        if (match->entry != NULL) \
+            return SEVERAL; \
+        match->entry = groups.half + 8 * i; \
+        match->group = groups.half##_number; \
+        match->number = i; \
     }
+#define FIND_IN_PRIMARY(i) FIND_IN(primary, i)
+#define FIND_IN_SECONDARY(i) FIND_IN(secondary, i)
+    EACH_ENTRY(FIND_IN_PRIMARY)
+    EACH_ENTRY(FIND_IN_SECONDARY)
+    return match->entry == NULL ? NONE : ONE;
 }
 
-INLINE void search_group(struct matches *matches, const struct group *group, uint32_t word, uint32_t place)
+/* All matches of a page in search order; for a page that has several. */
+static uint32_t find_all(uint8_t *primary, uint8_t *secondary, uint32_t word, uint8_t *entries[16])
 {
-#define NOTE_IF_MATCH(i) if (raw_at(group->entry[i]) == word) note_match(matches, group->entry[i], place + i);
-    EACH_ENTRY(NOTE_IF_MATCH)
+    uint32_t secondary_word = word | raw_of(0x40), count = 0, i;
+    for (i = 0; i < 64; i += 8)
+        if (raw_at(primary + i) == word)
+            entries[count++] = primary + i;
+    for (i = 0; i < 64; i += 8)
+        if (raw_at(secondary + i) == secondary_word)
+            entries[count++] = secondary + i;
+    return count;
 }
 
-INLINE struct matches search(struct pair pair)
+/* The first of several matches, or NULL where they contradict. */
+static NOINLINE uint8_t *first_of_several(uint8_t *primary, uint8_t *secondary, uint32_t word)
 {
-    struct matches matches = { NONE, 0, 0 };
-    search_group(&matches, pair.primary, pair.primary_word, 0);
-    search_group(&matches, pair.secondary, pair.secondary_word, 8);
-    return matches;
+    uint8_t *entries[16];
+    uint32_t count = find_all(primary, secondary, word, entries), i;
+    for (i = 1; i < count; i++)
+        if ((word_at(entries[i] + 4) ^ word_at(entries[0] + 4)) & AGREED)
+            return NULL;
+    return entries[0];
 }
 
 /* ---- Page calls ------------------------------------------------------------------------------- */
@@ -381,10 +415,27 @@ uint32_t PLAIN(clear)(uint32_t sdr1, uint8_t *table, size_t table_len)
     return result;
 }
 
-/* A group's first entry with V = 0, or NULL. */
-INLINE uint8_t *free_entry(struct group *group)
+/* The answer that shows an entry's second word, which is moved as it lies in memory. */
+INLINE uint32_t answer_entry(uint8_t *answer, const uint8_t *entry)
 {
-#define RETURN_IF_FREE(i) if (!(group->entry[i][0] & 0x80)) return group->entry[i];
+    memset(answer, 0, 4);
+    memcpy(answer + 4, entry + 4, 4);
+    memset(answer + 8, 0, 8);
+    return 0;
+}
+
+/* Whether a group has an entry with this first word. */
+INLINE int group_has(const uint8_t *group, uint32_t word)
+{
+#define RETURN_IF_MATCH(i) if (raw_at(group + 8 * i) == word) return 1;
+    EACH_ENTRY(RETURN_IF_MATCH)
+    return 0;
+}
+
+/* A group's first entry with V = 0, or NULL. */
+INLINE uint8_t *free_entry(uint8_t *group)
+{
+#define RETURN_IF_FREE(i) if (!(group[8 * i] & 0x80)) return group + 8 * i;
     EACH_ENTRY(RETURN_IF_FREE)
     return NULL;
 }
@@ -392,7 +443,7 @@ INLINE uint8_t *free_entry(struct group *group)
 uint32_t PLAIN(map)(uint32_t sdr1, uint32_t vsid, uint32_t page_index, uint32_t rpn, uint32_t wimg, uint32_t pp,
                     uint8_t *table, size_t table_len)
 {
-    struct pair pair;
+    struct groups groups;
     uint8_t *entry;
     uint32_t result;
     if (rpn > 0xFFFFF || wimg > 11 || pp > 3)
@@ -400,297 +451,355 @@ uint32_t PLAIN(map)(uint32_t sdr1, uint32_t vsid, uint32_t page_index, uint32_t 
     result = page_check(sdr1, vsid, page_index, table_len);
     if (result != 0)
         return result;
-    pair = pair_of(sdr1, vsid, page_index, table);
-    if (group_has(pair.primary, pair.primary_word) || group_has(pair.secondary, pair.secondary_word))
+    groups = groups_of(vsid, page_index, table, table_len);
+    if (group_has(groups.primary, groups.primary_word) || group_has(groups.secondary, groups.secondary_word))
         return 7;
-    entry = free_entry(pair.primary);
+    entry = free_entry(groups.primary);
     if (entry == NULL) {
-        entry = free_entry(pair.secondary);
-        pair.primary_word = pair.secondary_word;
+        entry = free_entry(groups.secondary);
+        groups.primary_word = groups.secondary_word;
     }
     if (entry == NULL)
         return 9;
-    memcpy(entry, &pair.primary_word, 4);
+    memcpy(entry, &groups.primary_word, 4);
     put_word(entry + 4, rpn << 12 | wimg << 3 | pp);
     return 0;
 }
 
-/* What an unmap met: how many matches, the first one's second word and the marks of all. */
-struct emptied {
-    uint32_t count, second, marks;
-};
-
-INLINE void empty_entry(struct emptied *emptied, uint8_t *entry)
+/* Empties the several matches of a page and answers the first one's second word with the marks of all. */
+static NOINLINE uint32_t unmap_several(uint8_t *primary, uint8_t *secondary, uint32_t word, uint8_t *answer)
 {
-    uint32_t second = word_at(entry + 4);
-    if (emptied->count == 0)
-        emptied->second = second;
-    emptied->marks |= second & 0x180;
-    emptied->count++;
-    memset(entry, 0, 8);
-}
-
-INLINE void empty_group(struct emptied *emptied, struct group *group, uint32_t word)
-{
-#define EMPTY_IF_MATCH(i) if (raw_at(group->entry[i]) == word) empty_entry(emptied, group->entry[i]);
-    EACH_ENTRY(EMPTY_IF_MATCH)
+    uint8_t *entries[16];
+    uint32_t count = find_all(primary, secondary, word, entries), second = word_at(entries[0] + 4), i;
+    for (i = 0; i < count; i++) {
+        second |= word_at(entries[i] + 4) & 0x180;
+        memset(entries[i], 0, 8);
+    }
+    return answer_words(answer, 0, second, 0, 0);
 }
 
 uint32_t PLAIN(unmap)(uint32_t sdr1, uint32_t vsid, uint32_t page_index, uint8_t *table, size_t table_len,
                       uint8_t *answer, size_t answer_len)
 {
-    struct emptied emptied = { 0, 0, 0 };
-    struct pair pair;
+    struct groups groups;
+    struct match match;
+    enum found found;
     uint32_t result;
     if (answer_len != 16)
         return 11;
     result = page_check(sdr1, vsid, page_index, table_len);
     if (result != 0)
         return refuse(answer, result);
-    pair = pair_of(sdr1, vsid, page_index, table);
-    empty_group(&emptied, pair.primary, pair.primary_word);
-    empty_group(&emptied, pair.secondary, pair.secondary_word);
-    if (emptied.count == 0)
+    groups = groups_of(vsid, page_index, table, table_len);
+    found = find(&match, groups);
+    if (found == NONE)
         return refuse(answer, 8);
-    return answer_words(answer, 0, emptied.second | emptied.marks, 0, 0);
+    if (found == SEVERAL)
+        return unmap_several(groups.primary, groups.secondary, groups.primary_word, answer);
+    answer_entry(answer, match.entry);
+    memset(match.entry, 0, 8);
+    return 0;
 }
 
-INLINE void protect_entry(uint32_t *count, uint8_t *entry, uint32_t pp)
+INLINE uint32_t put_pp(uint8_t *entry, uint32_t pp)
 {
     entry[7] = (uint8_t)((entry[7] & 0xFC) | pp);
-    ++*count;
+    return 0;
 }
 
-INLINE void protect_group(uint32_t *count, struct group *group, uint32_t word, uint32_t pp)
+/* Puts PP into the several matches of a page. */
+static NOINLINE uint32_t protect_several(uint8_t *primary, uint8_t *secondary, uint32_t word, uint32_t pp)
 {
-#define PROTECT_IF_MATCH(i) if (raw_at(group->entry[i]) == word) protect_entry(count, group->entry[i], pp);
-    EACH_ENTRY(PROTECT_IF_MATCH)
+    uint8_t *entries[16];
+    uint32_t count = find_all(primary, secondary, word, entries), i;
+    for (i = 0; i < count; i++)
+        put_pp(entries[i], pp);
+    return 0;
 }
 
 uint32_t PLAIN(protect)(uint32_t sdr1, uint32_t vsid, uint32_t page_index, uint32_t pp, uint8_t *table,
                         size_t table_len)
 {
-    struct pair pair;
-    uint32_t result, count = 0;
+    struct groups groups;
+    struct match match;
+    enum found found;
+    uint32_t result;
     if (pp > 3)
         return 6;
     result = page_check(sdr1, vsid, page_index, table_len);
     if (result != 0)
         return result;
-    pair = pair_of(sdr1, vsid, page_index, table);
-    protect_group(&count, pair.primary, pair.primary_word, pp);
-    protect_group(&count, pair.secondary, pair.secondary_word, pp);
-    return count == 0 ? 8 : 0;
+    groups = groups_of(vsid, page_index, table, table_len);
+    found = find(&match, groups);
+    if (found == NONE)
+        return 8;
+    if (found == SEVERAL)
+        return protect_several(groups.primary, groups.secondary, groups.primary_word, pp);
+    return put_pp(match.entry, pp);
+}
+
+/* Answers the first of several matches, or refuses them where they contradict. */
+static NOINLINE uint32_t look_several(uint8_t *primary, uint8_t *secondary, uint32_t word, uint8_t *answer)
+{
+    const uint8_t *entry = first_of_several(primary, secondary, word);
+    return entry == NULL ? refuse(answer, 10) : answer_entry(answer, entry);
 }
 
 uint32_t PLAIN(look)(uint32_t sdr1, uint32_t vsid, uint32_t page_index, const uint8_t *table, size_t table_len,
                      uint8_t *answer, size_t answer_len)
 {
-    struct matches matches;
+    struct groups groups;
+    struct match match;
+    enum found found;
     uint32_t result;
     if (answer_len != 16)
         return 11;
     result = page_check(sdr1, vsid, page_index, table_len);
     if (result != 0)
         return refuse(answer, result);
-    matches = search(pair_of(sdr1, vsid, page_index, (uint8_t *)table));
-    if (matches.contradict)
-        return refuse(answer, 10);
-    if (matches.place == NONE)
+    groups = groups_of(vsid, page_index, (uint8_t *)table, table_len);
+    found = find(&match, groups);
+    if (found == NONE)
         return refuse(answer, 8);
-    refuse(answer, 0);
-    memcpy(answer + 4, &matches.second, 4);
-    return 0;
+    if (found == SEVERAL)
+        return look_several(groups.primary, groups.secondary, groups.primary_word, answer);
+    return answer_entry(answer, match.entry);
 }
 
 /* ---- Access ----------------------------------------------------------------------------------- */
 
-/* The rights of key 1 are those of a block too: bit 4 * key + PP of each number. */
-INLINE int allowed(uint32_t kind, uint32_t key, uint32_t pp)
+/* The rights of each kind by 4 * key + PP, eight bits a kind; those of key 1 are those of a block too. */
+INLINE int allowed(uint32_t kind, uint32_t detail)
 {
-    uint32_t rights = kind == STORE ? 0x47 : 0xEF;
-    return rights >> (4 * key + pp) & 1;
+    return 0x47EFEFu >> (8 * kind + detail) & 1;
 }
 
-/*
- * A part of an operand, within one page, writes the four words of its answer and the four of its record, and gives its
- * result; `entry` is where the entry that did it is handed back, to be marked when the whole operand is done.
- */
-struct part {
-    uint8_t *answer, *record, *entry;
+/* An access, the pairs of its side, and where they begin by the quick test; EVERYWHERE if that left the page open. */
+struct access {
+    const uint8_t *registers, *pairs;
+    uint32_t count, mode, kind;
+    uint64_t begins;
+    uint8_t *table;
+    size_t table_len;
+    uint8_t *answer;
 };
 
-/* A rule that shows no entry. */
-INLINE void show(uint8_t *record, uint32_t rule, uint32_t detail)
+/* Which part of the operand is translated, and which entry did it, to be marked when the whole operand is done. */
+struct part {
+    int second;
+    uint32_t address;
+    uint8_t *entry;
+};
+
+/* A done part: the first one's words 0 to 3, the second one's words 4 and 5. */
+INLINE uint32_t done(const struct access *access, const struct part *part, uint32_t physical, uint32_t attributes)
 {
-    answer_words(record, rule, detail, 0, 0);
+    if (part->second)
+        put_words(access->answer + 16, physical, attributes);
+    else
+        answer_words(access->answer, 0, physical, attributes, part->address);
+    return 0;
 }
 
-/* The record of a refusal. */
-INLINE void show_none(uint8_t *record)
+/* Words 8 to 11; those of a second part that is done are not shown. */
+INLINE void show(const struct access *access, uint32_t rule, uint32_t detail, uint32_t group, uint32_t entry)
 {
-    memset(record, 0, 16);
+    put_words(access->answer + RECORD, rule, detail);
+    put_words(access->answer + RECORD + 8, group, entry);
 }
 
-INLINE uint32_t fault(uint8_t *answer, uint32_t kind, uint32_t cause, uint32_t address)
+INLINE uint32_t fault(const struct access *access, const struct part *part, uint32_t cause)
 {
-    if (kind == FETCH)
-        return answer_words(answer, 65, cause, 0x400, address);
-    return answer_words(answer, 64, kind == STORE ? cause | STORING : cause, 0x300, address);
-}
-
-INLINE uint32_t by_block(const uint8_t *pair, uint32_t kind, uint32_t address, uint8_t *answer)
-{
-    uint32_t upper = word_at(pair);
-    uint32_t lower = word_at(pair + 4);
-    uint32_t inner = inner_bits(upper);
-    if (!allowed(kind, 1, lower & 3))
-        return fault(answer, kind, PROTECTION, address);
-    return answer_words(answer, 0, (lower & ~inner) | (address & inner), lower >> 3 & 15, address);
+    if (access->kind == FETCH)
+        return answer_words(access->answer, 65, cause, 0x400, part->address);
+    return answer_words(access->answer, 64, access->kind == STORE ? cause | STORING : cause, 0x300, part->address);
 }
 
 /* What the entry of the first match says: steps 5 to 7. */
-INLINE uint32_t by_entry(struct part *part, const uint8_t *table, struct group *group, uint32_t place, uint32_t kind,
-                         uint32_t key, uint32_t second, uint32_t address)
+INLINE uint32_t by_entry(const struct access *access, struct part *part, struct match match, uint32_t segment)
 {
-    uint32_t number = (uint32_t)(group - (const struct group *)table), detail = 4 * key + (second & 3);
-    if (kind == FETCH && second & 8) {
-        answer_words(part->record, RULE_GUARDED, 0, number, place % 8);
-        return fault(part->answer, kind, NO_EXECUTE, address);
+    uint32_t second = word_at(match.entry + 4);
+    uint32_t key = (access->mode & 4 ? segment >> 27 : segment >> 28) & 4, detail = key | (second & 3);
+    if (access->kind == FETCH && second & 8) {
+        show(access, RULE_GUARDED, 0, match.group, match.number);
+        return fault(access, part, NO_EXECUTE);
     }
-    if (!allowed(kind, key, second & 3)) {
-        answer_words(part->record, RULE_PROTECTION, detail, number, place % 8);
-        return fault(part->answer, kind, PROTECTION, address);
+    if (!allowed(access->kind, detail)) {
+        show(access, RULE_PROTECTION, detail, match.group, match.number);
+        return fault(access, part, PROTECTION);
     }
-    answer_words(part->record, RULE_DONE, detail, number, place % 8);
-    part->entry = group->entry[place % 8];
-    return answer_words(part->answer, 0, (second & 0xFFFFF000) | (address & 0xFFF), second >> 3 & 15, address);
+    if (!part->second)
+        show(access, RULE_DONE, detail, match.group, match.number);
+    part->entry = match.entry;
+    return done(access, part, ((second ^ part->address) & 0xFFFFF000) ^ part->address, second >> 3 & 15);
 }
 
-INLINE uint32_t by_page(struct part *part, const uint8_t *registers, uint32_t mode, uint32_t kind, uint32_t address,
-                        uint8_t *table)
+/* The first of a page's several matches; its entry is NULL where they contradict. */
+INLINE struct match first_match(const struct access *access, struct groups groups)
 {
-    uint32_t segment = word_at(registers + SEGMENTS + 4 * (address >> 28));
-    uint32_t key = (mode & 4 ? segment >> 29 : segment >> 30) & 1;
-    struct pair pair = pair_of(word_at(registers), segment & 0xFFFFFF, address >> 12 & 0xFFFF, table);
-    struct matches matches;
-    if (kind == FETCH && segment & 0x10000000) {
-        show(part->record, RULE_NO_EXECUTE, 0);
-        return fault(part->answer, kind, NO_EXECUTE, address);
-    }
-    matches = search(pair);
-    if (matches.contradict) {
-        show_none(part->record);
-        return refuse(part->answer, 10);
-    }
-    if (matches.place == NONE) {
-        show(part->record, RULE_NO_MATCH, 0);
-        return fault(part->answer, kind, NO_MATCH, address);
-    }
-    return by_entry(part, table, matches.place < 8 ? pair.primary : pair.secondary, matches.place, kind, key,
-                    raw_of(matches.second), address);
+    struct match match;
+    uint32_t offset;
+    match.entry = first_of_several(groups.primary, groups.secondary, groups.primary_word);
+    offset = match.entry == NULL ? 0 : (uint32_t)(match.entry - access->table);
+    match.group = offset >> 6;
+    match.number = offset >> 3 & 7;
+    return match;
 }
 
-/* The steps of a part whose registers, with so many pairs a side, and table length are right. */
-INLINE uint32_t translate(struct part *part, const uint8_t *registers, uint32_t count, uint32_t mode, uint32_t kind,
-                          uint32_t address, uint8_t *table)
+/* Steps 3 and 4. */
+INLINE uint32_t by_page(const struct access *access, struct part *part)
 {
-    const uint8_t *pairs = registers + PAIRS + (kind == FETCH ? 0 : 8 * count);
-    uint32_t valid = mode & 4 ? 1 : 2, i;
-    part->entry = NULL;
-    if (!(mode & (kind == FETCH ? 2 : 1))) {
-        show(part->record, RULE_REAL, 0);
-        return answer_words(part->answer, 0, address, 3, address);
+    uint32_t segment = word_at(access->registers + SEGMENTS + 4 * (part->address >> 28));
+    uint32_t vsid = segment & 0xFFFFFF, page_index = part->address >> 12 & 0xFFFF;
+    struct groups groups = groups_of(vsid, page_index, access->table, access->table_len);
+    struct match match;
+    enum found found;
+    if (access->kind == FETCH && segment & 0x10000000) {
+        show(access, RULE_NO_EXECUTE, 0, 0, 0);
+        return fault(access, part, NO_EXECUTE);
     }
-    for (i = 0; i < count; i++) {
-        uint32_t upper = word_at(pairs + 8 * i);
-        if (upper & valid && (upper ^ address) <= inner_bits(upper)) {
-            show(part->record, RULE_BLOCK, i);
-            return by_block(pairs + 8 * i, kind, address, part->answer);
+    found = find(&match, groups);
+    if (found == NONE) {
+        show(access, RULE_NO_MATCH, 0, 0, 0);
+        return fault(access, part, NO_MATCH);
+    }
+    if (found == SEVERAL) {
+        match = first_match(access, groups);
+        if (match.entry == NULL) {
+            show(access, 0, 0, 0, 0);
+            return refuse(access->answer, 10);
         }
     }
-    return by_page(part, registers, mode, kind, address, table);
+    return by_entry(access, part, match, segment);
 }
 
-INLINE void mark(uint8_t *entry, uint32_t kind)
+/* The block with this number, which holds the address. */
+INLINE uint32_t by_block(const struct access *access, const struct part *part, uint32_t number)
 {
-    if (entry == NULL)
+    uint64_t pair = words_at(access->pairs + 8 * number);
+    uint32_t lower = (uint32_t)pair, inner = inner_bits((uint32_t)(pair >> 32));
+    if (!allowed(access->kind, 4 | (lower & 3))) {
+        show(access, RULE_BLOCK, number, 0, 0);
+        return fault(access, part, PROTECTION);
+    }
+    if (!part->second)
+        show(access, RULE_BLOCK, number, 0, 0);
+    return done(access, part, (lower & ~inner) | (part->address & inner), lower >> 3 & 15);
+}
+
+/* The number of the block that holds an address, or the count of pairs. */
+INLINE uint32_t find_block(const struct access *access, uint32_t address)
+{
+    uint32_t valid = access->mode & 4 ? 1 : 2, i;
+    for (i = 0; i < access->count; i++) {
+        uint32_t upper = word_at(access->pairs + 8 * i);
+        if ((upper ^ address) <= inner_bits(upper) && upper & valid)
+            break;
+    }
+    return i;
+}
+
+/* Steps 2 to 7. The blocks are passed over where none begins in the address's 256 MB and so none can hold it. */
+INLINE uint32_t translate(const struct access *access, struct part *part)
+{
+    if (access->begins >> (part->address >> 28) * 4 & 15) {
+        uint32_t number = find_block(access, part->address);
+        if (number < access->count)
+            return by_block(access, part, number);
+    }
+    return by_page(access, part);
+}
+
+INLINE void mark(const struct part *part, uint32_t kind)
+{
+    if (part->entry == NULL)
         return;
-    entry[6] |= 1;
+    part->entry[6] |= 1;
     if (kind == STORE)
-        entry[7] |= 0x80;
+        part->entry[7] |= 0x80;
 }
 
 /* Words 4 to 7 of an answer without a second part. */
 INLINE uint32_t no_second(uint8_t *answer, uint32_t result, uint32_t bytes)
 {
-    memset(answer + 16, 0, 16);
-    if (result == 0)
-        put_word(answer + 24, bytes);
+    memset(answer + 16, 0, 8);
+    put_words(answer + 24, result == 0 ? bytes : 0, 0);
     return result;
 }
 
 INLINE uint32_t refuse_access(uint8_t *answer, uint32_t number)
 {
-    refuse(answer, number);
-    show_none(answer + RECORD);
-    return no_second(answer, number, 0);
+    memset(answer, 0, 48);
+    put_word(answer, number);
+    return number;
 }
 
-/* An operand with so many bytes before a page edge; a function of its own, since few operands come here. */
-static uint32_t over_edge(const uint8_t *registers, uint32_t count, uint32_t mode, uint32_t kind, uint32_t address,
-                          uint32_t length, uint32_t bytes, uint8_t *table, uint8_t *answer)
+/* An operand in real mode. */
+INLINE uint32_t real(uint8_t *answer, uint32_t address, uint32_t length, uint32_t bytes)
 {
-    uint8_t words[32];
-    struct part first = { answer, answer + RECORD, NULL }, second = { words, words + 16, NULL };
-    uint32_t result = translate(&first, registers, count, mode, kind, address, table);
+    answer_words(answer, 0, address, 3, address);
+    memset(answer + RECORD, 0, 16);
+    if (length <= bytes)
+        return no_second(answer, 0, length);
+    answer_words(answer + 16, address + bytes, 3, bytes, length - bytes);
+    return 0;
+}
+
+/* An operand with so many bytes before a page edge. */
+INLINE uint32_t over_edge(const struct access *access, uint32_t address, uint32_t length, uint32_t bytes)
+{
+    struct part first = { 0, address, NULL }, second = { 1, address + bytes, NULL };
+    uint32_t result = translate(access, &first);
+    if (result == 0)
+        result = translate(access, &second);
     if (result != 0)
-        return no_second(answer, result, 0);
-    result = translate(&second, registers, count, mode, kind, address + bytes, table);
-    if (result != 0) {
-        memcpy(answer, second.answer, 16);
-        memcpy(answer + RECORD, second.record, 16);
-        return no_second(answer, result, 0);
-    }
-    mark(first.entry, kind);
-    mark(second.entry, kind);
-    memcpy(answer + 16, second.answer + 4, 8);
-    put_words(answer + 24, bytes, length - bytes);
+        return no_second(access->answer, result, 0);
+    mark(&first, access->kind);
+    mark(&second, access->kind);
+    put_words(access->answer + 24, bytes, length - bytes);
     return 0;
 }
 
 /* An access whose page and answer have a right length. */
-INLINE uint32_t access_with(const uint8_t *registers, uint32_t count, uint32_t mode, uint32_t kind, uint32_t address,
-                            uint32_t length, uint8_t *table, size_t table_len, uint8_t *answer)
+INLINE uint32_t access_with(struct access *access, uint32_t address, uint32_t length)
 {
+    struct part part = { 0, address, NULL };
     uint32_t result, bytes = 0x1000 - (address & 0xFFF);
-    struct part part = { answer, answer + RECORD, NULL };
-    if (mode > 7 || kind > STORE)
-        return refuse_access(answer, 6);
+    uint64_t begins[2];
+    int data = access->kind != FETCH;
+    if (access->mode > 7 || access->kind > STORE)
+        return refuse_access(access->answer, 6);
     if (length - 1 > 127)
-        return refuse_access(answer, 12);
-    result = count == 4 ? check_short(registers) : check_long(registers);
-    if (result == 0 && table_len != table_size(word_at(registers)))
-        result = 1;
-    if (result != 0)
-        return refuse_access(answer, result);
+        return refuse_access(access->answer, 12);
+    if (!quick_page(access->registers, access->count, begins)) {
+        result = access->count == 4 ? exact_short(access->registers) : exact_long(access->registers);
+        if (result != 0)
+            return refuse_access(access->answer, result);
+        begins[0] = begins[1] = EVERYWHERE;
+    }
+    if (access->table_len != table_size(word_at(access->registers)))
+        return refuse_access(access->answer, 1);
+    if (!(access->mode & (data ? 1 : 2)))
+        return real(access->answer, address, length, bytes);
+    access->begins = begins[data];
+    access->pairs = access->registers + PAIRS + (data ? 8 * access->count : 0);
     if (length > bytes)
-        return over_edge(registers, count, mode, kind, address, length, bytes, table, answer);
-    result = translate(&part, registers, count, mode, kind, address, table);
-    mark(part.entry, kind);
-    return no_second(answer, result, length);
+        return over_edge(access, address, length, bytes);
+    result = translate(access, &part);
+    mark(&part, access->kind);
+    return no_second(access->answer, result, length);
 }
 
 uint32_t PLAIN(access)(const uint8_t *registers, size_t registers_len, uint32_t mode, uint32_t kind, uint32_t address,
                        uint32_t length, uint8_t *table, size_t table_len, uint8_t *answer, size_t answer_len)
 {
+    struct access of_short = { registers, NULL, 4, mode, kind, 0, table, table_len, answer };
+    struct access of_long = { registers, NULL, 8, mode, kind, 0, table, table_len, answer };
     if (answer_len != 48)
         return 11;
     if (registers_len == SHORT_PAGE)
-        return access_with(registers, 4, mode, kind, address, length, table, table_len, answer);
-    if (registers_len == LONG_PAGE)
-        return access_with(registers, 8, mode, kind, address, length, table, table_len, answer);
-    return 11;
+        return access_with(&of_short, address, length);
+    return registers_len == LONG_PAGE ? access_with(&of_long, address, length) : 11;
 }
 
 /* ---- Packing ---------------------------------------------------------------------------------- */
@@ -708,14 +817,26 @@ uint32_t PLAIN(pack)(uint32_t v, uint32_t vsid, uint32_t h, uint32_t api, uint32
     return 0;
 }
 
+/*
+ * VSID and the low half of RPN are moved by a product, which the compiler leaves whole and swaps at once, and written
+ * with bytes of the field after them, which are zeroed then. Of every other field one byte is not zero.
+ */
 uint32_t PLAIN(unpack)(uint32_t first, uint32_t second, uint8_t *fields, size_t fields_len)
 {
-    if (fields_len != 36)
+    if (UNLIKELY(fields_len != 36))
         return 11;
-    put_words(fields, first >> 31, first >> 7 & 0xFFFFFF);
-    put_words(fields + 8, first >> 6 & 1, first & 63);
-    put_words(fields + 16, second >> 12, second >> 8 & 1);
-    put_words(fields + 24, second >> 7 & 1, second >> 3 & 15);
-    put_word(fields + 32, second & 3);
+    memset(fields, 0, 8);
+    put_word(fields + 5, first * 2);
+    memset(fields + 8, 0, 16);
+    put_word(fields + 18, second * 16);
+    memset(fields + 20, 0, 16);
+    fields[3] = (uint8_t)(first >> 31);
+    fields[11] = (uint8_t)(first >> 6 & 1);
+    fields[15] = (uint8_t)(first & 63);
+    fields[17] = (uint8_t)(second >> 28);
+    fields[23] = (uint8_t)(second >> 8 & 1);
+    fields[27] = (uint8_t)(second >> 7 & 1);
+    fields[31] = (uint8_t)(second >> 3 & 15);
+    fields[35] = (uint8_t)(second & 3);
     return 0;
 }

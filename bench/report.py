@@ -122,7 +122,7 @@ def document(directory, rows):
         parts.append(notes.read_text().rstrip())
     parts.append(
         f"Measured on {machine['processor']}; plain C by {machine['compiler']}; {machine['valgrind']}. memset is counted "
-        "without `rep stosb`, of which callgrind counts every byte."
+        "without `rep stosb`, of which callgrind counts every byte; all symbols are bound before the first call (`-z now`)."
     )
     return "\n\n".join(parts) + "\n"
 

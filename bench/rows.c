@@ -192,6 +192,13 @@ static void long_no_match(struct bench *bench)
     fill(bench, PAGE_INDEX, 0, 16);
 }
 
+static void long_blocks_off(struct bench *bench)
+{
+    start_on(bench, MMU_REGISTERS_SIZE_LONG, SMALL_SDR1);
+    map_page(bench, PAGE_INDEX);
+    fill(bench, PAGE_INDEX, 0, 15);
+}
+
 /* Sixteen blocks of 128 KB, on each side in a row: their first address bits do not tell them apart. */
 static void long_row_of_blocks(struct bench *bench)
 {
@@ -242,15 +249,39 @@ static void storing(struct bench *bench)
     bench->kind = MMU_STORE;
 }
 
-/* Four bytes at the end of the page and four in the next. */
+/* Eight bytes, four at the end of the page of the address and four in the next. */
+static void go_over_edge(struct bench *bench)
+{
+    bench->address = (bench->address | 0xFFF) - 3;
+    bench->length = 8;
+    access_at(bench, &contender, bench->address);
+    require(mmu_get_word(bench->access_answer, MMU_ANSWER_SECOND_BYTES) == 4, "the operand is not over the edge");
+}
+
 static void over_edge(struct bench *bench)
 {
     page_at(bench, 0);
     put_page(bench, PAGE_INDEX + 1, 0);
-    bench->address = (PAGE_ADDRESS | 0xFFF) - 3;
-    bench->length = 8;
-    access_at(bench, &contender, bench->address);
-    require(mmu_get_word(bench->access_answer, MMU_ANSWER_SECOND_BYTES) == 4, "the operand is not over the edge");
+    go_over_edge(bench);
+}
+
+static void block_over_edge(struct bench *bench)
+{
+    block_hit(bench);
+    go_over_edge(bench);
+}
+
+static void long_over_edge(struct bench *bench)
+{
+    long_page(bench);
+    put_page(bench, PAGE_INDEX + 1, 0);
+    go_over_edge(bench);
+}
+
+static void long_block_over_edge(struct bench *bench)
+{
+    long_block_hit(bench);
+    go_over_edge(bench);
 }
 
 static void storing_over_edge(struct bench *bench)
@@ -412,6 +443,7 @@ static const struct row rows[] = {
     { "access, no match", no_match, run_access, MMU_DATA_STORAGE_FAULT, 16 },
     { "access, a store that sets C", storing, run_store, MMU_DONE, 16 },
     { "access over a page edge, both by pages", over_edge, run_access, MMU_DONE, 16 },
+    { "access over a page edge, both in the fourth block", block_over_edge, run_access, MMU_DONE, 16 },
     { "access over a page edge, a store that sets C twice", storing_over_edge, run_store, MMU_DONE, 16 },
     { "access, random pages, 64 KB table", working_set_small, run_working_set, MMU_DONE, ACCESSES },
     { "access, random pages, 512 KB table", working_set_large, run_working_set, MMU_DONE, ACCESSES },
@@ -421,13 +453,18 @@ static const struct row rows[] = {
     { "look", primary_0, run_look, MMU_DONE, 16 },
     { "clear, 64 KB (the plain C calls memset)", empty_groups, run_clear, MMU_DONE, 2 },
     { "check", primary_0, run_check, MMU_DONE, 16 },
+    { "check, blocks off", blocks_off, run_check, MMU_DONE, 16 },
     { "set_register", primary_0, run_set_register, MMU_DONE, 16 },
     { "access, long page, real mode", long_real_mode, run_access, MMU_DONE, 16 },
     { "access, long page, block hit in the eighth pair", long_block_hit, run_access, MMU_DONE, 16 },
     { "access, long page, page hit, primary entry 0", long_page, run_access, MMU_DONE, 16 },
+    { "access, long page, page hit, primary entry 0, blocks off", long_blocks_off, run_access, MMU_DONE, 16 },
     { "access, long page, no match", long_no_match, run_access, MMU_DATA_STORAGE_FAULT, 16 },
+    { "access, long page, over a page edge, both by pages", long_over_edge, run_access, MMU_DONE, 16 },
+    { "access, long page, page edge in the eighth block", long_block_over_edge, run_access, MMU_DONE, 16 },
     { "check, long page", long_page, run_check, MMU_DONE, 16 },
     { "check, long page, blocks of 128 KB in a row", long_row_of_blocks, run_check, MMU_DONE, 16 },
+    { "check, long page, blocks off", long_blocks_off, run_check, MMU_DONE, 16 },
     { "set_register, long page", long_page, run_set_register, MMU_DONE, 16 },
     { "pack", primary_0, run_pack, MMU_DONE, 16 },
     { "unpack", primary_0, run_unpack, MMU_DONE, 16 },

@@ -29,9 +29,10 @@ mkdir -p "$out/profiles"
 warnings="-std=c99 -Wall -Wextra -pedantic -Iinclude -Ibench"
 # shellcheck disable=SC2086
 $cc $warnings $flags -c bench/plain.c -o "$out/plain.o"
+# All symbols are bound at the start, so that no call is counted with the binding of memcpy or memset.
 for program in agree rows; do
     # shellcheck disable=SC2086
-    $cc $warnings -O2 "bench/$program.c" "$out/plain.o" "$archive" -o "$out/$program"
+    $cc $warnings -O2 "bench/$program.c" "$out/plain.o" "$archive" -Wl,-z,now -o "$out/$program"
 done
 
 echo "== the two agree on random calls" >&2

@@ -16,10 +16,36 @@ use Rattle.registers.specs.Set.{isPage, isLong, blockPairs, registerCount, sdr1
 use Rattle.registers.proofs.Set.{checked, short-page, words-short}
 use Rattle.registers.proofs.Wide.{Narrow, shaped-narrow}
 use Rattle.registers.proofs.Widened.{sdr1-widened, shape-widened, apart-widened, segments-widened, check-widened, set-widened}
-use Rattle.translation.specs.Steps.{beforeSearch}
+use Rattle.translation.specs.Steps.{beforeSearch, outcomeOf, answerOf}
+use Rattle.translation.specs.Decision.{decisionOf}
+use Rattle.translation.specs.Operand.{overEdge, partStart, operandAnswer}
+use Rattle.translation.specs.declared.operand.OperandAnswer.{OperandAnswer}
+use Rattle.translation.specs.declared.Early.{Early}
 use Rattle.translation.proofs.Widened.{before-same, before-widened}
 use Rattle.calls.specs.Rules.{operandInRange}
+use Rattle.calls.specs.OnBytes.{usedBy, searchIn, firstPlaceIn, markedBy}
 use Rattle.calls.proofs.Access.{rulesThen}
+
+-- ---- an operand by what steps 1 to 3 of its parts come to
+
+-- what it answers, and the table that it leaves
+module _ (kind address operand k : ℕ) (t : List ℕ) (early : Bool → Early) where
+  abbrev pub toldBy : OperandAnswer
+  toldBy =
+      operandAnswer address operand
+      (λ second. answerOf kind (partStart address operand second) (outcomeOf kind (searchIn k t) (early second)))
+      (λ second. decisionOf (usedBy (firstPlaceIn k t) (early second)) (outcomeOf kind (searchIn k t) (early second)))
+
+  abbrev pub leftBy : List ℕ
+  leftBy =
+      let mark : Bool → List ℕ → List ℕ = λ second u. markedBy k kind (early second) (toldBy .part .result) u in
+      cond (overEdge address operand) (mark true (mark false t)) (mark false t)
+
+-- steps that are the same for each part
+pub each-part : {f g : Bool → Early} → ((second : Bool) → f second ≡ g second) → f ≡ g
+each-part h = λ j second. h second j
+
+-- ---- the page
 
 -- the rules of a short page's words, and of the same words as a long page's
 pub rules-widened : (words : List ℕ) → length words ≡ 33 → (width : ℕ) → registerRules 8 width (widened words) ≡ registerRules 4 width words

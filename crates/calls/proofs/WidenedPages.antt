@@ -27,17 +27,14 @@ use Rattle.translation.specs.Steps.{beforeSearch}
 use Rattle.translation.proofs.Widened.{before-same, before-widened}
 use Rattle.calls.specs.Widened.{widenedPage, NoHighBit, withPage, PageWidened, PagesWiden}
 use Rattle.calls.specs.WithoutTable.{checkCall, setRegisterCall}
-use Rattle.calls.proofs.Pages.{rules-widened}
+use Rattle.calls.proofs.Pages.{rules-widened, toldBy, leftBy, each-part}
 use Rattle.registers.specs.Rules.{firstBroken}
-use Rattle.translation.specs.Steps.{outcomeOf, answerOf}
-use Rattle.translation.specs.Decision.{decisionOf}
-use Rattle.translation.specs.Operand.{overEdge, partStart, operandAnswer}
-use Rattle.translation.specs.declared.operand.OperandAnswer.{OperandAnswer}
+use Rattle.translation.specs.Operand.{partStart}
 use Rattle.translation.specs.declared.Early.{Early}
 use Rattle.calls.specs.Request.{AccessCall, access, fed, sdr1In}
 use Rattle.calls.specs.Rules.{operandInRange, rules, refusal}
 use Rattle.calls.specs.Answers.{accessAnswer, answerRefused}
-use Rattle.calls.specs.OnBytes.{Ended, ended, earlyOf, usedBy, searchIn, firstPlaceIn, markedBy, bytesDo, onBytes}
+use Rattle.calls.specs.OnBytes.{Ended, ended, earlyOf, bytesDo, onBytes}
 
 -- ---- the words of the widened page
 
@@ -141,17 +138,10 @@ module _ (words : List ℕ) (full : length words ≡ 33) (none : NoHighBit words
 -- ---- the access
 
 -- what an access that is not refused ends in, by what steps 1 to 3 of its parts come to
-module _ (c : AccessCall (List ℕ)) (k : ℕ) (t : List ℕ) (early : Bool → Early) where
-  abbrev toldBy : OperandAnswer
-  toldBy =
-      operandAnswer (c .address) (c .length)
-      (λ second. answerOf (c .kind) (partStart (c .address) (c .length) second) (outcomeOf (c .kind) (searchIn k t) (early second)))
-      (λ second. decisionOf (usedBy (firstPlaceIn k t) (early second)) (outcomeOf (c .kind) (searchIn k t) (early second)))
-
-  abbrev endedBy : Ended (List ℕ)
-  endedBy =
-      let mark : Bool → List ℕ → List ℕ = λ second u. markedBy k (c .kind) (early second) (toldBy .part .result) u in
-      ended (toldBy .part .result) (cond (overEdge (c .address) (c .length)) (mark true (mark false t)) (mark false t)) (accessAnswer toldBy)
+abbrev endedBy : AccessCall (List ℕ) → ℕ → List ℕ → (Bool → Early) → Ended (List ℕ)
+endedBy c k t early =
+    let told = toldBy (c .kind) (c .address) (c .length) k t early in
+    ended (told .part .result) (leftBy (c .kind) (c .address) (c .length) k t early) (accessAnswer told)
 
 bytes-by : (c : AccessCall (List ℕ)) (k : ℕ) (t : List ℕ) → bytesDo k (access c) t ≡ endedBy c k t (earlyOf c)
 unfolding bytesDo
@@ -199,7 +189,7 @@ module _ (registers : List ℕ) (short : length registers ≡ 132) (c : AccessCa
         ∙ sym (refused-long (length t))
 
     early-same : earlyOf before ≡ earlyOf after
-    early-same = λ j second. (early-short second ∙ early-both words full none (c .mode) (c .kind) (partStart (c .address) (c .length) second) ∙ sym (early-long second)) j
+    early-same = each-part (λ second. early-short second ∙ early-both words full none (c .mode) (c .kind) (partStart (c .address) (c .length) second) ∙ sym (early-long second))
 
     sdr1-same : sdr1In (access before) ≡ sdr1In (access after)
     unfolding sdr1In

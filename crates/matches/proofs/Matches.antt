@@ -17,7 +17,7 @@ use Rattle.tables.specs.Matches.{Match, matchesBelow}
 use Rattle.groups.specs.Page.{Page}
 use Rattle.groups.specs.Hash.{groupNumber}
 use Rattle.groups.specs.Group.{firstAt, secondAt}
-use Rattle.matches.specs.Search.{hOf, Wanted, groupMatches, pairMatches}
+use Rattle.matches.specs.Search.{hOf, WantedWord, groupMatches, pairMatches}
 use Rattle.groups.proofs.Hash.{one-page}
 
 -- entry i of a group, as a match
@@ -43,7 +43,7 @@ word-matches secondary vsid api wanted first same vsid-lt api-lt is told =
     ∙ sym (match-whole vsid h api vsid-lt (h-lt secondary) api-lt first (told .0))
     ∙ ap (λ (g : ℕ). matches vsid g api first) (h-is secondary)
 
-pub wanted-matches : (secondary : Bool) (vsid api wanted first : ℕ) (same : Bool) → Wanted secondary vsid api wanted
+pub wanted-matches : (secondary : Bool) (vsid api wanted first : ℕ) (same : Bool) → WantedWord secondary vsid api wanted
     → (first < 2 ^ 32) × ((w : ℕ) → w < 2 ^ 32 → wanted ≡ swapped w → same ≡ eqb first w) → same ≡ matches vsid (hOf secondary) api first
 wanted-matches secondary vsid api wanted first same is told =
     word-matches secondary vsid api wanted first same (is .0) (is .1) (is .2 ∙ ap (λ (h : ℕ). swapped (firstWord 1 vsid h api)) (sym (h-is secondary))) told

@@ -2,7 +2,7 @@
 use mathlib.Core.Path.{_≡_, refl, sym, ap, ap₂, _∙_}
 use mathlib.Core.Bool.{Bool, true, false, cond, not, _||_, true≢false}
 use mathlib.Core.List.{List, [], _∷_, _++_, append-nil}
-use Prim.Native.Nat.{ℕ, _+_, _%_, _<_}
+use Prim.Native.Nat.{ℕ, _+_, _%_, _<_, _≤_}
 use native.Mathlib.Omega.{arith}
 use lib.Dec.{eqb, leb}
 use borrow.Author.Tests.{eqb-true, ne-eqb, le-leb, lt-leb}
@@ -10,7 +10,7 @@ use Rattle.entry.specs.Entry.{referenced, changed, withMarks}
 use Rattle.entry.proofs.Marks.{marks-referenced, marks-changed, marks-own, marks-again}
 use Rattle.tables.specs.Matches.{Match}
 use Rattle.matches.proofs.Agreement.{agree-alike}
-use Rattle.matches.specs.Search.{agree, anyMatch, contradict, marksOf, merged, each, placeOf, onlyPlace, summary, found, inSecondary, entryOf}
+use Rattle.matches.specs.Search.{agree, anyMatch, contradict, marksOf, merged, each, firstPlace, placeOf, onlyPlace, summary, found, inSecondary, entryOf}
 use Rattle.matches.specs.declared.Summary.{Summary}
 
 or-true : (b : Bool) → b || true ≡ true
@@ -132,6 +132,11 @@ summary-append : (m : Match) (ms : List Match) (n : Match) (ns : List Match) →
 }
 unfolding summary
 summary-append m ms n ns = rw (several-append ms n ns, contradict-append m ms n ns)
+
+-- the place of a group's entry 0 is small
+pub first-place-le : (b : Bool) → firstPlace b ≤ 24
+first-place-le true = omega arith
+first-place-le false = omega arith
 
 -- the place of a match is not 0, and 0 is that of none
 pub no-place : (m : Match) → placeOf m ≡ 0 → ⊥

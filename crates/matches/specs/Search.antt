@@ -18,8 +18,8 @@ abbrev pub hOf : Bool → ℕ
 hOf secondary = cond secondary 1 0
 
 -- the word that the first words of a group's entries are compared with: V = 1, VSID, H and API packed, its bytes reversed as the machine reads them
-abbrev pub Wanted : Bool → ℕ → ℕ → ℕ → Type 0
-Wanted secondary vsid api wanted = (vsid < 2 ^ 24) × (api < 2 ^ 6) × (wanted ≡ swapped (firstWord 1 vsid (hOf secondary) api))
+abbrev pub WantedWord : Bool → ℕ → ℕ → ℕ → Type 0
+WantedWord secondary vsid api wanted = (vsid < 2 ^ 24) × (api < 2 ^ 6) × (wanted ≡ swapped (firstWord 1 vsid (hOf secondary) api))
 
 -- the matches in the 64 bytes of a page's primary (false) or secondary (true) group, in order
 unfoldable pub groupMatches : Bool → ℕ → ℕ → List ℕ → List Match

@@ -7,7 +7,7 @@ ghost use lib.ListN.{length};
 ghost use Rattle.numbers.specs.Numbers.{groupSize};
 ghost use Rattle.tables.specs.Matches.{Match};
 ghost use Rattle.groups.specs.Group.{groupOf};
-ghost use Rattle.matches.specs.Search.{Wanted, groupMatches, pairMatches, agree, marksOf, merged, firstPlace, placeOf, onlyPlace, summary, groupSearch, pairSearch, found, inSecondary, entryOf};
+ghost use Rattle.matches.specs.Search.{WantedWord, groupMatches, pairMatches, agree, marksOf, merged, firstPlace, placeOf, onlyPlace, summary, groupSearch, pairSearch, found, inSecondary, entryOf};
 
 // Whether the second words of two matches agree: RPN, WIMG and PP are equal. R, C and the ignored bits may differ.
 pub fn words_agree(second: u32, other: u32) -> bool
@@ -111,7 +111,7 @@ const SEVERAL: usize = 1;
 // The place of a group's only match: 0 where it has none, and SEVERAL where it has more than one.
 fn only_place(group: &[u8], secondary: bool, wanted: u32) -> usize
     requires { ⌜ length (now group) ≡ groupSize ⌝ }
-    ensures { λ r. ⌜ ((vsid api : ℕ) → Wanted secondary vsid api wanted → r ≡ onlyPlace (groupMatches secondary vsid api (now (group .entry)))) ⌝ }
+    ensures { λ r. ⌜ ((vsid api : ℕ) → WantedWord secondary vsid api wanted → r ≡ onlyPlace (groupMatches secondary vsid api (now (group .entry)))) ⌝ }
 {
     let start = first_place(secondary);
     let mut place = 0;
@@ -137,7 +137,7 @@ pub struct Duplicates {
 // Every match of one group, and the word with their marks.
 fn every_match(group: &[u8], secondary: bool, wanted: u32, word: u32) -> Duplicates
     requires { ⌜ length (now group) ≡ groupSize ⌝ }
-    ensures { λ r. ⌜ ((vsid api : ℕ) → Wanted secondary vsid api wanted
+    ensures { λ r. ⌜ ((vsid api : ℕ) → WantedWord secondary vsid api wanted
         → (r .matches ≡ summary (groupMatches secondary vsid api (now (group .entry))))
         × (r .merged ≡ marksOf (groupMatches secondary vsid api (now (group .entry))) word)) ⌝ }
 {
@@ -159,7 +159,7 @@ fn every_match(group: &[u8], secondary: bool, wanted: u32, word: u32) -> Duplica
 // The search of one group, the primary with H = 0 or the secondary with H = 1: all that a call asks of it.
 pub fn search_group(group: &[u8], secondary: bool, wanted: u32) -> GroupSearch
     requires { ⌜ length (now group) ≡ groupSize ⌝ }
-    ensures { λ r. ⌜ ((vsid api : ℕ) → Wanted secondary vsid api wanted → r ≡ groupSearch secondary vsid api (now (group .entry))) ⌝ }
+    ensures { λ r. ⌜ ((vsid api : ℕ) → WantedWord secondary vsid api wanted → r ≡ groupSearch secondary vsid api (now (group .entry))) ⌝ }
 {
     let free = groups::first_free(group);
     let place = only_place(group, secondary, wanted);

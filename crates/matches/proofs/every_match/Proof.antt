@@ -9,24 +9,19 @@ use borrow.Author.Needs.{needs}
 use Rattle.entry.specs.Entry.{matches}
 use Rattle.tables.specs.Matches.{Match, matchesBelow}
 use Rattle.groups.specs.Group.{firstAt, secondAt}
-use Rattle.matches.specs.Search.{hOf, Wanted, groupMatches, firstPlace, marksOf, summary}
+use Rattle.matches.specs.Search.{hOf, WantedWord, groupMatches, marksOf, summary}
 use Rattle.matches.proofs.Matches.{wanted-matches, entryAt, matchesTo, matches-more, matches-same}
-use Rattle.matches.proofs.Summaries.{marks-none, marks-more}
+use Rattle.matches.proofs.Summaries.{first-place-le, marks-none, marks-more}
 use Rattle.matches.proofs.every_match.Statement.{statement}
 use Rattle.matches.proofs.every_match.Tie as tie
 
 abbrev Inv-loop : tie.InvT-loop
 Inv-loop group secondary wanted word start matches₀ merged₀ i₀ found merged i =
-    (i ≤ 8) × ((vsid api : ℕ) → Wanted secondary vsid api wanted
+    (i ≤ 8) × ((vsid api : ℕ) → WantedWord secondary vsid api wanted
     → (found ≡ summary (matchesTo secondary vsid api group i)) × (merged ≡ marksOf (matchesTo secondary vsid api group i) word))
 
 abbrev μ-loop : tie.MeasureT-loop
 μ-loop group secondary wanted word start matches₀ merged₀ i₀ found merged i = 8 - i
-
--- where the places of a group begin at most
-start-le : (b : Bool) → firstPlace b ≤ 24
-start-le true = omega arith
-start-le false = omega arith
 
 first-place-requires : tie.Need-first-place-requires Inv-loop μ-loop
 first-place-requires c κs = tt
@@ -54,7 +49,7 @@ read-word-requires : tie.Need-read-word-requires Inv-loop μ-loop
 read-word-requires c κs = omega arith
 
 add-one : tie.Need-add-one Inv-loop μ-loop
-add-one c = let j = c .before .before .before .before .before .before in omega (arith, j .first-place .ensures, start-le (j .before .before .args .secondary))
+add-one c = let j = c .before .before .before .before .before .before in omega (arith, j .first-place .ensures, first-place-le (j .before .before .args .secondary))
 
 one-requires : tie.Need-one-requires Inv-loop μ-loop
 one-requires c κs = search needs
@@ -88,7 +83,7 @@ module _ (c : tie.Joined1 Inv-loop μ-loop) where
   begin = joined .before .before
 
   -- the test is whether entry i matches
-  tested : (vsid api : ℕ) → Wanted (begin .args .secondary) vsid api (begin .args .wanted)
+  tested : (vsid api : ℕ) → WantedWord (begin .args .secondary) vsid api (begin .args .wanted)
       → c .before .is-word .result ≡ matches vsid (hOf (begin .args .secondary)) api (firstAt (begin .args .group .now) (at-loop .loop .i))
   unfolding firstAt
   tested vsid api is = wanted-matches (begin .args .secondary) vsid api _ _ _ is (c .before .is-word .ensures)

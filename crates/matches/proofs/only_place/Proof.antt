@@ -8,15 +8,15 @@ use native.Mathlib.Omega.{arith}
 use Rattle.entry.specs.Entry.{matches}
 use Rattle.tables.specs.Matches.{Match, matchesBelow}
 use Rattle.groups.specs.Group.{firstAt}
-use Rattle.matches.specs.Search.{hOf, Wanted, groupMatches, firstPlace, onlyPlace}
+use Rattle.matches.specs.Search.{hOf, WantedWord, groupMatches, onlyPlace}
 use Rattle.matches.proofs.Matches.{wanted-matches, entryAt, matchesTo, matches-more, matches-same, matches-extend}
-use Rattle.matches.proofs.Summaries.{only-none, only-several}
+use Rattle.matches.proofs.Summaries.{first-place-le, only-none, only-several}
 use Rattle.matches.proofs.only_place.Statement.{statement}
 use Rattle.matches.proofs.only_place.Tie as tie
 
 abbrev Inv-loop : tie.InvT-loop
 Inv-loop group secondary wanted start place₀ i₀ place i =
-    (i ≤ 8) × ((vsid api : ℕ) → Wanted secondary vsid api wanted → place ≡ onlyPlace (matchesTo secondary vsid api group i))
+    (i ≤ 8) × ((vsid api : ℕ) → WantedWord secondary vsid api wanted → place ≡ onlyPlace (matchesTo secondary vsid api group i))
 
 abbrev μ-loop : tie.MeasureT-loop
 μ-loop group secondary wanted start place₀ i₀ place i = 8 - i
@@ -29,15 +29,10 @@ module _ (c : tie.After-is-word Inv-loop μ-loop) where
   begin = at-loop .before .before .before
 
   -- the test is whether entry i matches
-  tested : (vsid api : ℕ) → Wanted (begin .args .secondary) vsid api (begin .args .wanted)
+  tested : (vsid api : ℕ) → WantedWord (begin .args .secondary) vsid api (begin .args .wanted)
       → c .is-word .result ≡ matches vsid (hOf (begin .args .secondary)) api (firstAt (begin .args .group .now) (at-loop .loop .i))
   unfolding firstAt
   tested vsid api is = wanted-matches (begin .args .secondary) vsid api _ _ _ is (c .is-word .ensures)
-
--- where the places of a group begin at most
-start-le : (b : Bool) → firstPlace b ≤ 24
-start-le true = omega arith
-start-le false = omega arith
 
 first-place-requires : tie.Need-first-place-requires Inv-loop μ-loop
 first-place-requires c κs = tt
@@ -70,7 +65,7 @@ returns c vsid api is =
     (λ z. c .if2 .taken (l .loop .inv .1 vsid api is ∙ z)))
 
 add-place : tie.Need-add-place Inv-loop μ-loop
-add-place c = let j = c .before .before .before .before .before in omega (arith, j .first-place .ensures, start-le (j .before .before .args .secondary))
+add-place c = let j = c .before .before .before .before .before in omega (arith, j .first-place .ensures, first-place-le (j .before .before .args .secondary))
 
 add-i : tie.Need-add-i Inv-loop μ-loop
 add-i c = omega arith

@@ -1,7 +1,7 @@
 -- `table_access::translate` meets its contract: a refusal and an operand answer as the definition does, on the words that were read.
 use borrow.Author.Needs.{needs}
 use mathlib.Core.Path.{_≡_, sym, ap, ap₂, _∙_}
-use mathlib.Core.Bool.{Bool, true, false, cond}
+use mathlib.Core.Bool.{Bool, true, false}
 use mathlib.Core.List.{List}
 use Prim.Native.Nat.{ℕ}
 use lib.ListN.{length}
@@ -9,8 +9,8 @@ use Rattle.registers.specs.Rules.{firstBroken}
 use Rattle.register_words.specs.Sdr1.{sdr1Shape, tableLength, maskOnes}
 use Rattle.register_words.specs.Block.{blWidth}
 use Rattle.registers.specs.Set.{isLong, blockPairs, sdr1Of, checkWords, registerWords, setWords}
-use Rattle.translation.specs.Steps.{beforeSearch, outcomeOf, answerOf}
-use Rattle.translation.specs.Operand.{overEdge, partStart, operandAnswer, stopped}
+use Rattle.translation.specs.Steps.{beforeSearch}
+use Rattle.translation.specs.Operand.{partStart, stopped}
 use Rattle.translation.specs.declared.Early.{Early}
 use Rattle.translation.specs.Decision.{decisionOf}
 use Rattle.translation.specs.declared.Answer.{Answer}
@@ -18,11 +18,11 @@ use Rattle.translation.specs.declared.decision.Decision.{Decision}
 use Rattle.translation.specs.declared.operand.OperandAnswer.{OperandAnswer}
 use Rattle.translation.proofs.Answers.{answer-refused}
 use Rattle.calls.specs.Answers.{accessAnswer}
-use Rattle.calls.specs.OnBytes.{ended, usedBy, searchIn, firstPlaceIn, markedBy, bytesDo}
+use Rattle.calls.specs.OnBytes.{ended, bytesDo}
 use Rattle.table_access.specs.Part.{partEarly}
 use Rattle.table_access.specs.declared.Access.{Access}
 use Rattle.calls.proofs.Access.{rulesThen, then-kept, access-refused, access-taken}
-use Rattle.calls.proofs.Pages.{sdr1-set, rules-set, early-set}
+use Rattle.calls.proofs.Pages.{toldBy, leftBy, each-part, sdr1-set, rules-set, early-set}
 use Rattle.table_access.proofs.translate.Statement.{statement}
 use Rattle.table_access.proofs.translate.Tie as tie
 
@@ -36,23 +36,6 @@ abbrev ownEarly : List ℕ → Access → Bool → Early
 ownEarly registers access second =
     beforeSearch (blockPairs (isLong (length registers))) (blWidth (isLong (length registers))) (registerWords registers) (access .mode) (access .kind)
     (partStart (access .address) (access .length) second)
-
--- what an operand answers, and the table that it leaves, by what steps 1 to 3 of its parts come to
-module _ (access : Access) (k : ℕ) (t : List ℕ) (early : Bool → Early) where
-  abbrev toldBy : OperandAnswer
-  toldBy =
-      operandAnswer (access .address) (access .length)
-      (λ second. answerOf (access .kind) (partStart (access .address) (access .length) second) (outcomeOf (access .kind) (searchIn k t) (early second)))
-      (λ second. decisionOf (usedBy (firstPlaceIn k t) (early second)) (outcomeOf (access .kind) (searchIn k t) (early second)))
-
-  abbrev leftBy : List ℕ
-  leftBy =
-      let mark : Bool → List ℕ → List ℕ = λ second u. markedBy k (access .kind) (early second) (toldBy .part .result) u in
-      cond (overEdge (access .address) (access .length)) (mark true (mark false t)) (mark false t)
-
--- two ways to tell a part's steps that agree for each part
-ext : {f g : Bool → Early} → ((second : Bool) → f second ≡ g second) → f ≡ g
-ext h = λ j second. h second j
 
 -- the words that were read are the register page's
 number-is : (c : tie.After-refusal) →
@@ -150,9 +133,9 @@ returns-2 c answer right =
     let r = a .registers .now in
     let k = maskOnes (sdr1Of (registerWords r)) in
     let t = a .table .now in
-    let own : partEarly (setWords r) (a .asked) ≡ ownEarly r (a .asked) = ext (λ second. early-set r (start .pre) (passed else1 .0) (a .asked .mode) (a .asked .kind) (partStart (a .asked .address) (a .asked .length) second)) in
+    let own : partEarly (setWords r) (a .asked) ≡ ownEarly r (a .asked) = each-part (λ second. early-set r (start .pre) (passed else1 .0) (a .asked .mode) (a .asked .kind) (partStart (a .asked .address) (a .asked .length) second)) in
     let parts = rw (read .read-words .ensures, sdr1-set r (start .pre)) at (at-parts .by-parts .ensures) in
-    ap₂ (λ (r : OperandAnswer) (u : List ℕ). ended (r .part .result) u (accessAnswer r)) (parts .0 ∙ ap (toldBy (a .asked) k t) own) (parts .1 ∙ ap (leftBy (a .asked) k t) own)
+    ap₂ (λ (r : OperandAnswer) (u : List ℕ). ended (r .part .result) u (accessAnswer r)) (parts .0 ∙ ap (toldBy (a .asked .kind) (a .asked .address) (a .asked .length) k t) own) (parts .1 ∙ ap (leftBy (a .asked .kind) (a .asked .address) (a .asked .length) k t) own)
     ∙ sym (access-taken (record {
       registers = r;
       mode = a .asked .mode;

@@ -61,7 +61,7 @@ by-cases (some a) missing found = found a refl
 module _ (b : Bool) (page : Page) (valid : InRange page) where
   own-matches : (k : ℕ) → layout k .matching b page (entryWord b page) ≡ true
   unfolding entryWord
-  own-matches k = match-own (page .vsid) (hOf b) (apiOf (page .index)) (valid .vsid-lt) (oneIf-lt b) (api-lt (page .index) (valid .index-lt))
+  own-matches k = match-own (page .vsid) (hOf b) (apiOf (page .index))
 
   pub own-fits : Word (entryWord b page)
   unfolding entryWord

@@ -5,12 +5,11 @@ use mathlib.Core.List.{List, []}
 use native.Mathlib.Omega.{arith}
 use native.Mathlib.Nat.{pow-suc}
 use lib.ListN.{length, replicate, length-replicate}
-use Rattle.entry.specs.Entry.{apiOf, free}
-use Rattle.entry.proofs.Matches.{match-used, free-zero}
+use Rattle.entry.specs.Entry.{free}
+use Rattle.entry.proofs.Matches.{free-zero}
 use Rattle.groups.specs.Page.{InRange, samePage}
-use Rattle.matches.specs.Search.{hOf}
 use Rattle.groups.proofs.Hash.{group-mirror, samePage-refl, samePage-eq, within-bytes}
-use Rattle.matches.proofs.Matches.{tells}
+use Rattle.matches.proofs.Matches.{tells, page-used}
 use Rattle.groups.proofs.Stored.{words-fit, stored-keeps-bytes, stored-length, stored-same, stored-other-entry, stored-elsewhere, zeroed-words, zeroed-bytes}
 use Rattle.tables.specs.Layout.{groups, LayoutLaws}
 use Rattle.tables.proofs.Steps.{represents-empty}
@@ -34,8 +33,8 @@ module _ (k : ℕ) where
     same-refl = samePage-refl;
     same-eq = samePage-eq;
     mirror = group-mirror k;
-    match-used = λ b p u. match-used (p .vsid) (hOf b) (apiOf (p .index)) u;
-    tells = λ b c p q u vp vq. tells (10 + k) b c p q u (omega arith);
+    match-used = page-used;
+    tells = λ b c p q u. tells (10 + k) b c p q u (omega arith);
     read-fits = λ t g i good l e. words-fit t g i (good .bytes);
     put-good = λ t g i u v good l e. record {
       long = stored-length t g i u v (inside t g good l) ∙ good .long;

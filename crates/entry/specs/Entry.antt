@@ -53,9 +53,9 @@ unpacked first second = record {
   pp = ppOf second;
 }
 
--- an entry matches: V is one, and VSID, H and API agree
+-- an entry matches: its whole first word is the one packed from V = 1, VSID, H and API
 unfoldable pub matches : ℕ → ℕ → ℕ → ℕ → Bool
-matches vsid h api first = eqb (bits 0 0 first) 1 && eqb (bits 1 24 first) vsid && eqb (bits 25 25 first) h && eqb (bits 26 31 first) api
+matches vsid h api first = eqb first (firstWord 1 vsid h api)
 
 -- an entry that map may write in: V is zero
 unfoldable pub free : ℕ → Bool

@@ -10,11 +10,12 @@ use mir.Val.{boolByte}
 use lib.Dec.{eqb, leb, lit<}
 use borrow.Author.Tests.{leb-true, leb-false}
 use Rattle.words.specs.Words.{swapped}
-use Rattle.entry.specs.Entry.{firstWord, matches, apiOf}
-use Rattle.entry.proofs.Packing.{first-lt}
-use Rattle.entry.proofs.Matches.{matched, match-whole}
+use Rattle.entry.specs.Entry.{firstWord, matches, free, apiOf}
+use Rattle.entry.proofs.Packing.{FirstFields, first-lt}
+use Rattle.entry.proofs.Addresses.{api-lt}
+use Rattle.entry.proofs.Matches.{matched, match-whole, match-used}
 use Rattle.tables.specs.Matches.{Match, matchesBelow}
-use Rattle.groups.specs.Page.{Page}
+use Rattle.groups.specs.Page.{Page, InRange}
 use Rattle.groups.specs.Hash.{groupNumber}
 use Rattle.groups.specs.Group.{firstAt, secondAt}
 use Rattle.matches.specs.Search.{hOf, WantedWord, groupMatches, pairMatches}
@@ -40,7 +41,7 @@ pub word-matches : (secondary : Bool) (vsid api wanted first : ℕ) (same : Bool
 word-matches secondary vsid api wanted first same vsid-lt api-lt is told =
     let h = boolByte secondary in
     told .1 (firstWord 1 vsid h api) (first-lt 1 vsid h api (lit< tt) vsid-lt (h-lt secondary) api-lt) is
-    ∙ sym (match-whole vsid h api vsid-lt (h-lt secondary) api-lt first (told .0))
+    ∙ sym (match-whole vsid h api first)
     ∙ ap (λ (g : ℕ). matches vsid g api first) (h-is secondary)
 
 pub wanted-matches : (secondary : Bool) (vsid api wanted first : ℕ) (same : Bool) → WantedWord secondary vsid api wanted
@@ -128,10 +129,22 @@ h-same true false e = absurd (omega arith)
 h-same false true e = absurd (omega arith)
 h-same false false e = refl
 
+-- an entry that matches a page in range: it has V, the page's VSID and API, and H by its group, and is not free
+module _ (b : Bool) (p : Page) (first : ℕ) (valid : InRange p) (e : matches (p .vsid) (hOf b) (apiOf (p .index)) first ≡ true) where
+  h-fits : (c : Bool) → hOf c < 2 ^ 1
+  h-fits true = omega arith
+  h-fits false = omega arith
+
+  page-matched : FirstFields 1 (p .vsid) (hOf b) (apiOf (p .index)) first
+  page-matched = matched (p .vsid) (hOf b) (apiOf (p .index)) first (valid .vsid-lt) (h-fits b) (api-lt (p .index) (valid .index-lt)) e
+
+  pub page-used : free first ≡ false
+  page-used = match-used (p .vsid) (hOf b) (apiOf (p .index)) first (valid .vsid-lt) (h-fits b) (api-lt (p .index) (valid .index-lt)) e
+
 -- an entry, by its group and first word, matches at most one page
-pub tells : (n : ℕ) (b c : Bool) (p q : Page) (first : ℕ) → 10 ≤ n → groupNumber n b p ≡ groupNumber n c q
+pub tells : (n : ℕ) (b c : Bool) (p q : Page) (first : ℕ) → 10 ≤ n → InRange p → InRange q → groupNumber n b p ≡ groupNumber n c q
     → matches (p .vsid) (hOf b) (apiOf (p .index)) first ≡ true → matches (q .vsid) (hOf c) (apiOf (q .index)) first ≡ true → p ≡ q
-tells n b c p q first enough g e f =
-    let x = matched (p .vsid) (hOf b) (apiOf (p .index)) first e in
-    let y = matched (q .vsid) (hOf c) (apiOf (q .index)) first f in
+tells n b c p q first enough vp vq g e f =
+    let x = page-matched b p first vp e in
+    let y = page-matched c q first vq f in
     one-page n p q enough b c (h-same b c (sym (x .has-h) ∙ y .has-h)) g (sym (x .has-vsid) ∙ y .has-vsid) (sym (x .has-api) ∙ y .has-api)

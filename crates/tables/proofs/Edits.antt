@@ -190,7 +190,7 @@ module _ {P T : Type 0} {L : Layout P T} {same : P → P → Bool} {Valid : P �
   reads-kept b i l e = let r = edited .own b i l in (r .0 ∙ rw e, r .1 ∙ rw e)
 
   -- matches made free: the page has no match left, and as many entries less are used
-  module _ (freed : (x : Match) → MatchOf L t p x → L .free (edit x .0) ≡ true) where
+  module _ (valid : Valid p) (freed : (x : Match) → MatchOf L t p x → L .free (edit x .0) ≡ true) where
     freed-at : (b : Bool) (i : ℕ) → i < L .capacity → L .matching b p (L .first t (L .group b p) i) ≡ true → freeAt L t′ (L .group b p) i ≡ true
     freed-at b i l e =
         ap (L .free) (reads-edited b i l e .0) ∙ freed (entryOf L t p b i) (record { in-range = l; passes = e; first-word = refl; second-word = refl })
@@ -200,7 +200,7 @@ module _ {P T : Type 0} {L : Layout P T} {same : P → P → Bool} {Valid : P �
       where
         go : (i : ℕ) → i < L .capacity → (s : Bool) → L .matching b p (L .first t (L .group b p) i) ≡ s
             → L .matching b p (L .first t′ (L .group b p) i) ≡ false
-        go i l true e = free-fails laws b p (L .first t′ (L .group b p) i) (freed-at b i l e)
+        go i l true e = free-fails laws b p (L .first t′ (L .group b p) i) valid (freed-at b i l e)
         go i l false e = ap (L .matching b p) (reads-kept b i l e .0) ∙ e
 
     pub freed-matchesOf : matchesOf L t′ p ≡ []
@@ -216,7 +216,7 @@ module _ {P T : Type 0} {L : Layout P T} {same : P → P → Bool} {Valid : P �
       where
         go : (i : ℕ) → i < L .capacity → (s : Bool) → L .matching b p (L .first t (L .group b p) i) ≡ s
             → oneIf (not (freeAt L t (L .group b p) i)) ≡ oneIf (not (freeAt L t′ (L .group b p) i)) + oneIf s
-        go i l true e = rw (laws .match-used b p (L .first t (L .group b p) i) e, freed-at b i l e)
+        go i l true e = rw (laws .match-used b p (L .first t (L .group b p) i) valid e, freed-at b i l e)
         go i l false e = let o = ap (λ w. oneIf (not (L .free w))) (reads-kept b i l e .0) in omega arith
 
   -- matches rewritten by words that match: each stays where it is, and the used entries are the same
@@ -248,15 +248,15 @@ module _ {P T : Type 0} {L : Layout P T} {same : P → P → Bool} {Valid : P �
     rewritten-matchesOf =
         ap₂ _++_ (rewritten-matches false) (rewritten-matches true) ∙ sym (map-append (λ x. withWords x (edit x)) (matchesIn L t false p) (matchesIn L t true p))
 
-    pub rewritten-used : (g : ℕ) → g < groups L → used L t′ g ≡ used L t g
-    rewritten-used g lg = used-same L t t′ g (λ i l. go i l (eqb g (L .group false p)) refl (eqb g (L .group true p)) refl)
+    pub rewritten-used : Valid p → (g : ℕ) → g < groups L → used L t′ g ≡ used L t g
+    rewritten-used valid g lg = used-same L t t′ g (λ i l. go i l (eqb g (L .group false p)) refl (eqb g (L .group true p)) refl)
       where
         own : (b : Bool) (i : ℕ) → i < L .capacity → (s : Bool) → L .matching b p (L .first t (L .group b p) i) ≡ s
             → freeAt L t′ (L .group b p) i ≡ freeAt L t (L .group b p) i
         own b i l true e =
             ap (L .free) (reads-edited b i l e .0)
-            ∙ laws .match-used b p (edit (entryOf L t p b i) .0) (matched-at b i l e)
-            ∙ sym (laws .match-used b p (L .first t (L .group b p) i) e)
+            ∙ laws .match-used b p (edit (entryOf L t p b i) .0) valid (matched-at b i l e)
+            ∙ sym (laws .match-used b p (L .first t (L .group b p) i) valid e)
         own b i l false e = ap (L .free) (reads-kept b i l e .0)
 
         of : (b : Bool) (i : ℕ) → i < L .capacity → g ≡ L .group b p → freeAt L t′ g i ≡ freeAt L t g i

@@ -112,11 +112,11 @@ module _ {P T : Type 0} {L : Layout P T} {same : P → P → Bool} {Valid : P �
   group-tells true true p e = refl
 
   -- a free entry matches no page
-  pub free-fails : (b : Bool) (p : P) (u : ℕ) → L .free u ≡ true → L .matching b p u ≡ false
-  free-fails b p u f = go (L .matching b p u) refl
+  pub free-fails : (b : Bool) (p : P) (u : ℕ) → Valid p → L .free u ≡ true → L .matching b p u ≡ false
+  free-fails b p u v f = go (L .matching b p u) refl
     where
       go : (t : Bool) → L .matching b p u ≡ t → t ≡ false
-      go true e = absurd (true≢false (sym f ∙ laws .match-used b p u e))
+      go true e = absurd (true≢false (sym f ∙ laws .match-used b p u v e))
       go false e = refl
 
   -- a word that matches one page matches no other page of its group

@@ -24,7 +24,7 @@ module _ {P T : Type 0} {L : Layout P T} {same : P → P → Bool} {Valid : P �
   -- a page's own word matches no other page of the same group
   pub own-fails : (b c : Bool) (p q : P) (u : ℕ) → Valid p → Valid q → same p q ≡ false → L .group b p ≡ L .group c q → OwnWord L p b u
       → L .matching c q u ≡ false
-  own-fails b c p q u vp vq d e (inl f) = free-fails laws c q u f
+  own-fails b c p q u vp vq d e (inl f) = free-fails laws c q u vq f
   own-fails b c p q u vp vq d e (inr m) = other-fails laws b c p q u vp vq d e m
 
   module _ (t : T) (p : P) (good : Good t) where

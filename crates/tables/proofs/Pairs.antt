@@ -55,15 +55,15 @@ module _ {P T : Type 0} {L : Layout P T} {same : P → P → Bool} {Valid : P �
           omega arith
 
   -- each of the page's matches made free
-  pub pair-freed : {t t′ : T} {p : P} {edit : Match → ℕ × ℕ} → Edited L Good t t′ p edit → ((x : Match) → MatchOf L t p x → L .free (edit x .0) ≡ true)
+  pub pair-freed : {t t′ : T} {p : P} {edit : Match → ℕ × ℕ} → Edited L Good t t′ p edit → Valid p → ((x : Match) → MatchOf L t p x → L .free (edit x .0) ≡ true)
       → (g : ℕ) → g < groups L → usedOfPair L t g ≡ cond (ofPair (L .group) g p) (length (matchesOf L t p)) 0 + usedOfPair L t′ g
   unfolding matchesOf
-  pair-freed {t} {t′} {p} edited freed g lg = go (eqb (L .group false p) g) refl (eqb (L .group true p) g) refl
+  pair-freed {t} {t′} {p} edited valid freed g lg = go (eqb (L .group false p) g) refl (eqb (L .group true p) g) refl
     where
       own : (b : Bool) (h : ℕ) → L .group b p ≡ h → usedOfPair L t h ≡ length (matchesOf L t p) + usedOfPair L t′ h
       own b h q =
-          let a = freed-used laws edited freed false in
-          let c = freed-used laws edited freed true in
+          let a = freed-used laws edited valid freed false in
+          let c = freed-used laws edited valid freed true in
           let n = length-append (matchesIn L t false p) (matchesIn L t true p) in
           let o = usedOfPair-own t b p in
           let o′ = usedOfPair-own t′ b p in

@@ -31,7 +31,7 @@ module _ {P T : Type 0} {L : Layout P T} {same : P → P → Bool} {Valid : P �
     good = good;
     once = tt;
     found = λ p v. ap (map (λ (x : Match). x .second)) (matchesOf-none L t p (λ b. matchesIn-none L t p b
-        (λ i l. free-fails laws b p (L .first t (L .group b p) i) (free (L .group b p) i (group-in-range laws b p) l))));
+        (λ i l. free-fails laws b p (L .first t (L .group b p) i) v (free (L .group b p) i (group-in-range laws b p) l))));
     counted = λ g l.
         let a = used-none L t g (λ i k. free g i l k) in
         let b = used-none L t (groups L - suc g) (λ i k. free (groups L - suc g) i (omega arith) k) in
@@ -79,7 +79,7 @@ module _ {P T : Type 0} {L : Layout P T} {same : P → P → Bool} {Valid : P �
       (ap (map (λ (x : Match). x .second)) (put-only laws t p (r .good) b i u (word f) l fu fw (unmapped-matches laws r p v n) k)
       ∙ ap (wordsOf word) (sym (fieldsAt-putIn-same same (laws .same-refl) (laws .same-eq) p f m)))
       (λ g h. (v, subst ValidFields (Option·some-injective f g (sym (fieldsAt-putIn-same same (laws .same-refl) (laws .same-eq) p f m) ∙ h)) vf))
-      (λ g lg. pair-filled laws t p b i u (word f) (r .good) l fu fw (place .is-free) (laws .match-used b p u k) g lg
+      (λ g lg. pair-filled laws t p b i u (word f) (r .good) l fu fw (place .is-free) (laws .match-used b p u v k) g lg
       ∙ ap (λ x. oneIf (ofPair (L .group) g p) + x) (r .counted g lg))
 
   module _ {t : T} {m : List (P × F)} (r : Represents L same Valid Good word ValidFields t m) (p : P) (f : F) (mapped : fieldsAt same p m ≡ some f) where
@@ -98,11 +98,11 @@ module _ {P T : Type 0} {L : Layout P T} {same : P → P → Bool} {Valid : P �
         changed p r (e .good) (noPageTwice-takeOut same (laws .same-refl) (laws .same-eq) p m (r .once))
         (λ q vq d c. edited-other laws e (λ x h. inl free) q v vq d c)
         (λ q d. fieldsAt-takeOut-other same (laws .same-refl) (laws .same-eq) p q m d)
-        (ap (map (λ (x : Match). x .second)) (freed-matchesOf laws e (λ x h. free))
+        (ap (map (λ (x : Match). x .second)) (freed-matchesOf laws e v (λ x h. free))
         ∙ ap (wordsOf word) (sym (fieldsAt-takeOut-same same (laws .same-refl) (laws .same-eq) p m)))
         (λ g h. absurd (Option·some-ne-none g (sym h ∙ fieldsAt-takeOut-same same (laws .same-refl) (laws .same-eq) p m)))
         (λ g lg.
-        let a = pair-freed laws e (λ x h. free) g lg in
+        let a = pair-freed laws e v (λ x h. free) g lg in
         let n : cond (ofPair (L .group) g p) (length (matchesOf L t p)) 0 ≡ oneIf (ofPair (L .group) g p) =
         ap (λ xs. cond (ofPair (L .group) g p) (length xs) 0) (mapped-match laws r p f mapped .only) in
         let c = r .counted g lg in
@@ -120,8 +120,8 @@ module _ {P T : Type 0} {L : Layout P T} {same : P → P → Bool} {Valid : P �
           (words ∙ ap (wordsOf word) (sym own))
           (λ g h. (r .valid p f mapped .0, subst ValidFields (Option·some-injective (u f) g (sym own ∙ h)) valid))
           (λ g lg.
-          let a = rewritten-used laws edited (λ x h. h .passes) g lg in
-          let b = rewritten-used laws edited (λ x h. h .passes) (groups L - suc g) (omega arith) in
+          let a = rewritten-used laws edited (λ x h. h .passes) (r .valid p f mapped .0) g lg in
+          let b = rewritten-used laws edited (λ x h. h .passes) (r .valid p f mapped .0) (groups L - suc g) (omega arith) in
           let c = r .counted g lg in
           let k = pagesOfPair-revise (L .group) g same p u m in
           omega arith)

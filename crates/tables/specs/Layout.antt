@@ -84,7 +84,7 @@ pub record LayoutLaws {P T : Type 0} (L : Layout P T) (same : P → P → Bool) 
   -- a page's secondary group number is the complement of its primary one
   pub mirror : (p : P) → L .group true p + suc (L .group false p) ≡ groups L
   -- only an entry that is not free matches
-  pub match-used : (b : Bool) (p : P) (u : ℕ) → L .matching b p u ≡ true → L .free u ≡ false
+  pub match-used : (b : Bool) (p : P) (u : ℕ) → Valid p → L .matching b p u ≡ true → L .free u ≡ false
   -- a group and a first word name at most one page
   pub tells : (b c : Bool) (p q : P) (u : ℕ) → Valid p → Valid q → L .group b p ≡ L .group c q
       → L .matching b p u ≡ true → L .matching c q u ≡ true → p ≡ q

@@ -11,6 +11,7 @@ use Rattle.entry.specs.Entry.{rpnOf, ppOf, physicalAddress}
 use Rattle.numbers.proofs.Tables.{numbers-tables}
 use Rattle.words.proofs.Tables.{words-tables}
 use Rattle.entry.proofs.RoundTrip.{packing-agrees}
+use Rattle.entry.proofs.Matches.{match-agrees}
 use Rattle.entry.proofs.Tables.{entry-tables}
 use Rattle.register_words.proofs.Tables.{register-words-tables}
 use Rattle.registers.proofs.Tables.{registers-tables}
@@ -126,6 +127,7 @@ access-as-stated = record {
   numbers = numbers-tables;
   words = words-tables;
   packing = packing-agrees;
+  matching = match-agrees;
   entries = entry-tables;
   register-words = register-words-tables;
   registers = registers-tables;

@@ -10,7 +10,7 @@ use Rattle.numbers.specs.Tables.{NumbersTables}
 use Rattle.words.specs.Bits.{placed}
 use Rattle.words.specs.Tables.{WordsTables}
 use Rattle.entry.specs.Entry.{rpnOf, wimgOf, ppOf}
-use Rattle.entry.specs.RoundTrip.{PackingAgrees}
+use Rattle.entry.specs.RoundTrip.{PackingAgrees, MatchAgrees}
 use Rattle.entry.specs.Tables.{EntryTables}
 use Rattle.register_words.specs.Tables.{RegisterWordsTables}
 use Rattle.registers.specs.Tables.{RegistersTables}
@@ -135,6 +135,7 @@ pub record AccessAsStated : Type 0 where
   pub numbers : NumbersTables
   pub words : WordsTables
   pub packing : PackingAgrees
+  pub matching : MatchAgrees
   pub entries : EntryTables
   pub register-words : RegisterWordsTables
   pub registers : RegistersTables

@@ -20,7 +20,7 @@ extern "C" {
 
 /* The version; CHANGELOG.md says what a caller must change from one to the next. */
 #define MMU_VERSION_MAJOR 0
-#define MMU_VERSION_MINOR 7
+#define MMU_VERSION_MINOR 8
 
 /* ---- Results ---------------------------------------------------------------------------------- */
 

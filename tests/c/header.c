@@ -8,7 +8,7 @@
 #include <stdio.h>
 #include <string.h>
 
-#if MMU_VERSION_MAJOR * 1000 + MMU_VERSION_MINOR < 7
+#if MMU_VERSION_MAJOR * 1000 + MMU_VERSION_MINOR < 8
 #error "the version cannot be compared by the preprocessor"
 #endif
 

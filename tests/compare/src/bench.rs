@@ -41,6 +41,13 @@ pub enum Lending {
     Other,
 }
 
+/// Whether the model is asked beside what a section says of the answers itself.
+#[derive(Clone, Copy, PartialEq, Eq)]
+pub enum Judges {
+    ModelAndStatement,
+    StatementAlone,
+}
+
 pub struct Bench<'a> {
     subject: &'a dyn Machine,
     model: Model,
@@ -100,6 +107,14 @@ impl<'a> Bench<'a> {
         self.soil_answer();
         self.tally.calls += 1;
         self.on_subject(call, lending)
+    }
+
+    /// The call on the table, with the model or without it.
+    pub fn judge(&mut self, call: &Call, judges: Judges) -> Result<u32, Difference> {
+        match judges {
+            Judges::ModelAndStatement => self.compare(call, Lending::Table),
+            Judges::StatementAlone => Ok(self.perform(call, Lending::Table)),
+        }
     }
 
     /// The call on both; its number, or what differed.

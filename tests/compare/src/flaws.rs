@@ -3,10 +3,10 @@
 use model::bytes::Model;
 use model::flaw::{Flaw, MapFlaw, RecordFlaw};
 
-use crate::bench::Difference;
+use crate::bench::{self, Difference};
 use crate::lists::{self, Judges};
 use crate::tally::Tally;
-use crate::{edges, exhaustive, lengths, packing, singles, widened, Section};
+use crate::{edges, exhaustive, lengths, packing, singles, turned, widened, Section};
 
 /// The comparisons a wrong model goes through, as the library does, until one finds it.
 const SECTIONS: [Section; 5] =
@@ -19,6 +19,8 @@ pub struct Found {
     pub by_map: usize,
     pub by_edges: usize,
     pub by_widening: usize,
+    /// Those that are wrong about one bit of the first word at one place.
+    pub by_turned_bit: usize,
     pub maps: usize,
     /// Those that the finite map, which knows no place, rightly lets pass.
     pub left_to_table: usize,
@@ -43,6 +45,7 @@ pub fn run(factor: u32) -> Result<Found, Difference> {
     by_the_map_alone(&mut found, factor)?;
     at_page_edges(&mut found, factor)?;
     by_widening_alone(&mut found, factor)?;
+    by_a_turned_bit(&mut found)?;
     of_the_map(&mut found, factor)?;
     left_to_the_table(&mut found, factor)?;
     Ok(found)
@@ -89,10 +92,20 @@ fn at_page_edges(found: &mut Found, factor: u32) -> Result<(), Difference> {
 /// A short page held to the same page widened, without the model.
 fn by_widening_alone(found: &mut Found, factor: u32) -> Result<(), Difference> {
     for flaw in Flaw::WIDENED {
-        let alone = widened::Judges::StatementAlone;
+        let alone = bench::Judges::StatementAlone;
         let outcome = widened::run_with(&Model::with(flaw), factor, alone);
         found.calls(outcome, &format!("{flaw:?} by the widened page"))?;
         found.by_widening += 1;
+    }
+    Ok(())
+}
+
+/// Each bit of the first word not compared at each place, held to what a turned bit has to do, without the model.
+fn by_a_turned_bit(found: &mut Found) -> Result<(), Difference> {
+    for flaw in Flaw::of_first_words() {
+        let outcome = turned::run_with(&Model::with(flaw), bench::Judges::StatementAlone);
+        found.calls(outcome, &format!("{flaw:?} by a turned bit"))?;
+        found.by_turned_bit += 1;
     }
     Ok(())
 }

@@ -23,6 +23,7 @@ mod region;
 mod scenes;
 mod singles;
 mod tally;
+mod turned;
 mod vectors;
 mod watch;
 mod widened;
@@ -41,10 +42,11 @@ use tally::Tally;
 /// A comparison of some machine with the model, its random part so many times as long.
 type Section = fn(&dyn Machine, u32) -> Result<Tally, Difference>;
 
-const SECTIONS: [(&str, Empty, Section); 9] = [
+const SECTIONS: [(&str, Empty, Section); 10] = [
     ("recorded accesses", Empty::Null, vectors::run),
     ("packing", Empty::Null, packing::run),
     ("complete tables", Empty::Null, exhaustive::run),
+    ("first words, bits turned", Empty::Null, turned::run),
     ("operands at page edges", Empty::Null, edges::run),
     ("short and widened pages", Empty::Null, widened::run),
     ("lengths, empty as NULL", Empty::Null, lengths::run),
@@ -105,12 +107,13 @@ fn test_the_tests(factor: u32) -> Result<(), Difference> {
     let found = flaws::run(factor)?;
     println!(
         "wrong models found: {}, {} of them by the finite map alone, {} at page edges alone, \
-         {} by a widened page alone; \
+         {} by a widened page alone; {} more by a bit turned at a place; \
          wrong maps found: {}; none took more than {} calls; {} wrong models only the table shows",
         found.models,
         found.by_map,
         found.by_edges,
         found.by_widening,
+        found.by_turned_bit,
         found.maps,
         found.most_calls,
         found.left_to_table

@@ -5,19 +5,12 @@ use model::call::{Access, Call, Page};
 use model::registers::{sdr1_is_well_formed, Layout, Side};
 use model::words::put_words;
 
-use crate::bench::{Before, Bench, Difference, Lending};
+use crate::bench::{Before, Bench, Difference, Judges, Lending};
 use crate::machine::Machine;
 use crate::random::Random;
 use crate::scenes::registers::{widened_number, Words};
 use crate::scenes::{arguments, groups, operands, registers};
 use crate::tally::Tally;
-
-/// What the answers are held to.
-#[derive(Clone, Copy, PartialEq, Eq)]
-pub enum Judges {
-    ModelAndStatement,
-    StatementAlone,
-}
 
 const CALLS: u32 = 60_000;
 const TABLE: usize = 65_536;
@@ -69,8 +62,8 @@ impl Stage<'_> {
             Call::SetRegister { word, .. } => Call::SetRegister { number: u32::MAX, word },
             _ => call,
         };
-        let short = perform(&mut self.short, &call, self.judges)?;
-        let long = perform(&mut self.long, &on_long, self.judges)?;
+        let short = self.short.judge(&call, self.judges)?;
+        let long = self.long.judge(&on_long, self.judges)?;
         let right = match such_bits {
             true => short == if sdr1_is_well_formed(new_set[0]) { 3 } else { 2 },
             false => short == long && self.left_alike(),
@@ -181,12 +174,5 @@ impl Stage<'_> {
         self.short.answer.subject_bytes() == self.long.answer.subject_bytes()
             && self.short.table.subject_bytes() == self.long.table.subject_bytes()
             && widened == self.long.registers.subject_bytes()
-    }
-}
-
-fn perform(bench: &mut Bench, call: &Call, judges: Judges) -> Result<u32, Difference> {
-    match judges {
-        Judges::ModelAndStatement => bench.compare(call, Lending::Table),
-        Judges::StatementAlone => Ok(bench.perform(call, Lending::Table)),
     }
 }

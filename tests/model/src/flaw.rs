@@ -11,6 +11,14 @@ pub enum Flaw {
     HForgotten,
     /// The API is compared without the VSID.
     VsidForgotten,
+    /// V is not compared.
+    VForgotten,
+    /// The VSID is compared without the API.
+    ApiForgotten,
+    /// The first word that matches in the primary group is the one that matches in the secondary too.
+    PrimaryWordInBoth,
+    /// This bit of the first word is not compared at this place of the search order.
+    BitForgottenAt { bit: u32, place: usize },
     /// Map refuses 9 as soon as the primary group is full.
     FullAtPrimary,
     /// Map asks for a free entry before it asks whether the page matches.
@@ -331,8 +339,9 @@ impl RecordFlaw {
 impl Flaw {
     /// Those that show in calls whose operands lie within one page.
     #[rustfmt::skip]
-    pub const WITHIN_PAGE: [Flaw; 30] = [
+    pub const WITHIN_PAGE: [Flaw; 33] = [
         Flaw::UnmapPrimaryOnly, Flaw::UnmapFirstMarks, Flaw::HForgotten, Flaw::VsidForgotten,
+        Flaw::VForgotten, Flaw::ApiForgotten, Flaw::PrimaryWordInBoth,
         Flaw::FullAtPrimary, Flaw::FullBeforeMatch, Flaw::MatchUpToFree, Flaw::MapStoresNothing,
         Flaw::ProtectFirstOnly, Flaw::ProtectIgnoredBits,
         Flaw::MarksEveryMatch, Flaw::MarkIgnoredBits, Flaw::LookIgnoredBits,
@@ -347,8 +356,9 @@ impl Flaw {
     /// Those of them that show after a clear, where no duplicate and no ignored bit ever stands in
     /// the table: the finite map has to find them without the model's help.
     #[rustfmt::skip]
-    pub const AFTER_CLEAR: [Flaw; 17] = [
+    pub const AFTER_CLEAR: [Flaw; 19] = [
         Flaw::UnmapPrimaryOnly, Flaw::HForgotten, Flaw::VsidForgotten, Flaw::FullAtPrimary,
+        Flaw::ApiForgotten, Flaw::PrimaryWordInBoth,
         Flaw::FullBeforeMatch, Flaw::MatchUpToFree, Flaw::MapStoresNothing,
         Flaw::GroupEndsAtFree, Flaw::SearchEndsAtFree, Flaw::FreeEndsInPrimary,
         Flaw::LastEntryNotFree,
@@ -421,6 +431,11 @@ impl Flaw {
         Flaw::DataPairsAtWord25, Flaw::ShortBitsLetThrough, Flaw::ShortBlOfFifteen,
         Flaw::OffPairBitsRefused, Flaw::ShortHasEight, Flaw::LongRefused,
     ];
+
+    /// One for each bit of a first word at each place of the search order.
+    pub fn of_first_words() -> impl Iterator<Item = Flaw> {
+        (0..16).flat_map(|place| (0..32).map(move |bit| Flaw::BitForgottenAt { bit, place }))
+    }
 
     /// Refusals in another order.
     #[rustfmt::skip]

@@ -3,7 +3,7 @@
 use crate::call::Page;
 use crate::entry::Fields;
 use crate::flaw::Flaw;
-use crate::words::{bits, word_at};
+use crate::words::{bits, ending_at, word_at};
 
 pub const GROUP: usize = 64;
 pub const ENTRY: usize = 8;
@@ -45,12 +45,30 @@ impl Place {
         (self.h, self.entry) < (other.h, other.entry)
     }
 
+    /// Its number in search order, 0 to 15.
+    fn number(&self) -> usize {
+        8 * self.h as usize + self.entry
+    }
+
     fn matches(&self, flaw: Option<Flaw>, page: Page) -> bool {
-        let entry = Fields::of_words(self.first, self.second);
-        entry.v == 1
+        let forgotten = match flaw {
+            Some(Flaw::BitForgottenAt { bit, place }) if place == self.number() => {
+                ending_at(1, bit)
+            }
+            _ => 0,
+        };
+        let words = [self.first, self.first ^ forgotten];
+        words.into_iter().any(|first| self.matches_by(flaw, page, first))
+    }
+
+    /// Whether it matches with this first word: field by field, as the rules say it.
+    fn matches_by(&self, flaw: Option<Flaw>, page: Page, first: u32) -> bool {
+        let entry = Fields::of_words(first, self.second);
+        let h = if flaw == Some(Flaw::PrimaryWordInBoth) { 0 } else { self.h };
+        (entry.v == 1 || flaw == Some(Flaw::VForgotten))
             && (entry.vsid == page.vsid || flaw == Some(Flaw::VsidForgotten))
-            && (entry.h == self.h || flaw == Some(Flaw::HForgotten))
-            && entry.api == page.api()
+            && (entry.h == h || flaw == Some(Flaw::HForgotten))
+            && (entry.api == page.api() || flaw == Some(Flaw::ApiForgotten))
     }
 }
 

@@ -155,10 +155,6 @@ module _ (s : Summary) where
 
 -- ---- by cases
 
-pub by-test : {X : Type 0} (t : Bool) → (t ≡ true → X) → (t ≡ false → X) → X
-by-test true holds fails = holds refl
-by-test false holds fails = fails refl
-
 pub by-early : {X : Type 0} (early : Early) → ((outcome : Outcome) → early ≡ Decided outcome → X) → ((wanted : Wanted) → early ≡ Search wanted → X) → X
 by-early (Decided outcome) decided search = decided outcome refl
 by-early (Search wanted) decided search = search wanted refl

@@ -9,6 +9,7 @@ use native.Mathlib.Omega.{arith}
 use lib.Dec.{eqb, lit<, lit≤}
 use lib.ListN.{length, take}
 use borrow.Author.Tests.{eqb-true, eqb-false, eq-eqb, ne-eqb}
+use Rattle.words.proofs.Tests.{by-test}
 use Rattle.register_words.specs.Block.{blWidth}
 use Rattle.calls.specs.Rules.{onLongPage}
 use Rattle.words.specs.Bits.{bits}
@@ -45,7 +46,7 @@ use Rattle.calls.specs.Represents.{GoodTable}
 use Rattle.calls.specs.AnyTable.{SameEntry, groupAt, firstHere, secondHere, Matching, SomeMatch, Disagreeing, FirstMatch, Marked, Taken}
 use Rattle.calls.specs.AnyTable.{HasPart, answered, leftBy, decidedBy, SearchOnAny, FirstOfPart, AccessOnAny}
 use Rattle.calls.proofs.TakenCalls.{good-table, does, number-of, state-of, answer-of, bit-set, r-is, c-is}
-use Rattle.calls.proofs.Access.{by-test, by-early, wanted-valid, parts-unmarked, unmarked-decided}
+use Rattle.calls.proofs.Access.{by-early, wanted-valid, parts-unmarked, unmarked-decided}
 use Rattle.calls.proofs.AnyRule.{rule-stated, undecided}
 use Rattle.calls.proofs.AnyEntries.{by-matches, own, some-match, no-match, head-is, disagree, contradicts, disagreeing-some}
 use Rattle.calls.proofs.TwoMarks.{pages-apart, second-kept, mark-good, mark-reads, mark-others, match-kept, first-kept, no-common, marks-commute}

@@ -10,7 +10,7 @@ use borrow.Author.Tests.{ltb-true, ltb-false, eq-eqb}
 use Rattle.register_words.specs.Block.{blWidth}
 use Rattle.calls.specs.Rules.{onLongPage}
 use Rattle.words.proofs.Below.{first-passes, first-before}
-use Rattle.words.proofs.Tests.{three, both}
+use Rattle.words.proofs.Tests.{three, both, by-test}
 use Rattle.entry.specs.Entry.{wimgOf, ppOf, pageIndex}
 use Rattle.register_words.specs.Segment.{noExecute}
 use Rattle.registers.specs.Set.{blockPairs, registerWords, coveringPair, pairCovers}
@@ -37,7 +37,7 @@ use Rattle.calls.specs.Request.{AccessCall}
 use Rattle.calls.specs.OnBytes.{byMatches, earlyOf, usedBy, wantedPage, searched, searchIn, firstPlaceIn}
 use Rattle.calls.specs.AnyTable.{groupAt, secondHere, SomeMatch, FirstMatch, answered, decidedBy, segmentHere, pageHere, keyHere, Covered, Condition, RuleStated}
 use Rattle.calls.specs.AnyTable.{untranslated, by-block, not-executable, unmatched, guarded-fetch, forbidden, allowed}
-use Rattle.calls.proofs.Access.{by-test, refused-words}
+use Rattle.calls.proofs.Access.{refused-words}
 use Rattle.calls.proofs.AnyEntries.{by-matches, own, some-match, no-match, head-is, first-of}
 
 -- a number at which something holds, and at none before it, is the only such

@@ -6,6 +6,7 @@ use mathlib.Core.List.{List, [], _∷_}
 use mathlib.Core.Option.{Option, none, some}
 use lib.Dec.{eqb, lit<}
 use lib.ListN.{length}
+use Rattle.words.proofs.Tests.{by-test}
 use Rattle.placement.specs.FiniteMap.{fieldsAt, takeOut, revise, mappedPages}
 use Rattle.placement.proofs.FiniteMap.{revise-unmapped}
 use Rattle.registers.specs.Set.{registerWords}
@@ -42,7 +43,7 @@ use Rattle.calls.specs.OnMap.{PageFields, Map, fieldsWord, markFields, p
 use Rattle.calls.specs.Represents.{FieldsInRange, represents}
 use Rattle.calls.proofs.TableLaws.{Word, layout-laws, represents-zeros}
 use Rattle.calls.proofs.Rules.{map-kept, unmap-kept, look-kept, protect-kept}
-use Rattle.calls.proofs.Access.{by-test, by-early, wanted-valid}
+use Rattle.calls.proofs.Access.{by-early, wanted-valid}
 use Rattle.calls.proofs.Compared.{compared-same}
 use Rattle.calls.proofs.Fields.{oneIf-lt, word-fits, marked-word, protected-word, mark-range, protect-range}
 

@@ -19,10 +19,7 @@ pub extern "C" fn mmu_check(registers: &[u8]) -> u32
     if !registers::is_page(registers.len()) {
         return numbers::REFUSED_LENT_LENGTH;
     }
-    let mut words = [0u32; 49];
-    registers::read_words(registers, &mut words);
-    let long = registers.len() == numbers::REGISTERS_SIZE_LONG;
-    registers::check_words(&words, long)
+    register_pages::check(registers)
 }
 
 // Replaces one word of a register page.
@@ -33,13 +30,7 @@ pub extern "C" fn mmu_set_register(registers: &mut [u8], number: u32, word: u32)
     if !registers::is_page(registers.len()) {
         return numbers::REFUSED_LENT_LENGTH;
     }
-    let set = registers::read_set(registers);
-    let replaced = set.with_word(number, word);
-    let result = replaced.result;
-    if result == numbers::DONE {
-        words::write_word(registers, 4 * (number as usize), word);
-    }
-    result
+    register_pages::set_word(registers, number, word)
 }
 
 // Packs nine fields into the two words of an entry.

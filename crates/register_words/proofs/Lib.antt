@@ -1,5 +1,6 @@
 -- What callers' proofs cite of a register word.
 pub mod Sdr1
 pub mod Blocks
+pub mod Quick
 pub mod Computes
 pub mod Tables

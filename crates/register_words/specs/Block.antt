@@ -58,6 +58,10 @@ module _ (width : ℕ) where
       eqb (bitAnd (brpnOf lower) (blOf upper)) 0 && eqb (bits 15 24 lower) 0 && eqb (bits 29 29 lower) 0 && not (eqb (bits 25 26 lower) 3)
       && (side || (eqb (bits 25 25 lower) 0 && eqb (bits 28 28 lower) 0))
 
+  -- the part of a pair's shape that is about its length: BL is ones only at its low end, and BEPI's and BRPN's bits under it are zero
+  unfoldable pub lengthGood : ℕ → ℕ → Bool
+  lengthGood upper lower = lowOnes (blOf upper) && eqb (bitAnd (bepiOf upper) (blOf upper)) 0 && eqb (bitAnd (brpnOf lower) (blOf upper)) 0
+
   -- a pair that is off may hold anything else; the side is true for data blocks and false for instruction blocks
   unfoldable pub blockShape : Bool → ℕ → ℕ → Bool
   unfolding off upperShape lowerShape

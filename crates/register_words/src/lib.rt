@@ -1,17 +1,21 @@
 // One register word: SDR1, a segment register, and a block pair's upper and lower word; their shapes and what a block covers.
 ghost use mathlib.Core.Path.{_≡_};
 ghost use mathlib.Core.Bool.{true};
-ghost use Prim.Native.Nat.{_-_, _^_};
+ghost use Prim.Native.Nat.{_-_, _/_, _%_, _^_};
 ghost use Rattle.register_words.specs.Sdr1.{sdr1Shape, tableLength, hashBits};
 ghost use Rattle.register_words.specs.Segment.{segmentShape};
-ghost use Rattle.register_words.specs.Block.{blWidth, blockShape, clash, covers, inBlock, blockPhysical};
+ghost use Rattle.register_words.specs.Block.{blWidth, blockShape, lengthGood, clash, covers, inBlock, blockPhysical};
 
 // Whether SDR1 has its shape.
 pub fn sdr1_shape(sdr1: u32) -> bool
     ensures { λ r. ⌜ r ≡ sdr1Shape sdr1 ⌝ }
 {
-    let mask = sdr1 & 0x1FF;
-    words::low_ones(mask) & ((sdr1 >> 9) & 0x7F == 0) & ((sdr1 >> 16) & mask == 0)
+    let mask = sdr1 & 0xFFFF;
+    // The least table, of 64 KB, needs no further test.
+    if mask == 0 {
+        return true;
+    }
+    (mask < 512) & words::low_ones(mask) & ((sdr1 >> 16) & mask == 0)
 }
 
 // The length in bytes of the table of an SDR1.
@@ -58,6 +62,17 @@ pub fn block_shape(long: bool, side: bool, upper: u32, lower: u32) -> bool
         & ((lower >> 5) & 3 != 3)
         & (lower & side_zeros == 0);
     upper_good & lower_good
+}
+
+// Whether BL of a pair, its upper word in the high half, is ones only at its low end with zeros of BEPI and BRPN under them.
+pub fn length_good(pair: u64) -> bool
+    ensures { λ r. ⌜ r ≡ lengthGood (blWidth true) (pair / 2 ^ 32) (pair % 2 ^ 32) ⌝ }
+{
+    let bl = (pair >> 34) & 0x7FFF;
+    if bl == 0 {
+        return true;
+    }
+    words::low_ones(bl as u32) && pair & (bl * 0x2000000020000) == 0
 }
 
 // Whether two blocks have a V bit in common and share an effective address. Here and below BL has 15 bits, of which a short page's blocks use 11.

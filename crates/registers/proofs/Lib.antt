@@ -3,6 +3,7 @@ pub mod Set
 pub mod Spread
 pub mod Wide
 pub mod Widened
+pub mod Pages
 pub mod Placed
 pub mod Blocks
 pub mod Computes

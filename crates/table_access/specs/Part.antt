@@ -1,9 +1,10 @@
 -- A part of an operand as the code holds it, and the parts of an access by the words of its register set.
-use Prim.Native.Nat.{ℕ}
+use Prim.Native.Nat.{ℕ, _+_, _*_, _≤_}
 use mathlib.Core.Bool.{Bool, true, false, cond}
 use mathlib.Core.List.{List}
 use mathlib.Core.Path.{_≡_}
 use lib.Dec.{ltb}
+use lib.ListN.{length}
 use Rattle.numbers.specs.Numbers.{groupEntries}
 use Rattle.entry.specs.Entry.{withMarks}
 use Rattle.register_words.specs.Block.{blWidth}
@@ -36,8 +37,14 @@ SameMatches k (Search wanted) t u = matchesOf (layout k) u (wantedPage wanted) �
 
 -- what a part's entry is for: in any table where its page has the same matches, marking it is step 7
 abbrev pub Marks : ℕ → ℕ → Early → List ℕ → Part → Type 0
-Marks k kind early t part =
-    (address : ℕ) (u : List ℕ) → answerOf kind address (part .outcome) .result ≡ 0 → SameMatches k early t u → marked kind part u ≡ markedBy k kind early 0 u
+Marks k kind early t part = (u : List ℕ) → part .answer .result ≡ 0 → SameMatches k early t u → marked kind part u ≡ markedBy k kind early 0 u
+
+-- a part at an address, by what steps 1 to 3 came to: its answer, what decided it, a group of the table, and its mark
+pub record ByPart (k : ℕ) (t : List ℕ) (kind address : ℕ) (early : Early) (part : Part) : Type 0 where
+  pub answers : part .answer ≡ answerOf kind address (outcomeOf kind (searchIn k t) early)
+  pub decides : part .decision ≡ decisionOf (usedBy (firstPlaceIn k t) early) (outcomeOf kind (searchIn k t) early)
+  pub inside : 64 * part .group + 64 ≤ length t
+  pub marks : Marks k kind early t part
 
 module _ (words : List ℕ) (access : Access) where
   -- steps 1 to 3 of the first part (false) or the second (true)

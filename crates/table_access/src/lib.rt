@@ -11,19 +11,19 @@ ghost use Rattle.numbers.specs.Numbers.{refusedTableLength, refusedArgument, re
 ghost use Rattle.registers.specs.Rules.{firstBroken};
 ghost use Rattle.register_words.specs.Sdr1.{sdr1Shape, tableLength, maskOnes};
 ghost use Rattle.register_words.specs.Block.{blWidth};
-ghost use Rattle.registers.specs.Set.{isPage, blockPairs, sdr1Of, registerRules};
+ghost use Rattle.registers.specs.Set.{isPage, isLong, blockPairs, sdr1Of, registerRules, checkWords, setWords};
+ghost use Rattle.register_pages.specs.Quick.{everywhere, TellsBlocks};
 ghost use Rattle.matches.specs.Search.{summary};
 ghost use Rattle.tables.specs.Matches.{Match};
-ghost use Rattle.translation.specs.Steps.{afterSearch, outcomeOf};
-ghost use Rattle.translation.specs.Decision.{decisionOf};
-ghost use Rattle.translation.specs.Operand.{firstBytes};
+ghost use Rattle.protection.specs.Access.{relocated};
+ghost use Rattle.translation.specs.Steps.{beforeSearch};
+ghost use Rattle.translation.specs.Operand.{firstBytes, partStart};
 ghost use Rattle.translation.specs.declared.Early.the-variants.{Search};
-ghost use Rattle.translation.specs.declared.Wanted.{Wanted};
 ghost use Rattle.calls.specs.Request.{access};
 ghost use Rattle.calls.specs.Rules.{operandInRange};
 ghost use Rattle.calls.specs.Answers.{accessAnswer};
-ghost use Rattle.calls.specs.OnBytes.{ended, usedBy, searched, searchIn, firstPlaceIn, markedBy, onBytes};
-ghost use Rattle.table_access.specs.Part.{marked, Marks, partEarly, partTold, partDecided, wholeTold, tableLeft};
+ghost use Rattle.calls.specs.OnBytes.{ended, searched, onBytes};
+ghost use Rattle.table_access.specs.Part.{marked, ByPart, partEarly, wholeTold, tableLeft};
 
 // What an access asks for.
 pub struct Access {
@@ -33,22 +33,25 @@ pub struct Access {
     pub length: u32,
 }
 
-// What a part of an operand comes to, what decided it, and the entry that it marks where the operand is done: its group, its number (8 where there
+// What a part of an operand answers, what decided it, and the entry that it marks where the operand is done: its group, its number (8 where there
 // is none to mark) and its second word.
 pub struct Part {
-    pub outcome: translation::Outcome,
+    pub answer: translation::Answer,
     pub decision: translation::decision::Decision,
     pub group: usize,
     pub entry: usize,
     pub second: u32,
 }
 
-// The first broken rule after the lent lengths, or 0: the arguments' ranges, then the register set of a short or a long page, then the table's length.
-fn refusal(words: &[u32; 49], long: bool, access: Access, lent: usize) -> u32
+// The first broken rule after the lent lengths, or 0: the arguments' ranges, then the register page, then the table's length. `begins` is what the
+// quick test of the page answered; where it did not decide, the exact check does.
+fn refusal(registers: &[u8], begins: u32, access: Access, lent: usize) -> u32
+    requires { ⌜ (isPage (length (now registers)) ≡ true)
+        × ((begins ≡ everywhere → ⊥) → checkWords (blockPairs true) (blWidth (isLong (length (now registers)))) (setWords (now registers)) ≡ 0) ⌝ }
     ensures { λ r. ⌜ r ≡ firstBroken ((not (ltb (access .mode) 8 && ltb (access .kind) 3), refusedArgument)
         ∷ (not (operandInRange (access .length)), refusedOperandLength)
-        ∷ registerRules (blockPairs true) (blWidth long) (now (words .entry))
-        ++ ((not (eqb lent (tableLength (sdr1Of (now (words .entry))))), refusedTableLength) ∷ [])) ⌝ }
+        ∷ registerRules (blockPairs true) (blWidth (isLong (length (now (registers .entry))))) (setWords (now (registers .entry)))
+        ++ ((not (eqb lent (tableLength (sdr1Of (setWords (now (registers .entry)))))), refusedTableLength) ∷ [])) ⌝ }
 {
     if !((access.mode < 8) & (access.kind < 3)) {
         return numbers::REFUSED_ARGUMENT;
@@ -56,11 +59,13 @@ fn refusal(words: &[u32; 49], long: bool, access: Access, lent: usize) -> u32
     if !((0 < access.length) & (access.length <= numbers::LONGEST_OPERAND)) {
         return numbers::REFUSED_OPERAND_LENGTH;
     }
-    let broken = registers::check_words(words, long);
-    if broken != numbers::DONE {
-        return broken;
+    if begins == register_pages::EVERYWHERE {
+        let broken = register_pages::exact_check(registers);
+        if broken != numbers::DONE {
+            return broken;
+        }
     }
-    if lent != register_words::table_length(words[0]) {
+    if lent != register_words::table_length(register_pages::sdr1(registers)) {
         return numbers::REFUSED_TABLE_LENGTH;
     }
     numbers::DONE
@@ -79,13 +84,10 @@ fn searched_of(search: matches::Summary) -> translation::Searched
     translation::Searched::At(search.second)
 }
 
-// Steps 4 to 6 of a part: the search of its page's groups. The entry to mark is the first match.
-fn by_page(table: &[u8], sdr1: u32, kind: u32, wanted: translation::Wanted) -> Part
+// Steps 4 to 6 of a part at an address: the search of its page's groups. The entry to mark is the first match.
+fn by_page(table: &[u8], sdr1: u32, kind: u32, address: u32, wanted: translation::Wanted) -> Part
     requires { ⌜ (sdr1Shape sdr1 ≡ true) × (length (now table) ≡ tableLength sdr1) × (wanted .vsid < 2 ^ 24) × (wanted .index < 2 ^ 16) ⌝ }
-    ensures { λ r. ⌜ (r .outcome ≡ afterSearch kind (wanted .key) (searchIn (maskOnes sdr1) (now (table .entry)) wanted))
-        × (r .decision ≡ decisionOf (usedBy (firstPlaceIn (maskOnes sdr1) (now (table .entry))) (Search wanted)) (r .outcome))
-        × (64 * r .group + 64 ≤ length (now (table .entry)))
-        × Marks (maskOnes sdr1) kind (Search wanted) (now (table .entry)) r ⌝ }
+    ensures { λ r. ⌜ ByPart (maskOnes sdr1) (now (table .entry)) kind address (Search wanted) r ⌝ }
 {
     let at = locate(sdr1, wanted.vsid, wanted.index);
     let search = matches::search_both(table, at.primary, at.secondary, wanted.vsid, at.api);
@@ -98,7 +100,7 @@ fn by_page(table: &[u8], sdr1: u32, kind: u32, wanted: translation::Wanted) -> P
         entry: entry as u32,
     };
     Part {
-        outcome,
+        answer: translation::answer_of(kind, address, outcome),
         decision: translation::decision::decision_of(used, outcome),
         group,
         entry,
@@ -106,18 +108,16 @@ fn by_page(table: &[u8], sdr1: u32, kind: u32, wanted: translation::Wanted) -> P
     }
 }
 
-// The steps of a part after those before the search.
-fn part_of(table: &[u8], sdr1: u32, kind: u32, early: translation::Early) -> Part
-    requires { ⌜ (sdr1Shape sdr1 ≡ true) × (length (now table) ≡ tableLength sdr1)
-        × ((wanted : Wanted) → early ≡ Search wanted → (wanted .vsid < 2 ^ 24) × (wanted .index < 2 ^ 16)) ⌝ }
-    ensures { λ r. ⌜ (r .outcome ≡ outcomeOf kind (searchIn (maskOnes sdr1) (now (table .entry))) early)
-        × (r .decision ≡ decisionOf (usedBy (firstPlaceIn (maskOnes sdr1) (now (table .entry))) early) (r .outcome))
-        × (64 * r .group + 64 ≤ length (now (table .entry)))
-        × Marks (maskOnes sdr1) kind early (now (table .entry)) r ⌝ }
+// The steps of a part at an address.
+fn part_of(table: &[u8], registers: &[u8], begins: u32, mode: u32, kind: u32, address: u32) -> Part
+    requires { ⌜ (isPage (length (now registers)) ≡ true) × TellsBlocks (setWords (now registers)) begins
+        × (sdr1Shape (sdr1Of (setWords (now registers))) ≡ true) × (length (now table) ≡ tableLength (sdr1Of (setWords (now registers)))) ⌝ }
+    ensures { λ r. ⌜ ByPart (maskOnes (sdr1Of (setWords (now (registers .entry))))) (now (table .entry)) kind address
+        (beforeSearch (blockPairs true) (blWidth true) (setWords (now (registers .entry))) mode kind address) r ⌝ }
 {
-    match early {
+    match translation::before_search(registers, begins, mode, kind, address) {
         translation::Early::Decided(outcome) => Part {
-            outcome,
+            answer: translation::answer_of(kind, address, outcome),
             decision: translation::decision::decision_of(
                 translation::decision::Used::nothing(),
                 outcome,
@@ -126,7 +126,13 @@ fn part_of(table: &[u8], sdr1: u32, kind: u32, early: translation::Early) -> Par
             entry: numbers::GROUP_ENTRIES,
             second: 0,
         },
-        translation::Early::Search(wanted) => by_page(table, sdr1, kind, wanted),
+        translation::Early::Search(wanted) => by_page(
+            table,
+            register_pages::sdr1(registers),
+            kind,
+            address,
+            wanted,
+        ),
     }
 }
 
@@ -143,61 +149,83 @@ fn mark(table: &mut [u8], kind: u32, part: Part)
 
 // An operand over a page edge whose first part is done: the second part by itself, and both marks when it is done too.
 fn over_edge(
-    words: &[u32; 49],
+    registers: &[u8],
+    begins: u32,
     access: Access,
     first: Part,
-    answer: translation::Answer,
     bytes: u32,
     table: &mut [u8],
 ) -> translation::operand::OperandAnswer
-    requires { ⌜ (sdr1Shape (sdr1Of (now words)) ≡ true) × (length (now table) ≡ tableLength (sdr1Of (now words)))
+    requires { ⌜ (isPage (length (now registers)) ≡ true) × TellsBlocks (setWords (now registers)) begins
+        × (sdr1Shape (sdr1Of (setWords (now registers))) ≡ true) × (length (now table) ≡ tableLength (sdr1Of (setWords (now registers))))
         × (bytes ≡ firstBytes (access .address) (access .length)) × (bytes < access .length)
-        × (answer ≡ partTold (now words) access (maskOnes (sdr1Of (now words))) (now table) false) × (answer .result ≡ done)
-        × (first .decision ≡ partDecided (now words) access (maskOnes (sdr1Of (now words))) (now table) false)
-        × (64 * first .group + 64 ≤ length (now table))
-        × (marked (access .kind) first (now table) ≡ markedBy (maskOnes (sdr1Of (now words))) (access .kind) (partEarly (now words) access false) done (now table)) ⌝ }
-    ensures { λ r. ⌜ (r ≡ wholeTold (now (words .entry)) access (maskOnes (sdr1Of (now (words .entry)))) (now (table .entry)))
-        × (now (table .exit) ≡ tableLeft (now (words .entry)) access (maskOnes (sdr1Of (now (words .entry)))) (now (table .entry))) ⌝ }
+        × ByPart (maskOnes (sdr1Of (setWords (now registers)))) (now table) (access .kind) (partStart (access .address) (access .length) false)
+        (partEarly (setWords (now registers)) access false) first
+        × (first .answer .result ≡ done) ⌝ }
+    ensures { λ r. ⌜ (r ≡ wholeTold (setWords (now (registers .entry))) access (maskOnes (sdr1Of (setWords (now (registers .entry))))) (now (table .entry)))
+        × (now (table .exit) ≡ tableLeft (setWords (now (registers .entry))) access (maskOnes (sdr1Of (setWords (now (registers .entry))))) (now (table .entry))) ⌝ }
 {
     let start = translation::operand::next_start(access.address, bytes);
-    let early = translation::before_search(words, access.mode, access.kind, start);
-    let second = part_of(table, words[0], access.kind, early);
-    let outcome = second.outcome;
-    let further = translation::answer_of(access.kind, start, outcome);
+    let second = part_of(table, registers, begins, access.mode, access.kind, start);
+    let further = second.answer;
     if further.result != numbers::DONE {
         return translation::operand::stopped(further, second.decision);
     }
     mark(table, access.kind, first);
     mark(table, access.kind, second);
-    translation::operand::across_edge(answer, first.decision, further, bytes, access.length)
+    translation::operand::across_edge(first.answer, first.decision, further, bytes, access.length)
 }
 
 // The parts of an operand whose arguments are not refused.
 fn by_parts(
-    words: &[u32; 49],
+    registers: &[u8],
+    begins: u32,
     access: Access,
     table: &mut [u8],
 ) -> translation::operand::OperandAnswer
-    requires { ⌜ (sdr1Shape (sdr1Of (now words)) ≡ true) × (length (now table) ≡ tableLength (sdr1Of (now words))) ⌝ }
-    ensures { λ r. ⌜ (r ≡ wholeTold (now (words .entry)) access (maskOnes (sdr1Of (now (words .entry)))) (now (table .entry)))
-        × (now (table .exit) ≡ tableLeft (now (words .entry)) access (maskOnes (sdr1Of (now (words .entry)))) (now (table .entry))) ⌝ }
+    requires { ⌜ (isPage (length (now registers)) ≡ true) × TellsBlocks (setWords (now registers)) begins
+        × (sdr1Shape (sdr1Of (setWords (now registers))) ≡ true) × (length (now table) ≡ tableLength (sdr1Of (setWords (now registers)))) ⌝ }
+    ensures { λ r. ⌜ (r ≡ wholeTold (setWords (now (registers .entry))) access (maskOnes (sdr1Of (setWords (now (registers .entry))))) (now (table .entry)))
+        × (now (table .exit) ≡ tableLeft (setWords (now (registers .entry))) access (maskOnes (sdr1Of (setWords (now (registers .entry))))) (now (table .entry))) ⌝ }
 {
-    let early = translation::before_search(words, access.mode, access.kind, access.address);
-    let first = part_of(table, words[0], access.kind, early);
-    let outcome = first.outcome;
-    let answer = translation::answer_of(access.kind, access.address, outcome);
+    let first = part_of(
+        table,
+        registers,
+        begins,
+        access.mode,
+        access.kind,
+        access.address,
+    );
+    let answer = first.answer;
     if answer.result != numbers::DONE {
         return translation::operand::stopped(answer, first.decision);
     }
     let bytes = translation::operand::first_bytes(access.address, access.length);
     if bytes < access.length {
-        return over_edge(words, access, first, answer, bytes, table);
+        return over_edge(registers, begins, access, first, bytes, table);
     }
     mark(table, access.kind, first);
     translation::operand::within(answer, first.decision, access.length)
 }
 
-// One access whose lent lengths are right: what it answers, with the marks made. The register page is read once.
+// An operand that is not translated: each part's address is its own, and nothing is marked.
+fn untranslated(access: Access) -> translation::operand::OperandAnswer
+    requires { ⌜ relocated (access .mode) (access .kind) ≡ false ⌝ }
+    ensures { λ r. ⌜ ((words : List ℕ) (k : ℕ) (t : List ℕ) → (r ≡ wholeTold words access k t) × (t ≡ tableLeft words access k t)) ⌝ }
+{
+    let real = translation::Outcome::Real;
+    let none = translation::decision::decision_of(translation::decision::Used::nothing(), real);
+    let first = translation::answer_of(access.kind, access.address, real);
+    let bytes = translation::operand::first_bytes(access.address, access.length);
+    if bytes < access.length {
+        let start = translation::operand::next_start(access.address, bytes);
+        let second = translation::answer_of(access.kind, start, real);
+        return translation::operand::across_edge(first, none, second, bytes, access.length);
+    }
+    translation::operand::within(first, none, access.length)
+}
+
+// One access whose lent lengths are right: what it answers, with the marks made. The quick test reads the register page once.
 pub fn translate(
     registers: &[u8],
     asked: Access,
@@ -215,10 +243,8 @@ pub fn translate(
           answer = answer;
         })) (now (table .entry))) ⌝ }
 {
-    let mut words = [0u32; 49];
-    registers::read_words(registers, &mut words);
-    let long = registers.len() == numbers::REGISTERS_SIZE_LONG;
-    let number = refusal(&words, long, asked, table.len());
+    let begins = register_pages::quick_page(registers);
+    let number = refusal(registers, begins, asked, table.len());
     if number != numbers::DONE {
         let outcome = translation::Outcome::Refused(number);
         let answer = translation::answer_of(asked.kind, asked.address, outcome);
@@ -228,5 +254,8 @@ pub fn translate(
         );
         return translation::operand::stopped(answer, none);
     }
-    by_parts(&words, asked, table)
+    if !protection::is_relocated(asked.mode, asked.kind) {
+        return untranslated(asked);
+    }
+    by_parts(registers, begins, asked, table)
 }

@@ -6,8 +6,10 @@ pub mod operand;
 ghost use mathlib.Core.Path.{_≡_};
 ghost use mathlib.Core.Bool.{true};
 ghost use Prim.Native.Nat.{_<_};
+ghost use lib.ListN.{length};
 ghost use Rattle.register_words.specs.Block.{blWidth};
-ghost use Rattle.registers.specs.Set.{blockPairs};
+ghost use Rattle.registers.specs.Set.{isPage, isLong, blockPairs, setWords};
+ghost use Rattle.register_pages.specs.Quick.{TellsBlocks};
 ghost use Rattle.protection.specs.Fault.{faultOf};
 ghost use Rattle.translation.specs.Steps.{wantedOf, blockOutcome, beforeSearch, pageOutcome, afterSearch, doneAnswer, faultAnswer, refusedAnswer, answerOf};
 
@@ -58,12 +60,12 @@ pub struct Answer {
 }
 
 // Step 2 by the block of a pair that covers the address.
-fn block_outcome(words: &[u32; 49], kind: u32, address: u32, pair: usize) -> Outcome
-    requires { ⌜ pair < blockPairs true ⌝ }
-    ensures { λ r. ⌜ r ≡ blockOutcome (blockPairs true) (blWidth true) (now (words .entry)) kind address pair ⌝ }
+fn block_outcome(registers: &[u8], kind: u32, address: u32, pair: usize) -> Outcome
+    requires { ⌜ (isPage (length (now registers)) ≡ true) × (pair < blockPairs (isLong (length (now registers)))) ⌝ }
+    ensures { λ r. ⌜ r ≡ blockOutcome (blockPairs true) (blWidth true) (setWords (now (registers .entry))) kind address pair ⌝ }
 {
-    let upper = registers::upper(words, kind != numbers::FETCH, pair);
-    let lower = registers::lower(words, kind != numbers::FETCH, pair);
+    let upper = register_pages::upper(registers, kind != numbers::FETCH, pair);
+    let lower = register_pages::lower(registers, kind != numbers::FETCH, pair);
     if protection::block_allows(lower & 3, kind) {
         Outcome::Block(
             pair as u32,
@@ -86,19 +88,26 @@ fn wanted_of(user: bool, segment: u32, address: u32) -> Wanted
     }
 }
 
-// Steps 1 to 3, by the words of the register set: real mode, a block, a fetch with N = 1, or else the page to search for.
-pub fn before_search(words: &[u32; 49], mode: u32, kind: u32, address: u32) -> Early
-    ensures { λ r. ⌜ r ≡ beforeSearch (blockPairs true) (blWidth true) (now (words .entry)) mode kind address ⌝ }
+// Steps 1 to 3, by the register page and a map of where its blocks begin: real mode, a block, a fetch with N = 1, or else the page to search for.
+pub fn before_search(registers: &[u8], begins: u32, mode: u32, kind: u32, address: u32) -> Early
+    requires { ⌜ (isPage (length (now registers)) ≡ true) × TellsBlocks (setWords (now registers)) begins ⌝ }
+    ensures { λ r. ⌜ r ≡ beforeSearch (blockPairs true) (blWidth true) (setWords (now (registers .entry))) mode kind address ⌝ }
 {
     if !protection::is_relocated(mode, kind) {
         return Early::Decided(Outcome::Real);
     }
     let user = (mode >> 2) & 1 == 1;
-    let pair = registers::covering_pair(words, kind != numbers::FETCH, user, address);
+    let pair = register_pages::covering_pair(
+        registers,
+        begins,
+        kind != numbers::FETCH,
+        user,
+        address,
+    );
     if pair < registers::BLOCK_PAIRS {
-        return Early::Decided(block_outcome(words, kind, address, pair));
+        return Early::Decided(block_outcome(registers, kind, address, pair));
     }
-    let segment = registers::segment(words, (address >> 28) as usize);
+    let segment = register_pages::segment(registers, (address >> 28) as usize);
     if (kind == numbers::FETCH) & ((segment >> 28) & 1 == 1) {
         return Early::Decided(Outcome::NoExecute);
     }

@@ -1,5 +1,5 @@
 -- Laws of Bool tests that every crate's proofs use: conjunctions taken apart, equal tests, a case by a test, the order of two numbers.
-use mathlib.Core.Bool.{Bool, true, false, cond, _&&_}
+use mathlib.Core.Bool.{Bool, true, false, cond, _&&_, _||_}
 use mathlib.Core.Logic.{_⊎_, inl, inr}
 use mathlib.Core.Path.{_≡_, refl, sym}
 use Prim.Native.Nat.{ℕ, _≤_, _<_}
@@ -26,6 +26,13 @@ same-test true b to from = sym (to refl)
 same-test false true to from = from refl
 same-test false false to from = refl
 
+-- a number is zero exactly where two others are
+pub both-zero : (n a b : ℕ) → (n ≡ 0 → (a ≡ 0) × (b ≡ 0)) → (a ≡ 0 → b ≡ 0 → n ≡ 0) → eqb n 0 ≡ (eqb a 0 && eqb b 0)
+both-zero n a b to from =
+    same-test (eqb n 0) (eqb a 0 && eqb b 0)
+    (λ e. let (p, q) = to (eqb-true n 0 e) in rw (eq-eqb a 0 p, eq-eqb b 0 q))
+    (λ e. let (p, q) = both (eqb a 0) (eqb b 0) e in eq-eqb n 0 (from (eqb-true a 0 p) (eqb-true b 0 q)))
+
 -- what holds of both cases of a test holds of the case that it picks
 pub cond-by : {A : Type 0} (P : A → Type 0) (t : Bool) (x y : A) → (t ≡ true → P x) → (t ≡ false → P y) → P (cond t x y)
 cond-by P true x y f g = f refl
@@ -42,3 +49,13 @@ three k n = first (ltb k n) refl
     first : (t : Bool) → ltb k n ≡ t → (k < n) ⊎ ((k ≡ n) ⊎ (n < k))
     first true e = inl (ltb-true k n e)
     first false e = second (ltb n k) refl (ltb-false k n e)
+
+-- by a test, keeping the equation
+pub by-test : {X : Type 0} (t : Bool) → (t ≡ true → X) → (t ≡ false → X) → X
+by-test true holds fails = holds refl
+by-test false holds fails = fails refl
+
+-- of two tests joined by or that holds, one holds
+pub one-of : (a b : Bool) → (a || b) ≡ true → (a ≡ true) ⊎ (b ≡ true)
+one-of true b e = inl refl
+one-of false b e = inr e

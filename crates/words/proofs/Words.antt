@@ -38,6 +38,11 @@ module _ (a b c d : ℕ) (la : a < 2 ^ 8) (lb : b < 2 ^ 8) (lc : c < 2 ^ 8) (ld 
   pub byte-3 : bits 24 31 (wordOf a b c d) ≡ d
   byte-3 = omega arith
 
+  -- in reverse order they are the word of the bytes from the other end
+  pub swapped-of : swapped (wordOf a b c d) ≡ wordOf d c b a
+  unfolding swapped
+  swapped-of = rw (byte-0, byte-1, byte-2, byte-3)
+
 pub own-bytes : (w : ℕ) → w < 2 ^ 32 → wordOf (bits 0 7 w) (bits 8 15 w) (bits 16 23 w) (bits 24 31 w) ≡ w
 own-bytes w fits =
     sum (bits 0 7 w) (bits 8 15 w) (bits 16 23 w) (bits 24 31 w) (bits 8 31 w) (bits 16 31 w) w
@@ -45,6 +50,12 @@ own-bytes w fits =
   where
     sum : (a b c d s t w : ℕ) → w ≡ placed 7 a + s → s ≡ placed 15 b + t → t ≡ placed 23 c + d → wordOf a b c d ≡ w
     sum a b c d s t w e f g = omega arith
+
+-- a word reversed twice is itself
+pub swapped-twice : (w : ℕ) → w < 2 ^ 32 → swapped (swapped w) ≡ w
+unfolding swapped
+swapped-twice w fits =
+    swapped-of (bits 24 31 w) (bits 16 23 w) (bits 8 15 w) (bits 0 7 w) (omega arith) (omega arith) (omega arith) (omega arith) ∙ own-bytes w fits
 
 -- the bytes of a word in reverse order are its bytes from the other end
 module _ (w : ℕ) where
@@ -76,8 +87,7 @@ module _ (a b c d w : ℕ) (la : a < 2 ^ 8) (lb : b < 2 ^ 8) (lc : c < 2 ^ 8) (l
       rw (p, q, r, s) (own-bytes w fits)
 
   back : wordOf a b c d ≡ w → wordOf d c b a ≡ swapped w
-  unfolding swapped
-  back same = sym (rw (← same, byte-0 a b c d la lb lc ld, byte-1 a b c d la lb lc ld, byte-2 a b c d la lb lc ld, byte-3 a b c d la lb lc ld))
+  back same = sym (swapped-of a b c d la lb lc ld) ∙ ap swapped same
 
   pub reverse-same : eqb (wordOf d c b a) (swapped w) ≡ eqb (wordOf a b c d) w
   reverse-same = eqb-same (wordOf d c b a) (swapped w) (wordOf a b c d) w forth back

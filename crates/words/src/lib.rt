@@ -33,12 +33,29 @@ pub fn word_of(a: u8, b: u8, c: u8, d: u8) -> u32
     ((a as u32) << 24) | ((b as u32) << 16) | ((c as u32) << 8) | (d as u32)
 }
 
-// The big-endian word of the four bytes from `at` on.
+// The four bytes from `at` on as a little-endian machine loads them: the word with its bytes in reverse order.
+pub fn raw_word(s: &[u8], at: usize) -> u32
+    requires { ⌜ at + 4 ≤ length (now s) ⌝ }
+    ensures { λ r. ⌜ r ≡ swapped (wordAt (now (s .entry)) at) ⌝ }
+{
+    word_of(s[at + 3], s[at + 2], s[at + 1], s[at])
+}
+
+// The big-endian word of the four bytes from `at` on. Read from the low end, it is one load for the compiler wherever it is used.
 pub fn read_word(s: &[u8], at: usize) -> u32
     requires { ⌜ at + 4 ≤ length (now s) ⌝ }
     ensures { λ r. ⌜ r ≡ wordAt (now (s .entry)) at ⌝ }
 {
-    word_of(s[at], s[at + 1], s[at + 2], s[at + 3])
+    swapped(raw_word(s, at))
+}
+
+// The two big-endian words of the eight bytes from `at` on, the first in the high half.
+pub fn read_pair(s: &[u8], at: usize) -> u64
+    requires { ⌜ at + 8 ≤ length (now s) ⌝ }
+    ensures { λ r. ⌜ (r ≡ wordAt (now (s .entry)) at * 2 ^ 32 + wordAt (now (s .entry)) (at + 4))
+        × (wordAt (now (s .entry)) at < 2 ^ 32) × (wordAt (now (s .entry)) (at + 4) < 2 ^ 32) ⌝ }
+{
+    ((read_word(s, at) as u64) << 32) | (read_word(s, at + 4) as u64)
 }
 
 // The word with its bytes in reverse order.

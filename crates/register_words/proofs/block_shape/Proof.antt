@@ -1,6 +1,6 @@
 -- `register_words::block_shape` meets its contract: each mask leaves the field that the definition names.
 use borrow.Author.Needs.{needs}
-use borrow.Author.Tests.{eq-eqb, ne-eqb, eqb-true, not-true, not-false}
+use borrow.Author.Tests.{eq-eqb, ne-eqb, not-true, not-false}
 use mathlib.Core.Bool.{Bool, true, false, cond, _&&_, _||_}
 use mathlib.Core.Logic.{⊎-elim}
 use mathlib.Core.Path.{_≡_, sym, ap, _∙_}
@@ -10,7 +10,7 @@ use Prim.Native.Nat.{ℕ, _+_, _*_, _/_, _%_, _^_}
 use lib.Bits.{bitAnd, and-mask, and-high, and-block, and-zero-r}
 use lib.Dec.{eqb, lit<}
 use lib.Pow.{shr-mod, split, pow-pos}
-use Rattle.words.proofs.Tests.{both, same-test}
+use Rattle.words.proofs.Tests.{both-zero}
 use Rattle.words.specs.Ones.{lowOnes}
 use Rattle.register_words.specs.Block.{blockShape, off, lowerShape}
 use Rattle.register_words.proofs.Blocks.{shape-wide}
@@ -51,13 +51,8 @@ w-and-g l =
 side-zeros : (side : Bool) (l : ℕ) → eqb (bitAnd l (cond side 0 0x48)) 0 ≡ (side || (eqb (l / 2 ^ 6 % 2 ^ 1) 0 && eqb (l / 2 ^ 3 % 2 ^ 1) 0))
 side-zeros true l = rw (and-zero-r l)
 side-zeros false l =
-    same-test (eqb (bitAnd l 0x48) 0) (eqb (l / 2 ^ 6 % 2 ^ 1) 0 && eqb (l / 2 ^ 3 % 2 ^ 1) 0)
-    (λ e.
-    let z : l / 2 ^ 6 % 2 ^ 1 * 2 ^ 6 + l / 2 ^ 3 % 2 ^ 1 * 2 ^ 3 ≡ 0 = sym (w-and-g l) ∙ eqb-true (bitAnd l 0x48) 0 e in
-    rw (eq-eqb (l / 2 ^ 6 % 2 ^ 1) 0 (omega (arith, z)), eq-eqb (l / 2 ^ 3 % 2 ^ 1) 0 (omega (arith, z))))
-    (λ e.
-    let (w, g) = both (eqb (l / 2 ^ 6 % 2 ^ 1) 0) (eqb (l / 2 ^ 3 % 2 ^ 1) 0) e in
-    eq-eqb (bitAnd l 0x48) 0 (w-and-g l ∙ (rw (eqb-true (l / 2 ^ 6 % 2 ^ 1) 0 w, eqb-true (l / 2 ^ 3 % 2 ^ 1) 0 g))))
+    let m = w-and-g l in
+    both-zero (bitAnd l 0x48) (l / 2 ^ 6 % 2 ^ 1) (l / 2 ^ 3 % 2 ^ 1) (λ z. (omega arith, omega arith)) (λ w g. omega arith)
 
 returns-3 : tie.Need-returns-3
 unfolding off lowerShape

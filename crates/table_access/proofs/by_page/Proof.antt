@@ -17,7 +17,9 @@ use Rattle.protection.specs.Access.{storing}
 use Rattle.translation.specs.Steps.{afterSearch, answerOf}
 use Rattle.translation.specs.Decision.{decisionOf}
 use Rattle.translation.specs.declared.Early.the-variants.{Search}
-use Rattle.calls.specs.OnBytes.{layout, usedBy, wantedPage, searched, firstPlaceIn}
+use Rattle.translation.specs.declared.Answer.{Answer}
+use Rattle.translation.proofs.Steps.{outcome-searched}
+use Rattle.calls.specs.OnBytes.{layout, usedBy, wantedPage, searched, searchIn, firstPlaceIn}
 use Rattle.calls.proofs.OnBytes.{matches-by-groups}
 use Rattle.calls.proofs.Access.{done-by-first, late-done, marked-done, decision-noted}
 use Rattle.page_calls.proofs.located.AtPage as at-page
@@ -86,16 +88,19 @@ group-inside c =
     let start = at-both .before .before .before in
     rw (group-is c) (inside (start .args .sdr1) (wantedPage (start .args .wanted)) _ (start .pre .0) (start .pre .1) (inSecondary (at-both .search-both .result)))
 
-cast-t13 : tie.Need-cast-t13
+cast-t14 : tie.Need-cast-t14
 unfolding tableLength
-cast-t13 c =
+cast-t14 c =
     let at-group = c .before in
     let right = at-group .before .before .before .before .before .before .before .pre .1 in
     let within = group-inside at-group in
     record { fits = omega arith }
 
-cast-t14 : tie.Need-cast-t14
-cast-t14 c = let small = summary-entry-lt (c .before .before .before .before .before .search-both .result) in let is = c .entry .ensures in record { fits = omega arith }
+cast-t15 : tie.Need-cast-t15
+cast-t15 c = let small = summary-entry-lt (c .before .before .before .before .before .search-both .result) in let is = c .entry .ensures in record { fits = omega arith }
+
+answer-of-requires : tie.Need-answer-of-requires
+answer-of-requires c κs = search needs
 
 decision-of-requires : tie.Need-decision-of-requires
 decision-of-requires c κs = search needs
@@ -103,29 +108,34 @@ decision-of-requires c κs = search needs
 returns : tie.Need-returns
 unfolding marked SameMatches
 returns c =
-    let at-entry = c .before in
+    let at-answer = c .before in
+    let at-entry = at-answer .before in
     let at-group = at-entry .before in
     let at-after = at-group .before .before in
     let at-both = at-after .before .before in
     let start = at-both .before .before .before in
     let a = start .args in
     let k = maskOnes (a .sdr1) in
+    let t = a .table .now in
     let s = at-both .search-both .result in
     let g = groupNumber (10 + k) (inSecondary s) (wantedPage (a .wanted)) in
-    let outcome = outcome-is at-after in (
-      outcome,
-      c .decision-of .ensures
+    let outcome = outcome-is at-after in
+    let late = outcome-searched (a .kind) (searchIn k t) (a .wanted) in
+    record {
+      answers = at-answer .answer-of .ensures ∙ ap (answerOf (a .kind) (a .address)) (outcome ∙ sym late);
+      decides = c .decision-of .ensures
           ∙ ap₂ (λ (g i : ℕ). decisionOf (record { key = a .wanted .key; group = g; entry = i }) (at-after .after-search .result)) (group-is at-group) (at-entry .entry .ensures)
           ∙ ap (decisionOf (record { key = a .wanted .key; group = g; entry = entryOf s })) outcome
-          ∙ decision-noted k (a .wanted) (a .table .now) s (noted-are at-both) (a .kind)
-          ∙ sym (ap (decisionOf (usedBy (firstPlaceIn k (a .table .now)) (Search (a .wanted)))) outcome),
-      group-inside at-group,
-      λ address u done same.
-          let told = late-done (a .kind) (a .wanted .key) address _ (rw outcome at done) in
+          ∙ decision-noted k (a .wanted) t s (noted-are at-both) (a .kind)
+          ∙ sym (ap (decisionOf (usedBy (firstPlaceIn k t) (Search (a .wanted)))) late);
+      inside = group-inside at-group;
+      marks = λ u done same.
+          let result = sym (ap (λ (x : Answer). x .result) (at-answer .answer-of .ensures ∙ ap (answerOf (a .kind) (a .address)) outcome)) ∙ done in
+          let told = late-done (a .kind) (a .wanted .key) (a .address) _ result in
           let first = done-by-first s _ (noted-are at-both) (a .kind) (a .wanted .key) (told .0) (told .1) in
           rw (group-is at-group, at-entry .entry .ensures, lt-ltb (entryOf s) 8 (summary-entry-lt s))
-          (sym (marked-done k (a .wanted) u s (noted-are at-both ∙ ap summary (sym same)) (a .kind) (first .found))),
-    )
+          (sym (marked-done k (a .wanted) u s (noted-are at-both ∙ ap summary (sym same)) (a .kind) (first .found)));
+    }
 
 pub by-page-spec : {M : Type 1} → statement M
 by-page-spec =
@@ -138,7 +148,8 @@ by-page-spec =
     in-secondary-requires
     group-requires
     entry-requires
-    cast-t13
     cast-t14
+    cast-t15
+    answer-of-requires
     decision-of-requires
     returns)

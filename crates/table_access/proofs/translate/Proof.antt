@@ -1,5 +1,7 @@
--- `table_access::translate` meets its contract: a refusal and an operand answer as the definition does, on the words that were read.
+-- `table_access::translate` meets its contract: a refusal, an operand that is not translated and any other answer as the definition does, by the page's
+-- own limits.
 use borrow.Author.Needs.{needs}
+use borrow.Author.Tests.{not-true}
 use mathlib.Core.Path.{_≡_, sym, ap, ap₂, _∙_}
 use mathlib.Core.Bool.{Bool, true, false}
 use mathlib.Core.List.{List}
@@ -18,8 +20,10 @@ use Rattle.translation.specs.declared.decision.Decision.{Decision}
 use Rattle.translation.specs.declared.operand.OperandAnswer.{OperandAnswer}
 use Rattle.translation.proofs.Answers.{answer-refused}
 use Rattle.calls.specs.Answers.{accessAnswer}
-use Rattle.calls.specs.OnBytes.{ended, bytesDo}
-use Rattle.table_access.specs.Part.{partEarly}
+use Rattle.numbers.specs.Numbers.{accessAnswerSize}
+use Rattle.calls.specs.Request.{access}
+use Rattle.calls.specs.OnBytes.{ended, bytesDo, onBytes}
+use Rattle.table_access.specs.Part.{partEarly, wholeTold, tableLeft}
 use Rattle.table_access.specs.declared.Access.{Access}
 use Rattle.calls.proofs.Access.{rulesThen, then-kept, access-refused, access-taken}
 use Rattle.calls.proofs.Pages.{toldBy, leftBy, each-part, sdr1-set, rules-set, early-set}
@@ -33,29 +37,22 @@ module _ (registers : List ℕ) where
 
 -- steps 1 to 3 of a part by the page's own limits
 abbrev ownEarly : List ℕ → Access → Bool → Early
-ownEarly registers access second =
-    beforeSearch (blockPairs (isLong (length registers))) (blWidth (isLong (length registers))) (registerWords registers) (access .mode) (access .kind)
-    (partStart (access .address) (access .length) second)
+ownEarly registers asked second =
+    beforeSearch (blockPairs (isLong (length registers))) (blWidth (isLong (length registers))) (registerWords registers) (asked .mode) (asked .kind)
+    (partStart (asked .address) (asked .length) second)
 
--- the words that were read are the register page's
+-- the number is that of the page's own rules
 number-is : (c : tie.After-refusal) →
-    let start = c .before .before .before .before .before .before .before in
+    let start = c .before .before .before .before in
     let a = start .args in
     c .refusal .result ≡ firstBroken (ownRules (a .registers .now) (a .asked .mode) (a .asked .kind) (a .asked .length) (length (a .table .now)))
 number-is c =
-    let read = c .before .before .before in
-    let start = read .before .before .before .before in
+    let start = c .before .before .before .before in
     let a = start .args in
-    let r = a .registers .now in
-    c .refusal .ensures
-    ∙ ap (λ (words : List ℕ). firstBroken (rulesThen 8 (blWidth (isLong (length r))) words (a .asked .mode) (a .asked .kind) (a .asked .length) (length (a .table .now)))) (read .read-words .ensures)
-    ∙ ap firstBroken (rules-set r (start .pre) (a .asked .mode) (a .asked .kind) (a .asked .length) (length (a .table .now)))
+    c .refusal .ensures ∙ ap firstBroken (rules-set (a .registers .now) (start .pre) (a .asked .mode) (a .asked .kind) (a .asked .length) (length (a .table .now)))
 
-slice-aggregate-read-words : tie.Need-slice-aggregate-read-words
-slice-aggregate-read-words c = search needs
-
-read-words-requires : tie.Need-read-words-requires
-read-words-requires c κs = search needs
+quick-page-requires : tie.Need-quick-page-requires
+quick-page-requires c κs = search needs
 
 refusal-requires : tie.Need-refusal-requires
 refusal-requires c κs = search needs
@@ -78,7 +75,7 @@ returns c answer right =
     let at-answer = c .before .before .before in
     let then1 = at-answer .before in
     let at-refusal = then1 .before in
-    let start = at-refusal .before .before .before .before .before .before .before in
+    let start = at-refusal .before .before .before .before in
     let a = start .args in
     let number = at-refusal .refusal .result in
     ap (λ (r : OperandAnswer). ended (r .part .result) (a .table .now) (accessAnswer r))
@@ -93,48 +90,47 @@ returns c answer right =
       answer = answer;
     }) (a .table .now) (start .pre) right number (number-is at-refusal) (then1 .if1 .taken))
 
--- the words that were read pass the rules
+-- past the refusals the page's own rules are kept
 kept : (c : tie.Else1) →
-    let a = c .before .before .before .before .before .before .before .before .args in
+    let a = c .before .before .before .before .before .args in
     firstBroken (ownRules (a .registers .now) (a .asked .mode) (a .asked .kind) (a .asked .length) (length (a .table .now))) ≡ 0
 kept c = sym (number-is (c .before)) ∙ c .if1 .left
 
--- and so does the page: operand, check, SDR1 and the table's length
+-- so the page passes its check, and SDR1 and the table's length are right
 passed : (c : tie.Else1) →
-    let a = c .before .before .before .before .before .before .before .before .args in
+    let a = c .before .before .before .before .before .args in
     let r = a .registers .now in
     (checkWords (blockPairs (isLong (length r))) (blWidth (isLong (length r))) (registerWords r) ≡ 0)
     × (sdr1Shape (sdr1Of (registerWords r)) ≡ true) × (length (a .table .now) ≡ tableLength (sdr1Of (registerWords r)))
 passed c =
-    let a = c .before .before .before .before .before .before .before .before .args in
+    let a = c .before .before .before .before .before .args in
     let r = a .registers .now in
     let all = then-kept (blockPairs (isLong (length r))) (blWidth (isLong (length r))) (registerWords r) (a .asked .mode) (a .asked .kind) (a .asked .length) (length (a .table .now)) (kept c) in
     (all .3, all .1, all .2)
 
-by-parts-requires : tie.Need-by-parts-requires
-by-parts-requires c κs =
-    let else1 = c .before .before in
-    let read = else1 .before .before .before .before in
-    let start = read .before .before .before .before in
-    let all = passed else1 in
-    rw (read .read-words .ensures, sdr1-set (start .args .registers .now) (start .pre)) (all .1, all .2)
-
-same-length : tie.Need-same-length
-same-length c = search needs
-
-returns-2 : tie.Need-returns-2
+-- what the definition does by the page's own limits is what its words as a set of 49 come to
+taken : (c : tie.Else1) (answer : List ℕ) → length answer ≡ accessAnswerSize → (told : OperandAnswer) (left : List ℕ) →
+    let a = c .before .before .before .before .before .args in
+    let words = setWords (a .registers .now) in
+    (told ≡ wholeTold words (a .asked) (maskOnes (sdr1Of words)) (a .table .now)) × (left ≡ tableLeft words (a .asked) (maskOnes (sdr1Of words)) (a .table .now))
+    → ended (told .part .result) left (accessAnswer told)
+    ≡ onBytes (access (record {
+      registers = a .registers .now;
+      mode = a .asked .mode;
+      kind = a .asked .kind;
+      address = a .asked .address;
+      length = a .asked .length;
+      answer = answer;
+    })) (a .table .now)
 unfolding bytesDo
-returns-2 c answer right =
-    let at-parts = c .before .before in
-    let else1 = at-parts .before .before .before in
-    let read = else1 .before .before .before .before in
-    let start = read .before .before .before .before in
+taken c answer right told left comes =
+    let start = c .before .before .before .before .before in
     let a = start .args in
     let r = a .registers .now in
     let k = maskOnes (sdr1Of (registerWords r)) in
     let t = a .table .now in
-    let own : partEarly (setWords r) (a .asked) ≡ ownEarly r (a .asked) = each-part (λ second. early-set r (start .pre) (passed else1 .0) (a .asked .mode) (a .asked .kind) (partStart (a .asked .address) (a .asked .length) second)) in
-    let parts = rw (read .read-words .ensures, sdr1-set r (start .pre)) at (at-parts .by-parts .ensures) in
+    let own : partEarly (setWords r) (a .asked) ≡ ownEarly r (a .asked) = each-part (λ second. early-set r (start .pre) (passed c .0) (a .asked .mode) (a .asked .kind) (partStart (a .asked .address) (a .asked .length) second)) in
+    let parts = rw (sdr1-set r (start .pre)) at comes in
     ap₂ (λ (r : OperandAnswer) (u : List ℕ). ended (r .part .result) u (accessAnswer r)) (parts .0 ∙ ap (toldBy (a .asked .kind) (a .asked .address) (a .asked .length) k t) own) (parts .1 ∙ ap (leftBy (a .asked .kind) (a .asked .address) (a .asked .length) k t) own)
     ∙ sym (access-taken (record {
       registers = r;
@@ -143,20 +139,51 @@ returns-2 c answer right =
       address = a .asked .address;
       length = a .asked .length;
       answer = answer;
-    }) (a .table .now) (start .pre) right (kept else1))
+    }) t (start .pre) right (kept c))
+
+is-relocated-requires : tie.Need-is-relocated-requires
+is-relocated-requires c κs = search needs
+
+untranslated-requires : tie.Need-untranslated-requires
+untranslated-requires c κs = sym (c .before .is-relocated .ensures) ∙ not-true _ (c .if2 .taken)
+
+returns-2 : tie.Need-returns-2
+returns-2 c answer right =
+    let else1 = c .before .before .before in
+    let a = else1 .before .before .before .before .before .args in
+    let words = setWords (a .registers .now) in
+    taken else1 answer right (c .untranslated .result) (a .table .now) (c .untranslated .ensures words (maskOnes (sdr1Of words)) (a .table .now))
+
+by-parts-requires : tie.Need-by-parts-requires
+by-parts-requires c κs =
+    let else1 = c .before .before .before in
+    let at-quick = else1 .before .before in
+    let start = else1 .before .before .before .before .before in
+    let all = passed else1 in
+    rw (sdr1-set (start .args .registers .now) (start .pre)) (start .pre, at-quick .quick-page .ensures .1, all .1, all .2)
+
+same-length : tie.Need-same-length
+same-length c = search needs
+
+returns-3 : tie.Need-returns-3
+returns-3 c answer right =
+    let at-parts = c .before .before in
+    taken (at-parts .before .before .before .before) answer right (at-parts .by-parts .result) _ (at-parts .by-parts .ensures)
 
 pub translate-spec : {M : Type 1} → statement M
 translate-spec =
     tie.close
     (tie.spec
-    slice-aggregate-read-words
-    read-words-requires
+    quick-page-requires
     refusal-requires
     answer-of-requires
     nothing-requires
     decision-of-requires
     stopped-requires
     returns
+    is-relocated-requires
+    untranslated-requires
+    returns-2
     by-parts-requires
     same-length
-    returns-2)
+    returns-3)

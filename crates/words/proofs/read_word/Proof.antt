@@ -1,47 +1,25 @@
--- `words::read_word` meets its contract: it hands the four bytes to `word_of`.
+-- `words::read_word` meets its contract: the bytes that `raw_word` reads in reverse order are reversed again.
+use mathlib.Core.Path.{ap, _∙_}
 use borrow.Author.Needs.{needs}
-use Rattle.words.specs.Words.{wordAt}
+use Rattle.words.specs.Words.{wordAt, swapped}
+use Rattle.words.proofs.Words.{swapped-twice, word-lt}
 use Rattle.words.proofs.read_word.Statement.{statement}
 use Rattle.words.proofs.read_word.Tie as tie
 
-shared-slice-read-word-of : tie.Need-shared-slice-read-word-of
-shared-slice-read-word-of c = search needs
+raw-word-requires : tie.Need-raw-word-requires
+raw-word-requires c κs = search needs
 
-add-word-of : tie.Need-add-word-of
-add-word-of c = search needs
-
-shared-slice-read-word-of-2 : tie.Need-shared-slice-read-word-of-2
-shared-slice-read-word-of-2 c = search needs
-
-add-word-of-2 : tie.Need-add-word-of-2
-add-word-of-2 c = search needs
-
-shared-slice-read-word-of-3 : tie.Need-shared-slice-read-word-of-3
-shared-slice-read-word-of-3 c = search needs
-
-add-word-of-3 : tie.Need-add-word-of-3
-add-word-of-3 c = search needs
-
-shared-slice-read-word-of-4 : tie.Need-shared-slice-read-word-of-4
-shared-slice-read-word-of-4 c = search needs
-
-word-of-requires : tie.Need-word-of-requires
-word-of-requires c κs = search needs
+swapped-requires : tie.Need-swapped-requires
+swapped-requires c κs = search needs
 
 returns : tie.Need-returns
-unfolding wordAt
-returns c = c .word-of .ensures
+returns c =
+    let at-raw = c .before .before in
+    let s = at-raw .before .args .s .now in
+    let at = at-raw .before .args .at in
+    c .swapped .ensures
+    ∙ ap swapped (c .before .raw-word .ensures)
+    ∙ swapped-twice (wordAt s at) (word-lt s at (λ i. at-raw .shared-slice-known .given i .fits))
 
 pub read-word-spec : {M : Type 1} → statement M
-read-word-spec =
-    tie.close
-    (tie.spec
-    shared-slice-read-word-of
-    add-word-of
-    shared-slice-read-word-of-2
-    add-word-of-2
-    shared-slice-read-word-of-3
-    add-word-of-3
-    shared-slice-read-word-of-4
-    word-of-requires
-    returns)
+read-word-spec = tie.close (tie.spec raw-word-requires swapped-requires returns)

@@ -1,0 +1,6 @@
+-- What callers' proofs cite of a register page's bytes.
+pub mod Or
+pub mod Quick
+pub mod Page
+pub mod Passed
+pub mod Replace

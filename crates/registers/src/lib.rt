@@ -1,12 +1,12 @@
-// The register set: SDR1, sixteen segment registers and eight block pairs a side, its check and the block that covers an address.
+// The register set: SDR1, sixteen segment registers and eight block pairs a side, its check, and a word replaced.
 ghost use mathlib.Core.Path.{_≡_};
 ghost use Prim.Native.Nat.{_<_};
 ghost use lib.ListN.{length, replicate};
 ghost use mathlib.Core.Bool.{true};
 ghost use Rattle.numbers.specs.Numbers.{registersSizeShort, registersSizeLong, registerCountLong};
 ghost use Rattle.register_words.specs.Block.{blWidth};
-ghost use Rattle.registers.specs.Set.{blockPairs, segmentOf, segmentsShape, sideStart, upperOf, lowerOf, sideShape, pairApart, sideApart};
-ghost use Rattle.registers.specs.Set.{checkWords, replaced, isPage, isLong, registerCount, placeInSet, registerWords, widened, setWords, coveringPair};
+ghost use Rattle.registers.specs.Set.{blockPairs, segmentsShape, sideStart, sideShape, pairApart, sideApart};
+ghost use Rattle.registers.specs.Set.{checkWords, replaced, isPage, isLong, registerCount, placeInSet, registerWords, widened, setWords};
 
 // How many block pairs a side has in a set; of a short page's set the last four are zero.
 pub const BLOCK_PAIRS: usize = 8;
@@ -112,47 +112,6 @@ pub fn check_words(words: &[u32; 49], long: bool) -> u32
         return numbers::REFUSED_SEGMENT;
     }
     numbers::DONE
-}
-
-// The upper word of a pair.
-pub fn upper(words: &[u32; 49], side: bool, i: usize) -> u32
-    requires { ⌜ i < blockPairs true ⌝ }
-    ensures { λ r. ⌜ r ≡ upperOf (blockPairs true) (now (words .entry)) side i ⌝ }
-{
-    let start = side_start(side);
-    words[start + 2 * i]
-}
-
-// The lower word of a pair.
-pub fn lower(words: &[u32; 49], side: bool, i: usize) -> u32
-    requires { ⌜ i < blockPairs true ⌝ }
-    ensures { λ r. ⌜ r ≡ lowerOf (blockPairs true) (now (words .entry)) side i ⌝ }
-{
-    let start = side_start(side);
-    words[start + 2 * i + 1]
-}
-
-// A segment register.
-pub fn segment(words: &[u32; 49], i: usize) -> u32
-    requires { ⌜ i < 16 ⌝ }
-    ensures { λ r. ⌜ r ≡ segmentOf (now (words .entry)) i ⌝ }
-{
-    words[1 + i]
-}
-
-// The first pair of a side that covers the address for the user or the supervisor, or their number where none does.
-pub fn covering_pair(words: &[u32; 49], side: bool, user: bool, address: u32) -> usize
-    ensures { λ r. ⌜ r ≡ coveringPair (blockPairs true) (blWidth true) (now (words .entry)) side user address ⌝ }
-{
-    let start = side_start(side);
-    let mut i: usize = 0;
-    while i < BLOCK_PAIRS {
-        if register_words::block_covers(user, words[start + 2 * i], address) {
-            return i;
-        }
-        i += 1;
-    }
-    BLOCK_PAIRS
 }
 
 // Whether a length is that of a register page, short or long.

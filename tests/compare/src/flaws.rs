@@ -6,7 +6,7 @@ use model::flaw::{Flaw, MapFlaw, RecordFlaw};
 use crate::bench::{self, Difference};
 use crate::lists::{self, Judges};
 use crate::tally::Tally;
-use crate::{edges, exhaustive, lengths, packing, singles, turned, widened, Section};
+use crate::{edges, exhaustive, lengths, packing, quick, singles, turned, widened, Section};
 
 /// The comparisons a wrong model goes through, as the library does, until one finds it.
 const SECTIONS: [Section; 5] =
@@ -21,6 +21,9 @@ pub struct Found {
     pub by_widening: usize,
     /// Those that are wrong about one bit of the first word at one place.
     pub by_turned_bit: usize,
+    pub by_quick_edges: usize,
+    /// Those that are asked at the edges of the quick test alone, one for each bit of a register page among them.
+    pub of_quick_test: usize,
     pub maps: usize,
     /// Those that the finite map, which knows no place, rightly lets pass.
     pub left_to_table: usize,
@@ -46,6 +49,7 @@ pub fn run(factor: u32) -> Result<Found, Difference> {
     at_page_edges(&mut found, factor)?;
     by_widening_alone(&mut found, factor)?;
     by_a_turned_bit(&mut found)?;
+    at_the_quick_test(&mut found)?;
     of_the_map(&mut found, factor)?;
     left_to_the_table(&mut found, factor)?;
     Ok(found)
@@ -106,6 +110,23 @@ fn by_a_turned_bit(found: &mut Found) -> Result<(), Difference> {
         let outcome = turned::run_with(&Model::with(flaw), bench::Judges::StatementAlone);
         found.calls(outcome, &format!("{flaw:?} by a turned bit"))?;
         found.by_turned_bit += 1;
+    }
+    Ok(())
+}
+
+/// Pages at the edges of the quick test, held to what has to come of them, without the model; the right one passes.
+fn at_the_quick_test(found: &mut Found) -> Result<(), Difference> {
+    let alone = bench::Judges::StatementAlone;
+    quick::run_with(&Model::default(), alone)?;
+    for flaw in Flaw::AT_QUICK_TEST {
+        let outcome = quick::run_with(&Model::with(flaw), alone);
+        found.calls(outcome, &format!("{flaw:?} at the quick test"))?;
+        found.by_quick_edges += 1;
+    }
+    for flaw in Flaw::QUICK.into_iter().chain(Flaw::of_register_bits()) {
+        let outcome = quick::run_with(&Model::with(flaw), alone);
+        found.calls(outcome, &format!("{flaw:?} at the quick test"))?;
+        found.of_quick_test += 1;
     }
     Ok(())
 }

@@ -18,6 +18,7 @@ mod machine;
 mod operands;
 mod packing;
 mod pages;
+mod quick;
 mod random;
 mod region;
 mod scenes;
@@ -42,11 +43,12 @@ use tally::Tally;
 /// A comparison of some machine with the model, its random part so many times as long.
 type Section = fn(&dyn Machine, u32) -> Result<Tally, Difference>;
 
-const SECTIONS: [(&str, Empty, Section); 10] = [
+const SECTIONS: [(&str, Empty, Section); 11] = [
     ("recorded accesses", Empty::Null, vectors::run),
     ("packing", Empty::Null, packing::run),
     ("complete tables", Empty::Null, exhaustive::run),
     ("first words, bits turned", Empty::Null, turned::run),
+    ("edges of the quick test", Empty::Null, quick::run),
     ("operands at page edges", Empty::Null, edges::run),
     ("short and widened pages", Empty::Null, widened::run),
     ("lengths, empty as NULL", Empty::Null, lengths::run),
@@ -107,13 +109,16 @@ fn test_the_tests(factor: u32) -> Result<(), Difference> {
     let found = flaws::run(factor)?;
     println!(
         "wrong models found: {}, {} of them by the finite map alone, {} at page edges alone, \
-         {} by a widened page alone; {} more by a bit turned at a place; \
+         {} by a widened page alone, {} at the edges of the quick test alone; \
+         {} more by a bit turned at a place, {} more at the edges of the quick test; \
          wrong maps found: {}; none took more than {} calls; {} wrong models only the table shows",
         found.models,
         found.by_map,
         found.by_edges,
         found.by_widening,
+        found.by_quick_edges,
         found.by_turned_bit,
+        found.of_quick_test,
         found.maps,
         found.most_calls,
         found.left_to_table

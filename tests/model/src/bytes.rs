@@ -32,6 +32,9 @@ impl Model {
     /// One call.
     pub fn perform(&self, call: &Call, lent: Lent) -> u32 {
         if let Some(&number) = self.broken(call, lent.registers, lent.lengths()).first() {
+            if let Call::SetRegister { number: register, word } = *call {
+                self.spoil_page(number, lent.registers, register, word);
+            }
             return self.refuse(call, number, lent.answer);
         }
         if self.has(Flaw::RefusesAll) {
@@ -90,6 +93,22 @@ impl Model {
             put_word(answer, 0, number);
         }
         number
+    }
+
+    /// The mistakes by which a refused register word changes the page.
+    fn spoil_page(&self, refusal: u32, page: &mut [u8], register: u32, word: u32) {
+        let at = 4 * register as usize;
+        let old = match page.get(at..at + 4) {
+            Some(bytes) if (2..=5).contains(&refusal) => word_at(bytes, 0),
+            _ => return,
+        };
+        let left = match self.flaw {
+            Some(Flaw::RefusedWordLeft) => word,
+            Some(Flaw::RefusedWordZeroed) => 0,
+            Some(Flaw::RefusedWordReversed) => old.swap_bytes(),
+            _ => return,
+        };
+        put_register(page, register, left);
     }
 
     fn map(&self, sdr1: u32, page: Page, frame: Fields, table: &mut [u8]) -> u32 {

@@ -209,6 +209,47 @@ pub enum Flaw {
     BetweenTakenAsShort,
     /// A page of 196 bytes is refused.
     LongRefused,
+    /// W of one data block and I of another are refused 3.
+    WAndIOfTwo,
+    /// Bits that have to be zero are asked of pairs that are off too, where a pair of the side is on.
+    OffPairsJoined,
+    /// A pair that is off, and is not zero words, shares its addresses.
+    OffPairShares,
+    /// Two blocks that begin in the same 256 MB share an address.
+    SameTopShares,
+    /// Two blocks share an address only where they begin in the same 256 MB.
+    OtherTopApart,
+    /// A block holds addresses only in the 256 MB in which it begins.
+    HoldsFirstOnly,
+    /// No block holds an address where one is over 256 MB, two of a side begin in the same 256 MB, or W is of one data
+    /// block and I of another.
+    NoBlocksWhereOpen,
+    /// Such a page is refused 3.
+    OpenRefused,
+    /// Such a page is taken, whatever else it breaks.
+    OpenTaken,
+    /// A block is looked for only where one of the other side begins in the same 256 MB as the address.
+    BlocksByOtherSide,
+    /// An access asks for no rule of the register page.
+    AccessUnchecked,
+    /// set_register asks for no rule of the register page.
+    SetUnchecked,
+    /// set_register asks for the rules of the page as it was.
+    SetJudgedByOld,
+    /// A refused register word stays in the page.
+    RefusedWordLeft,
+    /// After a refused register word there is zero in its place.
+    RefusedWordZeroed,
+    /// After a refused register word the old one stands there with its bytes in reverse order.
+    RefusedWordReversed,
+    /// SDR1 has no rule where its mask is zero.
+    MaskZeroTaken,
+    /// This bit of SDR1 is not looked at in its shape.
+    Sdr1Without(u32),
+    /// Of this segment register the other way round: this bit has to be zero, or does not.
+    SegmentBit { segment: usize, bit: u32 },
+    /// This bit of a side's upper or lower words is not looked at in a block's shape.
+    ShapeWithout { data: bool, upper: bool, bit: u32 },
     /// The second refusal is tested before the first.
     Swapped(u32, u32),
     /// The rule that decided is shown wrong.
@@ -431,6 +472,43 @@ impl Flaw {
         Flaw::DataPairsAtWord25, Flaw::ShortBitsLetThrough, Flaw::ShortBlOfFifteen,
         Flaw::OffPairBitsRefused, Flaw::ShortHasEight, Flaw::LongRefused,
     ];
+
+    /// Those about a register page that a quick test of it leaves open, or decides wrongly.
+    #[rustfmt::skip]
+    pub const QUICK: [Flaw; 17] = [
+        Flaw::WAndIOfTwo, Flaw::OffPairsJoined, Flaw::OffPairShares, Flaw::SameTopShares,
+        Flaw::OtherTopApart, Flaw::HoldsFirstOnly, Flaw::NoBlocksWhereOpen, Flaw::OpenRefused,
+        Flaw::OpenTaken, Flaw::BlocksByOtherSide, Flaw::AccessUnchecked, Flaw::SetUnchecked,
+        Flaw::SetJudgedByOld, Flaw::RefusedWordLeft, Flaw::RefusedWordZeroed,
+        Flaw::RefusedWordReversed, Flaw::MaskZeroTaken,
+    ];
+
+    /// Those above that such pages show too.
+    #[rustfmt::skip]
+    pub const AT_QUICK_TEST: [Flaw; 22] = [
+        Flaw::BlocksOfAnyState, Flaw::OffBlockJudged, Flaw::OneSegmentJudged,
+        Flaw::RealModeUnchecked, Flaw::DataPairsAtWord25, Flaw::ShortBitsLetThrough,
+        Flaw::ShortBlOfFifteen, Flaw::OffPairBitsRefused, Flaw::ShortHasEight, Flaw::LongBlOfEleven,
+        Flaw::LongBitsRefused, Flaw::LimitByContents, Flaw::ThreeAndFourNotCompared,
+        Flaw::HalvesNotCompared, Flaw::LastPairUnchecked, Flaw::UpperPairsUnchecked,
+        Flaw::LastPairNeverCovers, Flaw::UpperPairsNeverCover, Flaw::WholeSharesNothing,
+        Flaw::Swapped(2, 3), Flaw::Swapped(3, 4), Flaw::Swapped(4, 5),
+    ];
+
+    /// One for each bit of a register page that its rules look at, and for each other bit of a segment register: of
+    /// the origin in SDR1 its low nine, of a pair all but V, PP, M, and what is free on its side.
+    pub fn of_register_bits() -> impl Iterator<Item = Flaw> {
+        let sdr1 = (7..32).map(Flaw::Sdr1Without);
+        let segments =
+            (0..16).flat_map(|segment| (0..32).map(move |bit| Flaw::SegmentBit { segment, bit }));
+        let pairs = [false, true].into_iter().flat_map(|data| {
+            let last = if data { 26 } else { 28 };
+            let lower = (0..26).chain([last, 29]).map(move |bit| (false, bit));
+            let both = (0..30).map(|bit| (true, bit)).chain(lower);
+            both.map(move |(upper, bit)| Flaw::ShapeWithout { data, upper, bit })
+        });
+        sdr1.chain(segments).chain(pairs)
+    }
 
     /// One for each bit of a first word at each place of the search order.
     pub fn of_first_words() -> impl Iterator<Item = Flaw> {

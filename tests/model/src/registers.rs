@@ -2,7 +2,7 @@
 
 use crate::call::FETCH;
 use crate::flaw::Flaw;
-use crate::words::{bits, ones_at_low_end, put_word, word_at};
+use crate::words::{bits, ending_at, ones_at_low_end, put_word, word_at};
 
 /// Bytes of a register page with four block pairs a side.
 pub const SHORT_PAGE: usize = 132;
@@ -204,12 +204,70 @@ impl Registers {
         (0..self.layout.pairs).map(pair).collect()
     }
 
+    pub fn segments_are_well_formed(&self) -> bool {
+        (0..).zip(self.segments()).all(|(number, segment)| match self.layout.flaw {
+            Some(Flaw::SegmentBit { segment: wrong, bit }) if wrong == number => {
+                segment.0 & (0x8F00_0000 ^ ending_at(1, bit)) == 0
+            }
+            _ => segment.is_well_formed(),
+        })
+    }
+
     /// Whether every block that is on has its shape.
     pub fn blocks_are_well_formed(&self) -> bool {
         [Side::Instruction, Side::Data].into_iter().all(|side| {
             let mut blocks = self.judged(side).into_iter();
             blocks.all(|block| !block.is_judged() || block.is_well_formed(side))
+                && !self.joined_wrongly(side)
         })
+    }
+
+    /// The mistakes by which a side is refused for words of several pairs put together.
+    fn joined_wrongly(&self, side: Side) -> bool {
+        let blocks = self.blocks(side);
+        let any = |on: bool| {
+            blocks
+                .iter()
+                .filter(|block| block.is_on() == on)
+                .fold(0, |any, block| any | block.lower)
+        };
+        match self.layout.flaw {
+            Some(Flaw::WAndIOfTwo) => side == Side::Data && bits(any(true), 25, 26) == 0b11,
+            Some(Flaw::OffPairsJoined) => {
+                let zero = bits(any(false), 15, 24) == 0 && bits(any(false), 29, 29) == 0;
+                !zero && blocks.iter().any(Block::is_on)
+            }
+            _ => false,
+        }
+    }
+
+    /// Whether a block is over 256 MB, two of a side begin in the same 256 MB, or W is of one data block and I of
+    /// another: what a quick test of the page may leave open.
+    pub fn is_open(&self) -> bool {
+        [Side::Instruction, Side::Data].into_iter().any(|side| {
+            let blocks = self.blocks(side).into_iter();
+            let on: Vec<Block> = blocks.filter(Block::is_on).collect();
+            let tops: Vec<u32> = on.iter().map(|block| bits(block.upper, 0, 3)).collect();
+            let attributes = on.iter().fold(0, |any, block| any | block.wimg());
+            on.iter().any(|block| block.length() > 1 << 28)
+                || (1..tops.len()).any(|second| tops[..second].contains(&tops[second]))
+                || side == Side::Data && attributes & 0b1100 == 0b1100
+        })
+    }
+
+    /// The mistakes by which no block of a side is looked at for an address.
+    pub fn overlooks_blocks(&self, side: Side, address: u32) -> bool {
+        let other = match side {
+            Side::Instruction => Side::Data,
+            Side::Data => Side::Instruction,
+        };
+        let top = bits(address, 0, 3);
+        let begins_there = |block: &Block| block.is_on() && bits(block.upper, 0, 3) == top;
+        match self.layout.flaw {
+            Some(Flaw::NoBlocksWhereOpen) => self.is_open(),
+            Some(Flaw::BlocksByOtherSide) => !self.blocks(other).iter().any(begins_there),
+            _ => false,
+        }
     }
 
     /// The pairs whose shape and addresses are judged: all of the page.
@@ -228,7 +286,7 @@ impl Registers {
     pub fn some_two_blocks(&self, conflict: impl Fn(&Block, &Block) -> bool) -> bool {
         [Side::Instruction, Side::Data].into_iter().any(|side| {
             let blocks = self.judged(side);
-            let shaped = |block: &Block| block.is_on() && block.is_well_formed(side);
+            let shaped = |block: &Block| block.claimed_bits() != 0 && block.is_well_formed(side);
             let two = |first: usize, second: usize| {
                 !self.layout.passes_over(first, second) && conflict(&blocks[first], &blocks[second])
             };
@@ -360,6 +418,17 @@ impl Block {
     }
 
     pub fn is_well_formed(&self, side: Side) -> bool {
+        match self.layout.flaw {
+            Some(Flaw::ShapeWithout { data, upper, bit }) if data == (side == Side::Data) => {
+                let seen = |word: u32, here: bool| word & !ending_at(u32::from(here), bit);
+                let (upper, lower) = (seen(self.upper, upper), seen(self.lower, !upper));
+                Block { upper, lower, ..*self }.has_shape(side)
+            }
+            _ => self.has_shape(side),
+        }
+    }
+
+    fn has_shape(&self, side: Side) -> bool {
         let bl = self.bl();
         let starts_fit = (bits(self.upper, 0, 14) | bits(self.lower, 0, 14)) & bl == 0;
         let reserved_zero = self.upper_reserved_zero()
@@ -374,6 +443,10 @@ impl Block {
     }
 
     pub fn holds(&self, address: u32) -> bool {
+        let elsewhere = bits(self.upper, 0, 3) != bits(address, 0, 3);
+        if elsewhere && self.layout.has(Flaw::HoldsFirstOnly) {
+            return false;
+        }
         (self.start()..self.start() + self.length()).contains(&u64::from(address))
     }
 
@@ -391,11 +464,26 @@ impl Block {
         if whole && self.layout.has(Flaw::WholeSharesNothing) {
             return false;
         }
+        let together = bits(self.upper, 0, 3) == bits(other.upper, 0, 3);
+        match (self.layout.flaw, together) {
+            (Some(Flaw::SameTopShares), true) => return true,
+            (Some(Flaw::OtherTopApart), false) => return false,
+            _ => {}
+        }
         self.start() < other.start() + other.length()
             && other.start() < self.start() + self.length()
     }
 
     pub fn shares_a_valid_bit(&self, other: &Block) -> bool {
-        self.valid_bits() & other.valid_bits() != 0
+        self.claimed_bits() & other.claimed_bits() != 0
+    }
+
+    /// The V bits for which the pair has its addresses.
+    fn claimed_bits(&self) -> u32 {
+        let is_zero = (self.upper, self.lower) == (0, 0);
+        match self.is_on() || is_zero || !self.layout.has(Flaw::OffPairShares) {
+            true => self.valid_bits(),
+            false => 0b11,
+        }
     }
 }

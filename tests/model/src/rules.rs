@@ -4,6 +4,7 @@ use crate::call::{Call, Lengths, Page};
 use crate::flaw::Flaw;
 use crate::operand;
 use crate::registers::{sdr1_is_well_formed, table_length, Block, Layout, Registers};
+use crate::words::{bits, ending_at};
 
 /// The numbers a call can be refused with before its table is searched, first tested first.
 fn order(call: &Call) -> &'static [u32] {
@@ -28,13 +29,19 @@ pub fn broken(flaw: Option<Flaw>, call: &Call, registers: &[u8], lengths: Length
     if flaw == Some(Flaw::RealModeUnchecked) && is_untranslated(call) {
         numbers.truncate(3);
     }
+    if is_unchecked(flaw, call) {
+        numbers.retain(|number| !(2..=5).contains(number));
+    }
     let judged = judged_set(flaw, call, registers);
+    let is_open = || judged.is_some_and(|set| set.is_open());
     let sdr1 = call.sdr1().or(judged.map(|set| set.sdr1()));
     numbers.retain(|&number| match number {
         11 => length_is_wrong(call, judged.is_some(), lengths),
         6 => !arguments_in_range(flaw, call, judged.as_ref()),
         12 => !operand_in_range(flaw, call),
-        2 => sdr1.is_some_and(|sdr1| !sdr1_is_well_formed(sdr1)),
+        3..=5 if flaw == Some(Flaw::OpenTaken) && is_open() => false,
+        3 if flaw == Some(Flaw::OpenRefused) && is_open() => true,
+        2 => sdr1.is_some_and(|sdr1| !sdr1_fits(flaw, sdr1)),
         1 => sdr1.is_some_and(|sdr1| lengths.table != table_length(sdr1)),
         _ => judged.is_some_and(|set| breaks_register_rule(flaw, number, call, &set)),
     });
@@ -52,11 +59,30 @@ fn is_untranslated(call: &Call) -> bool {
     matches!(call, Call::Access(access) if !access.is_translated())
 }
 
+/// The mistakes by which a call asks for no rule of the register page.
+fn is_unchecked(flaw: Option<Flaw>, call: &Call) -> bool {
+    match flaw {
+        Some(Flaw::AccessUnchecked) => matches!(call, Call::Access(_)),
+        Some(Flaw::SetUnchecked) => matches!(call, Call::SetRegister { .. }),
+        _ => false,
+    }
+}
+
+/// Whether SDR1 has its shape.
+fn sdr1_fits(flaw: Option<Flaw>, sdr1: u32) -> bool {
+    match flaw {
+        Some(Flaw::MaskZeroTaken) if bits(sdr1, 23, 31) == 0 => true,
+        Some(Flaw::Sdr1Without(bit)) => sdr1_is_well_formed(sdr1 & !ending_at(1, bit)),
+        _ => sdr1_is_well_formed(sdr1),
+    }
+}
+
 /// The register set a call is judged by, the new one where a word is replaced; none where the page has neither
 /// length, or where no page is lent.
 fn judged_set(flaw: Option<Flaw>, call: &Call, registers: &[u8]) -> Option<Registers> {
     let set = Registers::read_wrongly(flaw, registers).filter(|_| call.is_lent_registers())?;
     match *call {
+        Call::SetRegister { .. } if flaw == Some(Flaw::SetJudgedByOld) => Some(set),
         Call::SetRegister { number, word } => Some(set.with_word(number, word)),
         _ => Some(set),
     }
@@ -117,7 +143,7 @@ fn breaks_register_rule(flaw: Option<Flaw>, number: u32, call: &Call, set: &Regi
             Call::Access(access) if flaw == Some(Flaw::OneSegmentJudged) => {
                 !set.segment(access.address).is_well_formed()
             }
-            _ => !set.segments().all(|segment| segment.is_well_formed()),
+            _ => !set.segments_are_well_formed(),
         },
     }
 }

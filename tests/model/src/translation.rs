@@ -64,7 +64,11 @@ pub fn before_search(flaw: Option<Flaw>, registers: &Registers, access: Access) 
 
 /// The valid block of the access's side that holds its address, and its number on that side.
 pub fn block_of(registers: &Registers, access: Access) -> Option<(u32, Block)> {
-    let blocks = registers.blocks(Side::of_kind(access.kind));
+    let side = Side::of_kind(access.kind);
+    if registers.overlooks_blocks(side, access.address) {
+        return None;
+    }
+    let blocks = registers.blocks(side);
     (0..).zip(blocks).find(|(number, block)| {
         block.is_valid_in(access.in_problem_state())
             && block.holds(access.address)

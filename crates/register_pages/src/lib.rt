@@ -89,6 +89,7 @@ pub fn quick_page(page: &[u8]) -> u32
     if !quick_segments(page) {
         return EVERYWHERE;
     }
+    // Each length has its own lines, so that the compiler knows where the loops over the pairs end.
     if page.len() == numbers::REGISTERS_SIZE_LONG {
         let instruction = quick_side(page, 68, 132, false);
         if instruction == EVERYWHERE {

@@ -5,7 +5,7 @@ ghost use Prim.Native.Nat.{_+_, _*_, _<_, _≤_, _^_};
 ghost use lib.ListN.{length};
 ghost use Rattle.numbers.specs.Numbers.{groupSize};
 ghost use Rattle.groups.specs.Group.{groupOf, onGroup};
-ghost use Rattle.matches.specs.Search.{pairMatches, summary, found};
+ghost use Rattle.matches.specs.Search.{pairMatches, onlyPlace};
 ghost use Rattle.edits.specs.Edit.{EditFits, editedWords, editMatches};
 
 // What is done to each match: eight zero bytes, or another PP.
@@ -71,38 +71,32 @@ pub fn edit_both(
     edit_group(&mut table[next..end], true, vsid, api, edit);
 }
 
-// Edits each match that a search of the page's groups found: the one match where it stands, or, where there are several, both groups.
-pub fn edit_found(
+// Edits each match of a page by what the quick search of its groups answered: the one match at its place, or, where there are several, both groups.
+pub fn edit_place(
     table: &mut [u8],
     primary: usize,
     secondary: usize,
     vsid: u32,
     api: u32,
-    search: matches::Summary,
+    place: usize,
     edit: Edit,
 )
     requires { ⌜ (EditFits edit) × (groupSize * primary + groupSize ≤ length (now table)) × (groupSize * secondary + groupSize ≤ length (now table))
-        × (vsid < 2 ^ 24) × (api < 2 ^ 6) × (primary ≡ secondary → ⊥) × (found search ≡ true)
-        × (search ≡ summary (pairMatches vsid api (groupOf (now table) primary) (groupOf (now table) secondary))) ⌝ }
+        × (vsid < 2 ^ 24) × (api < 2 ^ 6) × (primary ≡ secondary → ⊥) × (place ≡ 0 → ⊥)
+        × (place ≡ onlyPlace (pairMatches vsid api (groupOf (now table) primary) (groupOf (now table) secondary))) ⌝ }
     ensures { λ _. ⌜ now (table .exit) ≡ onGroup (onGroup (now (table .entry)) primary (editMatches edit false vsid api)) secondary (editMatches edit true vsid api) ⌝ }
 {
-    if search.several {
+    if place == matches::SEVERAL {
         edit_both(table, primary, secondary, vsid, api, edit);
         return;
     }
-    let group = if search.in_secondary() {
-        secondary
-    } else {
-        primary
-    };
-    let entry = search.entry();
+    let group = matches::group_at(place, primary, secondary);
+    let entry = place % 8;
     match edit {
         Edit::Clear => groups::put_entry(table, group, entry, 0, 0),
-        Edit::Protect(pp) => groups::put_second(
-            table,
-            group,
-            entry,
-            entry::with_pp(search.second, pp),
-        ),
+        Edit::Protect(pp) => {
+            let second = groups::second_of(table, group, entry);
+            groups::put_second(table, group, entry, entry::with_pp(second, pp));
+        }
     }
 }

@@ -47,6 +47,26 @@ xor-twice = bin-ind (λ (a : ℕ). (x : ℕ) → bitXor a (bitXor a x) ≡ x) (�
 pub xor-cancel : (a x y : ℕ) → bitXor a x ≡ bitXor a y → x ≡ y
 xor-cancel a x y e = sym (xor-twice a x) ∙ ap (bitXor a) e ∙ xor-twice a y
 
+-- exclusive or with ones is the complement
+digit-flipped : (d : ℕ) → d < 2 → differ d 1 + d ≡ 1
+digit-flipped zero l = refl
+digit-flipped (suc zero) l = refl
+digit-flipped (suc (suc d)) l = absurd (omega arith)
+
+pub xor-ones : (n x : ℕ) → x < 2 ^ n → bitXor x (2 ^ n - 1) ≡ 2 ^ n - 1 - x
+xor-ones zero x l = let z : x ≡ 0 = omega (arith, l) in rw z refl
+xor-ones (suc n) x l =
+    let ones = 2 ^ suc n - 1 in
+    let twice = pow-suc 2 n in
+    let half : ones / 2 ≡ 2 ^ n - 1 = omega (arith, twice, pow-pos n) in
+    let odd : ones % 2 ≡ 1 = omega (arith, twice, pow-pos n) in
+    let flipped = digit-flipped (x % 2) (omega arith) in
+    let high = xor-ones n (x / 2) (omega (arith, l, twice)) in
+    xor-step x ones
+    ∙ ap₂ (λ (h d : ℕ). bitXor (x / 2) h * 2 + differ (x % 2) d) half odd
+    ∙ ap (λ (h : ℕ). h * 2 + differ (x % 2) 1) high
+    ∙ omega (arith, flipped, l, twice)
+
 pub hash-lt : (vsid index : ℕ) → index < 2 ^ 16 → hashOf vsid index < 2 ^ 19
 unfolding hashOf
 hash-lt vsid index h = xor-lt 19 (vsid % 2 ^ 19) index (omega arith) (omega arith)

@@ -7,7 +7,7 @@ use native.Mathlib.Omega.{arith}
 use borrow.Rule.Slice.PartMut.{putMid, midOf, post-is}
 use lib.ListN.{take, drop}
 use Rattle.words.specs.Words.{wordAt}
-use Rattle.groups.specs.Group.{groupOf, putGroup, onGroup, firstAt}
+use Rattle.groups.specs.Group.{groupOf, putGroup, onGroup, firstAt, secondAt}
 use Rattle.groups.proofs.Group.{byte-of-group}
 
 pub lent-group : (t : List ℕ) (g : ℕ) → midOf (g * 64) (g * 64 + 64 - g * 64) t ≡ groupOf t g
@@ -46,3 +46,10 @@ unfolding firstAt
 first-in-table t g i h =
     let from : g * 64 + 8 * i ≡ 64 * g + 8 * i = omega arith in
     ap (wordAt t) from ∙ sym (word-of-group t g (8 * i) (omega arith))
+
+-- an entry's second word, read in the table
+pub second-in-table : (t : List ℕ) (g i : ℕ) → i < 8 → wordAt t (g * 64 + 8 * i + 4) ≡ secondAt (groupOf t g) i
+unfolding secondAt
+second-in-table t g i h =
+    let from : g * 64 + 8 * i + 4 ≡ 64 * g + (8 * i + 4) = omega arith in
+    ap (wordAt t) from ∙ sym (word-of-group t g (8 * i + 4) (omega arith))

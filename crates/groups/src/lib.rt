@@ -7,7 +7,7 @@ ghost use lib.ListN.{length, replicate};
 ghost use Rattle.numbers.specs.Numbers.{groupSize, groupEntries};
 ghost use Rattle.register_words.specs.Sdr1.{sdr1Shape, hashBits};
 ghost use Rattle.groups.specs.Hash.{hashOf, groupsOf, groupAddress};
-ghost use Rattle.groups.specs.Group.{firstOf, putEntry, putAt, firstFree, firstFreePlace};
+ghost use Rattle.groups.specs.Group.{firstOf, secondOf, putEntry, putAt, firstFree, firstFreePlace};
 
 // The numbers of the two groups of a hash.
 pub struct Groups {
@@ -22,13 +22,14 @@ pub fn hash_of(vsid: u32, index: u32) -> u32
     (vsid & 0x7FFFF) ^ index
 }
 
-// The two groups of a hash, under the n ones that it is masked with.
+// The two groups of a hash, under the n ones that it is masked with: the secondary's number is the complement of the primary's in n bits.
 pub fn groups_of(ones: u32, hash: u32) -> Groups
     ensures { λ r. ⌜ ((n : ℕ) → ones ≡ 2 ^ n - 1 → r ≡ groupsOf n hash) ⌝ }
 {
+    let primary = hash & ones;
     Groups {
-        primary: hash & ones,
-        secondary: !hash & ones,
+        primary,
+        secondary: primary ^ ones,
     }
 }
 
@@ -76,6 +77,17 @@ pub fn free_place(primary: usize, secondary: usize) -> Place
         }
     }
     found
+}
+
+// The second word of an entry of a group of the table.
+pub fn second_of(table: &[u8], group: usize, entry: usize) -> u32
+    requires { ⌜ (entry < groupEntries) × (groupSize * group + groupSize ≤ length (now table)) ⌝ }
+    ensures { λ r. ⌜ r ≡ secondOf (now (table .entry)) group entry ⌝ }
+{
+    words::read_word(
+        table,
+        group * numbers::GROUP_SIZE + numbers::ENTRY_SIZE * entry + 4,
+    )
 }
 
 // Writes two words as an entry of the one group that it is handed.

@@ -110,18 +110,22 @@ unfolding groupMatches
 match-in secondary vsid api group m h = match-is secondary vsid api group 8 m h
 
 -- each match of both groups is one of the eight entries of its group
-pub match-words : (vsid api : ℕ) (primary secondary : List ℕ) (m : Match) → List·Memᴰ m (pairMatches vsid api primary secondary)
-    → (m .entry < 8) × (m .first ≡ firstAt (cond (m .secondary) secondary primary) (m .entry))
+pub match-entry : (vsid api : ℕ) (primary secondary : List ℕ) (m : Match) → List·Memᴰ m (pairMatches vsid api primary secondary)
+    → (m .entry < 8) × (m ≡ entryAt (m .secondary) (cond (m .secondary) secondary primary) (m .entry))
 unfolding pairMatches
-match-words vsid api primary secondary m h =
+match-entry vsid api primary secondary m h =
     ⊎-elim (λ k. of false primary refl (match-in false vsid api primary m k)) (λ k. of true secondary refl (match-in true vsid api secondary m k))
     (List·Memᴰ·append-cases (groupMatches false vsid api primary) h)
   where
     of : (b : Bool) (group : List ℕ) → group ≡ cond b secondary primary → IsMatch b vsid api group 8 m
-        → (m .entry < 8) × (m .first ≡ firstAt (cond (m .secondary) secondary primary) (m .entry))
+        → (m .entry < 8) × (m ≡ entryAt (m .secondary) (cond (m .secondary) secondary primary) (m .entry))
     of b group e i =
         let side : m .secondary ≡ b = ap (λ (x : Match). x .secondary) (i .is-entry) in
-        (i .entry-lt, ap (λ (x : Match). x .first) (i .is-entry) ∙ rw (side, e))
+        (i .entry-lt, i .is-entry ∙ ap (λ (g : List ℕ). entryAt b g (m .entry)) e ∙ ap (λ (c : Bool). entryAt c (cond c secondary primary) (m .entry)) (sym side))
+
+pub match-words : (vsid api : ℕ) (primary secondary : List ℕ) (m : Match) → List·Memᴰ m (pairMatches vsid api primary secondary)
+    → (m .entry < 8) × (m .first ≡ firstAt (cond (m .secondary) secondary primary) (m .entry))
+match-words vsid api primary secondary m h = let own = match-entry vsid api primary secondary m h in (own .0, ap (λ (x : Match). x .first) (own .1))
 
 h-same : (b c : Bool) → hOf b ≡ hOf c → b ≡ c
 h-same true true e = refl

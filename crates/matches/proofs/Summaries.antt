@@ -146,6 +146,14 @@ no-place m z = go (m .secondary) z
     go true z = omega arith
     go false z = omega arith
 
+-- nor is it 1, which stands for several
+pub no-several : (m : Match) → placeOf m ≡ 1 → ⊥
+no-several m z = go (m .secondary) z
+  where
+    go : (b : Bool) → cond b 24 16 + m .entry ≡ 1 → ⊥
+    go true z = omega arith
+    go false z = omega arith
+
 nowhere : summary [] .place ≡ 0
 unfolding summary
 nowhere = refl
@@ -226,6 +234,10 @@ only-none [] e = refl
 only-none (m ∷ []) e = absurd (no-place m e)
 only-none (m ∷ n ∷ ms) e = absurd (omega (arith, e))
 
+pub only-some : (m : Match) (ms : List Match) → onlyPlace (m ∷ ms) ≡ 0 → ⊥
+only-some m [] e = no-place m e
+only-some m (n ∷ ms) e = omega (arith, e)
+
 -- what a search tells of none or one
 pub only-told : (ms : List Match) (place second : ℕ) → place ≡ onlyPlace ms → (place ≡ 1 → ⊥) → (ms ≡ [] → second ≡ 0)
     → ((m : Match) → ms ≡ m ∷ [] → second ≡ m .second) → record { place = place; second = second; several = false; differs = false } ≡ summary ms
@@ -240,6 +252,12 @@ only-several [] x rest some = absurd (some refl)
 only-several (m ∷ []) x rest some = refl
 only-several (m ∷ n ∷ ms) x rest some = refl
 
+-- further matches, where there are several already
+pub only-further : (ms rest : List Match) → onlyPlace ms ≡ 1 → onlyPlace (ms ++ rest) ≡ 1
+only-further [] rest e = absurd (omega (arith, e))
+only-further (m ∷ []) rest e = absurd (no-several m e)
+only-further (m ∷ n ∷ ms) rest e = refl
+
 -- a match without a further one is alone
 pub alone : (ms : List Match) → anyMatch each ms ≡ false → ms ≡ []
 alone [] e = refl
@@ -253,6 +271,14 @@ found-none (m ∷ ms) e = absurd (true≢false (sym (place-found (summary (m ∷
 pub found-some : (ms : List Match) → found (summary ms) ≡ true → (m : Match) × ((rest : List Match) × (ms ≡ m ∷ rest))
 found-some [] e = absurd (true≢false (sym e ∙ summary-none))
 found-some (m ∷ ms) e = (m, (ms, refl))
+
+-- the same by the place of the only match
+pub only-missing : (ms : List Match) → onlyPlace ms ≡ 0 → found (summary ms) ≡ false
+only-missing ms e = ap (λ (l : List Match). found (summary l)) (only-none ms e) ∙ summary-none
+
+pub only-found : (ms : List Match) → (onlyPlace ms ≡ 0 → ⊥) → found (summary ms) ≡ true
+only-found [] some = absurd (some refl)
+only-found (m ∷ ms) some = place-found (summary (m ∷ ms)) m (summarised m ms .place)
 
 -- the entry that the search tells is one of a group's eight
 pub summary-entry-lt : (s : Summary) → entryOf s < 8

@@ -1,8 +1,9 @@
 // The matches of a page in its two groups: the search of one group, which tells all that a call asks of it, and what two of them come to.
 ghost use mathlib.Core.Path.{_≡_};
-ghost use mathlib.Core.Bool.{true, false};
+ghost use mathlib.Core.Bool.{true, false, cond};
 ghost use mathlib.Core.List.{List, [], _∷_, _++_};
 ghost use Prim.Native.Nat.{ℕ, _+_, _*_, _<_, _≤_, _^_};
+ghost use lib.Dec.{leb};
 ghost use lib.ListN.{length};
 ghost use Rattle.numbers.specs.Numbers.{groupSize};
 ghost use Rattle.tables.specs.Matches.{Match};
@@ -105,16 +106,18 @@ fn first_place(secondary: bool) -> usize
     if secondary { 24 } else { 16 }
 }
 
-// Stands for a place where a group has several matches.
-const SEVERAL: usize = 1;
+// Stands for a place where there are several matches.
+pub const SEVERAL: usize = 1;
 
-// The place of a group's only match: 0 where it has none, and SEVERAL where it has more than one.
-fn only_place(group: &[u8], secondary: bool, wanted: u32) -> usize
+// The place of the only match among those whose only place was `before` and those of a group: 0 where there is none, and SEVERAL where there is
+// more than one.
+fn only_place(group: &[u8], secondary: bool, wanted: u32, before: usize) -> usize
     requires { ⌜ length (now group) ≡ groupSize ⌝ }
-    ensures { λ r. ⌜ ((vsid api : ℕ) → WantedWord secondary vsid api wanted → r ≡ onlyPlace (groupMatches secondary vsid api (now (group .entry)))) ⌝ }
+    ensures { λ r. ⌜ ((vsid api : ℕ) (ms : List Match) → WantedWord secondary vsid api wanted → before ≡ onlyPlace ms
+        → r ≡ onlyPlace (ms ++ groupMatches secondary vsid api (now (group .entry)))) ⌝ }
 {
     let start = first_place(secondary);
-    let mut place = 0;
+    let mut place = before;
     let mut i = 0;
     while numbers::ENTRY_SIZE * i < group.len() {
         if words::is_word(group, numbers::ENTRY_SIZE * i, wanted) {
@@ -126,6 +129,26 @@ fn only_place(group: &[u8], secondary: bool, wanted: u32) -> usize
         i += 1;
     }
     place
+}
+
+// The quick search: the place of a page's only match in its two groups, whose bytes are lent; 0 where it has none, and SEVERAL where it has more
+// than one. Its loops end by the length of what is lent, so that it is small and the compiler puts it into each caller.
+pub fn find(primary: &[u8], secondary: &[u8], vsid: u32, api: u32) -> usize
+    requires { ⌜ (length (now primary) ≡ groupSize) × (length (now secondary) ≡ groupSize) × (vsid < 2 ^ 24) × (api < 2 ^ 6) ⌝ }
+    ensures { λ r. ⌜ r ≡ onlyPlace (pairMatches vsid api (now (primary .entry)) (now (secondary .entry))) ⌝ }
+{
+    let place = only_place(primary, false, entry::match_word(vsid, 0, api), 0);
+    if place == SEVERAL {
+        return SEVERAL;
+    }
+    only_place(secondary, true, entry::match_word(vsid, 1, api), place)
+}
+
+// The number of the group that a place is in, by the numbers of a page's two groups.
+pub fn group_at(place: usize, primary: usize, secondary: usize) -> usize
+    ensures { λ r. ⌜ r ≡ cond (leb 24 place) secondary primary ⌝ }
+{
+    if place >= 24 { secondary } else { primary }
 }
 
 // The matches of a group that has several, and a word with R and C each set if any of them has it.
@@ -162,7 +185,7 @@ pub fn search_group(group: &[u8], secondary: bool, wanted: u32) -> GroupSearch
     ensures { λ r. ⌜ ((vsid api : ℕ) → WantedWord secondary vsid api wanted → r ≡ groupSearch secondary vsid api (now (group .entry))) ⌝ }
 {
     let free = groups::first_free(group);
-    let place = only_place(group, secondary, wanted);
+    let place = only_place(group, secondary, wanted, 0);
     if place == SEVERAL {
         let duplicates = every_match(group, secondary, wanted, 0);
         let matches = duplicates.matches;
@@ -200,6 +223,30 @@ pub fn search_both(table: &[u8], primary: usize, secondary: usize, vsid: u32, ap
     matches.then(further)
 }
 
+// The matches of both groups by what the quick search answered: none, or the one at its place, or, where there are several, those that the search
+// of both groups tells.
+pub fn search_at(
+    table: &[u8],
+    primary: usize,
+    secondary: usize,
+    vsid: u32,
+    api: u32,
+    place: usize,
+) -> Summary
+    requires { ⌜ (groupSize * primary + groupSize ≤ length (now table)) × (groupSize * secondary + groupSize ≤ length (now table)) × (vsid < 2 ^ 24) × (api < 2 ^ 6)
+        × (place ≡ onlyPlace (pairMatches vsid api (groupOf (now table) primary) (groupOf (now table) secondary))) ⌝ }
+    ensures { λ r. ⌜ r ≡ summary (pairMatches vsid api (groupOf (now (table .entry)) primary) (groupOf (now (table .entry)) secondary)) ⌝ }
+{
+    if place == SEVERAL {
+        return search_both(table, primary, secondary, vsid, api);
+    }
+    if place == 0 {
+        return Summary::nothing();
+    }
+    let second = groups::second_of(table, group_at(place, primary, secondary), place % 8);
+    Summary::one(place, second)
+}
+
 // What the search of both groups tells that looks for a free entry too: the matches, and the first entry with V = 0 of each group.
 pub struct PairSearch {
     pub matches: Summary,
@@ -233,22 +280,24 @@ pub fn search_places(
     }
 }
 
-// The second word of a page's first match, with R and C each set if any match that the search found has it.
+// The second word of a page's first match, with R and C each set if any match has it, by what the quick search answered.
 pub fn merged_word(
     table: &[u8],
     primary: usize,
     secondary: usize,
     vsid: u32,
     api: u32,
-    search: Summary,
+    place: usize,
 ) -> u32
-    requires { ⌜ (groupSize * primary + groupSize ≤ length (now table)) × (groupSize * secondary + groupSize ≤ length (now table)) × (vsid < 2 ^ 24) × (api < 2 ^ 6) ⌝ }
+    requires { ⌜ (groupSize * primary + groupSize ≤ length (now table)) × (groupSize * secondary + groupSize ≤ length (now table)) × (vsid < 2 ^ 24) × (api < 2 ^ 6)
+        × (place ≡ onlyPlace (pairMatches vsid api (groupOf (now table) primary) (groupOf (now table) secondary))) ⌝ }
     ensures { λ r. ⌜ ((m : Match) (ms : List Match) → pairMatches vsid api (groupOf (now (table .entry)) primary) (groupOf (now (table .entry)) secondary) ≡ m ∷ ms
-        → search ≡ summary (m ∷ ms) → r ≡ merged m ms) ⌝ }
+        → r ≡ merged m ms) ⌝ }
 {
-    if !search.several {
-        return search.second;
+    if place != SEVERAL {
+        return groups::second_of(table, group_at(place, primary, secondary), place % 8);
     }
+    let search = search_both(table, primary, secondary, vsid, api);
     let from = primary * numbers::GROUP_SIZE;
     let to = from + numbers::GROUP_SIZE;
     let wanted = entry::match_word(vsid, 0, api);

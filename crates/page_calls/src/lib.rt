@@ -79,7 +79,7 @@ pub fn map_page(
     ensures { λ r. ⌜ ended r (now (table .exit)) []
         ≡ bytesDo (maskOnes sdr1) (mapPage (record { sdr1 = sdr1; page = record { vsid = vsid; index = index }; rpn = rpn; wimg = wimg; pp = pp })) (now (table .entry)) ⌝ }
 {
-    let at = locate(sdr1, vsid, index);
+    let at = locate(table.len(), vsid, index);
     let search = matches::search_places(table, at.primary, at.secondary, vsid, at.api);
     let matches = search.matches;
     if matches.found() {
@@ -102,22 +102,26 @@ pub fn unmap_page(sdr1: u32, vsid: u32, index: u32, table: &mut [u8]) -> WordAns
     ensures { λ r. ⌜ ended (r .result) (now (table .exit)) (wordAnswer (r .result) (r .word))
         ≡ bytesDo (maskOnes sdr1) (unmap (record { sdr1 = sdr1; page = record { vsid = vsid; index = index }; answer = [] })) (now (table .entry)) ⌝ }
 {
-    let at = locate(sdr1, vsid, index);
-    let search = matches::search_both(table, at.primary, at.secondary, vsid, at.api);
-    if !search.found() {
+    let at = locate(table.len(), vsid, index);
+    let from = at.primary * numbers::GROUP_SIZE;
+    let to = from + numbers::GROUP_SIZE;
+    let next = at.secondary * numbers::GROUP_SIZE;
+    let end = next + numbers::GROUP_SIZE;
+    let place = matches::find(&table[from..to], &table[next..end], vsid, at.api);
+    if place == 0 {
         return WordAnswer {
             result: numbers::REFUSED_NO_MATCH,
             word: 0,
         };
     }
-    let word = matches::merged_word(table, at.primary, at.secondary, vsid, at.api, search);
-    edits::edit_found(
+    let word = matches::merged_word(table, at.primary, at.secondary, vsid, at.api, place);
+    edits::edit_place(
         table,
         at.primary,
         at.secondary,
         vsid,
         at.api,
-        search,
+        place,
         edits::Edit::Clear,
     );
     WordAnswer {
@@ -132,18 +136,22 @@ pub fn protect_page(sdr1: u32, vsid: u32, index: u32, pp: u32, table: &mut [u8])
     ensures { λ r. ⌜ ended r (now (table .exit)) []
         ≡ bytesDo (maskOnes sdr1) (protect (record { sdr1 = sdr1; page = record { vsid = vsid; index = index }; pp = pp })) (now (table .entry)) ⌝ }
 {
-    let at = locate(sdr1, vsid, index);
-    let search = matches::search_both(table, at.primary, at.secondary, vsid, at.api);
-    if !search.found() {
+    let at = locate(table.len(), vsid, index);
+    let from = at.primary * numbers::GROUP_SIZE;
+    let to = from + numbers::GROUP_SIZE;
+    let next = at.secondary * numbers::GROUP_SIZE;
+    let end = next + numbers::GROUP_SIZE;
+    let place = matches::find(&table[from..to], &table[next..end], vsid, at.api);
+    if place == 0 {
         return numbers::REFUSED_NO_MATCH;
     }
-    edits::edit_found(
+    edits::edit_place(
         table,
         at.primary,
         at.secondary,
         vsid,
         at.api,
-        search,
+        place,
         edits::Edit::Protect(pp),
     );
     numbers::DONE
@@ -155,8 +163,13 @@ pub fn look_page(sdr1: u32, vsid: u32, index: u32, table: &[u8]) -> WordAnswer
     ensures { λ r. ⌜ ended (r .result) (now (table .entry)) (wordAnswer (r .result) (r .word))
         ≡ bytesDo (maskOnes sdr1) (look (record { sdr1 = sdr1; page = record { vsid = vsid; index = index }; answer = [] })) (now (table .entry)) ⌝ }
 {
-    let at = locate(sdr1, vsid, index);
-    let search = matches::search_both(table, at.primary, at.secondary, vsid, at.api);
+    let at = locate(table.len(), vsid, index);
+    let from = at.primary * numbers::GROUP_SIZE;
+    let to = from + numbers::GROUP_SIZE;
+    let next = at.secondary * numbers::GROUP_SIZE;
+    let end = next + numbers::GROUP_SIZE;
+    let place = matches::find(&table[from..to], &table[next..end], vsid, at.api);
+    let search = matches::search_at(table, at.primary, at.secondary, vsid, at.api, place);
     if !search.found() {
         return WordAnswer {
             result: numbers::REFUSED_NO_MATCH,

@@ -1,9 +1,10 @@
 // Where a page's entries are: its two groups, and the API of its entries.
 ghost use mathlib.Core.Path.{_≡_};
 ghost use mathlib.Core.Bool.{true, false, cond};
-ghost use Prim.Native.Nat.{_+_};
+ghost use Prim.Native.Nat.{ℕ, _+_, _^_, _≤_, _<_};
+ghost use Rattle.numbers.specs.Numbers.{groupSize};
 ghost use Rattle.entry.specs.Entry.{apiOf};
-ghost use Rattle.register_words.specs.Sdr1.{sdr1Shape, maskOnes};
+ghost use Rattle.register_words.specs.Sdr1.{sdr1Shape, tableLength, maskOnes};
 ghost use Rattle.groups.specs.Hash.{groupNumber};
 
 // A page's two groups and the API of its entries.
@@ -13,20 +14,20 @@ pub struct Located {
     pub api: u32,
 }
 
-// The groups and the API of a page, in the table of SDR1.
-pub fn locate(sdr1: u32, vsid: u32, index: u32) -> Located
-    requires { ⌜ sdr1Shape sdr1 ≡ true ⌝ }
-    ensures { λ r. ⌜ r ≡ record {
+// The groups and the API of a page, in a table of so many bytes: the number of its last group is the ones that the hash is masked with.
+pub fn locate(lent: usize, vsid: u32, index: u32) -> Located
+    requires { ⌜ (groupSize ≤ lent) × (lent < 2 ^ 32) ⌝ }
+    ensures { λ r. ⌜ ((sdr1 : ℕ) → sdr1Shape sdr1 ≡ true → lent ≡ tableLength sdr1 → r ≡ record {
       primary = groupNumber (10 + maskOnes sdr1) false (record { vsid = vsid; index = index });
       secondary = groupNumber (10 + maskOnes sdr1) true (record { vsid = vsid; index = index });
       api = apiOf index;
-    } ⌝ }
+    }) ⌝ }
 {
-    let ones = register_words::hash_mask(sdr1);
-    let numbers = groups::groups_of(ones, groups::hash_of(vsid, index));
+    let last = (lent / numbers::GROUP_SIZE - 1) as u32;
+    let own = groups::groups_of(last, groups::hash_of(vsid, index));
     Located {
-        primary: numbers.primary as usize,
-        secondary: numbers.secondary as usize,
+        primary: own.primary as usize,
+        secondary: own.secondary as usize,
         api: entry::api_of(index),
     }
 }

@@ -89,8 +89,13 @@ fn by_page(table: &[u8], sdr1: u32, kind: u32, address: u32, wanted: translation
     requires { ⌜ (sdr1Shape sdr1 ≡ true) × (length (now table) ≡ tableLength sdr1) × (wanted .vsid < 2 ^ 24) × (wanted .index < 2 ^ 16) ⌝ }
     ensures { λ r. ⌜ ByPart (maskOnes sdr1) (now (table .entry)) kind address (Search wanted) r ⌝ }
 {
-    let at = locate(sdr1, wanted.vsid, wanted.index);
-    let search = matches::search_both(table, at.primary, at.secondary, wanted.vsid, at.api);
+    let at = locate(table.len(), wanted.vsid, wanted.index);
+    let from = at.primary * numbers::GROUP_SIZE;
+    let to = from + numbers::GROUP_SIZE;
+    let next = at.secondary * numbers::GROUP_SIZE;
+    let end = next + numbers::GROUP_SIZE;
+    let place = matches::find(&table[from..to], &table[next..end], wanted.vsid, at.api);
+    let search = matches::search_at(table, at.primary, at.secondary, wanted.vsid, at.api, place);
     let outcome = translation::after_search(kind, wanted.key, searched_of(search));
     let group = at.group(search.in_secondary());
     let entry = search.entry();

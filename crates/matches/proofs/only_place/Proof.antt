@@ -1,8 +1,8 @@
--- `matches::only_place` meets its contract. The loop's invariant: the place is that of the only match among the first i entries.
+-- `matches::only_place` meets its contract. The loop's invariant: the place is that of the only match among those before and the first i entries.
 use Prim.Native.Nat.{ℕ, _+_, _-_, _≤_}
 use mathlib.Core.Path.{_≡_, refl, sym, ap, _∙_}
 use mathlib.Core.Bool.{Bool, true, false, cond}
-use mathlib.Core.List.{List, [], _∷_, _++_}
+use mathlib.Core.List.{List, [], _∷_, _++_, append-nil, append-assoc}
 use mathlib.Core.Logic.{⊎-elim}
 use native.Mathlib.Omega.{arith}
 use Rattle.entry.specs.Entry.{matches}
@@ -15,11 +15,12 @@ use Rattle.matches.proofs.only_place.Statement.{statement}
 use Rattle.matches.proofs.only_place.Tie as tie
 
 abbrev Inv-loop : tie.InvT-loop
-Inv-loop group secondary wanted start place₀ i₀ place i =
-    (i ≤ 8) × ((vsid api : ℕ) → WantedWord secondary vsid api wanted → place ≡ onlyPlace (matchesTo secondary vsid api group i))
+Inv-loop group secondary wanted before start place₀ i₀ place i =
+    (i ≤ 8) × ((vsid api : ℕ) (ms : List Match) → WantedWord secondary vsid api wanted → before ≡ onlyPlace ms
+    → place ≡ onlyPlace (ms ++ matchesTo secondary vsid api group i))
 
 abbrev μ-loop : tie.MeasureT-loop
-μ-loop group secondary wanted start place₀ i₀ place i = 8 - i
+μ-loop group secondary wanted before start place₀ i₀ place i = 8 - i
 
 module _ (c : tie.After-is-word Inv-loop μ-loop) where
   abbrev at-loop : tie.At-loop Inv-loop μ-loop
@@ -39,7 +40,7 @@ first-place-requires c κs = tt
 
 loop-holds : tie.Need-loop-holds Inv-loop μ-loop
 unfolding matchesBelow
-loop-holds c = (omega arith, λ vsid api is. refl)
+loop-holds c = (omega arith, λ vsid api ms is was. was ∙ ap onlyPlace (sym (append-nil ms)))
 
 mul-loop : tie.Need-mul-loop Inv-loop μ-loop
 mul-loop c = omega arith
@@ -52,17 +53,19 @@ is-word-requires c κs = omega arith
 
 returns : tie.Need-returns Inv-loop μ-loop
 unfolding groupMatches
-returns c vsid api is =
+returns c vsid api ms is was =
     let w = c .before .before in
     let l = at-loop w in
     let a = begin w .args in
     let i = l .loop .i in
+    let to = matchesTo (a .secondary) vsid api (a .group .now) i in
+    let x = entryAt (a .secondary) (a .group .now) i in
     let (rest, more) = matches-extend (a .secondary) vsid api (a .group .now) (i + 1) 8 (omega arith) in
     let one = matches-more (a .secondary) vsid api (a .group .now) i (sym (tested w vsid api is) ∙ c .before .if1 .taken) in
     sym
-    (ap onlyPlace (more ∙ ap (λ (ms : List Match). ms ++ rest) one)
-    ∙ only-several (matchesTo (a .secondary) vsid api (a .group .now) i) (entryAt (a .secondary) (a .group .now) i) rest
-    (λ z. c .if2 .taken (l .loop .inv .1 vsid api is ∙ z)))
+    (ap (λ (ns : List Match). onlyPlace (ms ++ ns)) (more ∙ ap (λ (ns : List Match). ns ++ rest) one)
+    ∙ ap onlyPlace (sym (append-assoc ms (to ++ x ∷ []) rest) ∙ ap (λ (ns : List Match). ns ++ rest) (sym (append-assoc ms to (x ∷ []))))
+    ∙ only-several (ms ++ to) x rest (λ z. c .if2 .taken (l .loop .inv .1 vsid api ms is was ∙ z)))
 
 add-place : tie.Need-add-place Inv-loop μ-loop
 add-place c = let j = c .before .before .before .before .before in omega (arith, j .first-place .ensures, first-place-le (j .before .before .args .secondary))
@@ -82,22 +85,26 @@ loop-again c =
     ⊎-elim
     (λ v. (
       omega arith,
-      λ vsid api is.
-          let none = only-none (matchesTo (a .secondary) vsid api (a .group .now) i) (sym (l .loop .inv .1 vsid api is) ∙ v .1 .left) in
+      λ vsid api ms is was.
+          let to = matchesTo (a .secondary) vsid api (a .group .now) i in
+          let x = entryAt (a .secondary) (a .group .now) i in
+          let none = only-none (ms ++ to) (sym (l .loop .inv .1 vsid api ms is was) ∙ v .1 .left) in
           let one = matches-more (a .secondary) vsid api (a .group .now) i (sym (tested w vsid api is) ∙ v .0 .taken) in
-          v .2 ∙ ap (λ (n : ℕ). n + i) (l .before .first-place .ensures) ∙ sym (ap onlyPlace (one ∙ ap (λ (ms : List Match). ms ++ (entryAt (a .secondary) (a .group .now) i ∷ [])) none)),
+          v .2
+          ∙ ap (λ (n : ℕ). n + i) (l .before .first-place .ensures)
+          ∙ sym (ap onlyPlace (ap (λ (ns : List Match). ms ++ ns) one ∙ sym (append-assoc ms to (x ∷ [])) ∙ ap (λ (ns : List Match). ns ++ x ∷ []) none)),
     ))
     (λ v. (
       omega arith,
-      λ vsid api is.
+      λ vsid api ms is was.
           let same = matches-same (a .secondary) vsid api (a .group .now) i (sym (tested w vsid api is) ∙ v .0 .left) in
-          v .1 ∙ l .loop .inv .1 vsid api is ∙ sym (ap onlyPlace same),
+          v .1 ∙ l .loop .inv .1 vsid api ms is was ∙ sym (ap (λ (ns : List Match). onlyPlace (ms ++ ns)) same),
     ))
     (c .if1 .came)
 
 returns-2 : tie.Need-returns-2 Inv-loop μ-loop
 unfolding groupMatches
-returns-2 c vsid api is = let e : c .before .loop .i ≡ 8 = omega arith in rw e at (c .before .loop .inv .1 vsid api is)
+returns-2 c vsid api ms is was = let e : c .before .loop .i ≡ 8 = omega arith in rw e at (c .before .loop .inv .1 vsid api ms is was)
 
 pub only-place-spec : {M : Type 1} → statement M
 only-place-spec =

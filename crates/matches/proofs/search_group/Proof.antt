@@ -55,7 +55,7 @@ unfolding groupSearch
 returns-2 c vsid api is =
     let at-place = c .before .before in
     let a = at-place .before .before .before .args in
-    let own = at-place .only-place .ensures vsid api is in
+    let own = at-place .only-place .ensures vsid api [] is refl in
     ap₂ told
     (only-told (groupMatches (a .secondary) vsid api (a .group .now)) _ 0 own (c .before .if1 .left) (λ e. refl)
     (λ m e. absurd (no-place m (sym (own ∙ ap onlyPlace e) ∙ c .if2 .taken))))
@@ -66,7 +66,7 @@ unfolding groupSearch
 returns-3 c vsid api is =
     let at-place = c .before .before .before in
     let a = at-place .before .before .before .args in
-    let own = at-place .only-place .ensures vsid api is in
+    let own = at-place .only-place .ensures vsid api [] is refl in
     ap₂ told
     (only-told (groupMatches (a .secondary) vsid api (a .group .now)) _ _ own (c .before .before .if1 .left)
     (λ e. absurd (c .before .if2 .left (own ∙ ap onlyPlace e)))

@@ -1,22 +1,24 @@
 -- What the groups and the API that `locate` gives say of the table: both groups lie in it, and a search, an edit and a free entry there are the page's own.
-use mathlib.Core.Path.{_≡_, sym, ap, _∙_}
+use mathlib.Core.Path.{_≡_, sym, ap, ap₂, _∙_}
 use mathlib.Core.Bool.{Bool, true, false, cond}
 use mathlib.Core.List.{List}
-use Prim.Native.Nat.{ℕ, _+_, _*_, _^_, _≤_, _<_}
+use Prim.Native.Nat.{ℕ, _+_, _-_, _*_, _^_, _≤_, _<_}
 use native.Mathlib.Omega.{arith}
 use mir.Val.{boolByte}
+use borrow.Rule.Slice.PartMut.{midOf}
 use Rattle.entry.specs.Entry.{firstWord, apiOf}
 use Rattle.register_words.specs.Sdr1.{sdr1Shape, tableLength, maskOnes, hashBits}
 use Rattle.groups.specs.Page.{Page}
 use Rattle.groups.specs.Hash.{groupNumber}
 use Rattle.groups.specs.Group.{groupOf, onGroup, putAt, firstFreePlace}
-use Rattle.matches.specs.Search.{pairMatches, summary}
+use Rattle.matches.specs.Search.{pairMatches, onlyPlace, summary}
 use Rattle.edits.specs.Edit.{editMatches}
 use Rattle.edits.specs.declared.Edit.{Edit}
 use Rattle.groups.specs.declared.Place.{Place}
 use Rattle.groups.specs.declared.Place.the-variants.{Entry}
 use Rattle.matches.specs.declared.Summary.{Summary}
 use Rattle.groups.proofs.Hash.{group-lt, own-groups-differ, within-table}
+use Rattle.groups.proofs.Lent.{lent-group}
 use Rattle.groups.proofs.Free.{PlaceCase, in-primary, in-secondary, nowhere, place-case}
 use Rattle.matches.proofs.Matches.{h-is}
 use Rattle.calls.specs.OnBytes.{entryWord}
@@ -30,6 +32,11 @@ located sdr1 page = record {
   secondary = groupNumber (10 + maskOnes sdr1) true page;
   api = apiOf (page .index);
 }
+
+-- what `locate` asks of a table's length
+pub locatable : (sdr1 lent : ℕ) → lent ≡ tableLength sdr1 → (64 ≤ lent) × (lent < 2 ^ 32)
+unfolding tableLength
+locatable sdr1 lent right = (omega arith, omega arith)
 
 module _ (sdr1 : ℕ) (page : Page) where
   -- a page's groups lie in a table of right length
@@ -64,6 +71,14 @@ module _ (sdr1 : ℕ) (page : Page) where
     module _ (t : List ℕ) where
       pub pair-is : pairMatches (page .vsid) (at .api) (groupOf t (at .primary)) (groupOf t (at .secondary)) ≡ pageMatches (maskOnes sdr1) t page
       pair-is = ap (λ (l : Located). pairMatches (page .vsid) (l .api) (groupOf t (l .primary)) (groupOf t (l .secondary))) e
+
+      -- the place that the quick search of the lent groups answered is that of the table's
+      pub place-is : (place : ℕ)
+          → place ≡ onlyPlace (pairMatches (page .vsid) (at .api) (midOf (at .primary * 64) (at .primary * 64 + 64 - at .primary * 64) t)
+          (midOf (at .secondary * 64) (at .secondary * 64 + 64 - at .secondary * 64) t))
+          → place ≡ onlyPlace (pairMatches (page .vsid) (at .api) (groupOf t (at .primary)) (groupOf t (at .secondary)))
+      place-is place q =
+          q ∙ ap₂ (λ (p s : List ℕ). onlyPlace (pairMatches (page .vsid) (at .api) p s)) (lent-group t (at .primary)) (lent-group t (at .secondary))
 
       pub search-is : (s : Summary) → s ≡ summary (pairMatches (page .vsid) (at .api) (groupOf t (at .primary)) (groupOf t (at .secondary)))
           → s ≡ pageSearch (maskOnes sdr1) t page

@@ -11,25 +11,31 @@ use Rattle.matches.specs.declared.PairSearch.{PairSearch}
 use Rattle.calls.specs.OnBytes.{ended}
 use Rattle.calls.proofs.PageCalls.{pageSearch, map-matched, map-full, map-placed}
 use Rattle.matches.proofs.Matches.{h-lt}
-use Rattle.page_calls.proofs.located.AtPage.{searchable, api-lt, group-inside, search-is, free-is, placed-is, place-lt}
+use Rattle.page_calls.proofs.located.AtPage.{located, locatable, searchable, api-lt, group-inside, search-is, free-is, placed-is, place-lt}
 use borrow.Author.Needs.{needs}
 use Rattle.page_calls.proofs.map_page.Statement.{statement}
 use Rattle.page_calls.proofs.map_page.Tie as tie
 
 locate-requires : tie.Need-locate-requires
-locate-requires c κs = search needs
+locate-requires c κs = locatable _ _ (c .before .pre .1)
+
+-- the groups are the page's
+at : (c : tie.After-locate) →
+    let a = c .before .before .args in
+    c .locate .result ≡ located (a .sdr1) (record { vsid = a .vsid; index = a .index })
+at c = let pre = c .before .before .pre in c .locate .ensures _ (pre .0) (pre .1)
 
 search-places-requires : tie.Need-search-places-requires
 search-places-requires c κs =
     let start = c .before .before .before in
-    searchable _ _ _ (c .before .locate .ensures) _ (start .pre .0) (start .pre .1) (start .pre .2) (start .pre .3)
+    searchable _ _ _ (at (c .before)) _ (start .pre .0) (start .pre .1) (start .pre .2) (start .pre .3)
 
 -- the search is the page's
 told : (c : tie.After-search-places) →
     let a = c .before .before .before .before .args in
     c .search-places .result .matches ≡ pageSearch (maskOnes (a .sdr1)) (a .table .now) (record { vsid = a .vsid; index = a .index })
 unfolding pairSearch
-told c = search-is _ _ _ (c .before .before .locate .ensures) _ _ (ap (λ (s : PairSearch). s .matches) (c .search-places .ensures))
+told c = search-is _ _ _ (at (c .before .before)) _ _ (ap (λ (s : PairSearch). s .matches) (c .search-places .ensures))
 
 -- the free place is that of the page's groups
 placed : (c : tie.After-free-place) →
@@ -64,7 +70,7 @@ first-word-requires : tie.Need-first-word-requires
 first-word-requires c κs =
     let l = c .before .before .before .before .before .before .before .before .before in
     let start = l .before .before in
-    (omega arith, start .pre .2, h-lt (c .before .secondary .given .0 .0), api-lt _ _ _ (l .locate .ensures) (start .pre .3))
+    (omega arith, start .pre .2, h-lt (c .before .secondary .given .0 .0), api-lt _ _ _ (at l) (start .pre .3))
 
 second-word-requires : tie.Need-second-word-requires
 second-word-requires c κs = search needs
@@ -79,7 +85,7 @@ put-entry-requires c κs =
     let l = free .before .before .before .before .before .before in
     let start = l .before .before in (
       place-lt _ _ _ _ _ (placed free) (place .secondary .given .1),
-      group-inside _ _ _ (l .locate .ensures) _ (start .pre .0) (start .pre .1) (place .secondary .given .0 .0) _ (c .group .ensures),
+      group-inside _ _ _ (at l) _ (start .pre .0) (start .pre .1) (place .secondary .given .0 .0) _ (c .group .ensures),
     )
 
 enum-told : tie.Need-enum-told
@@ -103,9 +109,9 @@ returns-2 c =
     let secondary = place .secondary .given .0 .0 in
     let entry = place .secondary .given .0 .1 .0 in
     ap (λ (t : List ℕ). ended 0 t [])
-    (placed-is _ _ _ (l .locate .ensures) _ secondary entry (g .group .result) (first .first-word .result) (second .second-word .result)
+    (placed-is _ _ _ (at l) _ secondary entry (g .group .result) (first .first-word .result) (second .second-word .result)
     (secondWord (a .rpn) 0 0 (a .wimg) (a .pp)) _ (g .group .ensures) (first .first-word .ensures) (second .second-word .ensures) (put .put-entry .ensures))
-    ∙ sym (map-placed _ _ _ _ (told s) _ _ _ _ (sym (none .before .found .ensures) ∙ none .if1 .left) secondary entry (free-is _ _ _ (l .locate .ensures) _ _ _ (placed free) (place .secondary .given .1)))
+    ∙ sym (map-placed _ _ _ _ (told s) _ _ _ _ (sym (none .before .found .ensures) ∙ none .if1 .left) secondary entry (free-is _ _ _ (at l) _ _ _ (placed free) (place .secondary .given .1)))
 
 same-length-3 : tie.Need-same-length-3
 same-length-3 c = search needs
@@ -116,7 +122,7 @@ returns-3 c =
     let none = free .before in
     let s = none .before .before .before in
     let l = s .before .before in
-    sym (map-full _ _ _ _ (told s) _ _ _ _ (sym (none .before .found .ensures) ∙ none .if1 .left) (free-is _ _ _ (l .locate .ensures) _ _ _ (placed free) (c .enum-told .given .1)))
+    sym (map-full _ _ _ _ (told s) _ _ _ _ (sym (none .before .found .ensures) ∙ none .if1 .left) (free-is _ _ _ (at l) _ _ _ (placed free) (c .enum-told .given .1)))
 
 pub map-page-spec : {M : Type 1} → statement M
 map-page-spec =

@@ -1,47 +1,99 @@
--- `page_calls::protect_page` meets its contract: where the search found a match, the edit of what it found is the overwriting of each match.
-use mathlib.Core.Path.{_≡_, sym, ap, _∙_}
+-- `page_calls::protect_page` meets its contract: where the quick search found a match, the edit by its place is the overwriting of each match.
+use mathlib.Core.Path.{_≡_, refl, sym, ap, _∙_}
 use mathlib.Core.List.{List, []}
-use Prim.Native.Nat.{ℕ}
-use borrow.Author.Tests.{not-true, not-false}
+use Prim.Native.Nat.{ℕ, _+_, _*_, _^_, _≤_, _<_}
+use lib.ListN.{length}
 use Rattle.register_words.specs.Sdr1.{maskOnes}
 use Rattle.edits.specs.declared.Edit.the-variants.{Protect}
+use Rattle.groups.specs.Group.{groupOf}
+use Rattle.matches.specs.Search.{pairMatches, onlyPlace}
+use Rattle.matches.proofs.Summaries.{only-missing, only-found}
 use Rattle.calls.specs.OnBytes.{ended}
-use Rattle.calls.proofs.PageCalls.{pageSearch, protect-missing, protect-done}
-use Rattle.page_calls.proofs.located.AtPage.{inside, searchable, groups-apart, search-is, edited-is}
+use Rattle.calls.proofs.PageCalls.{pageMatches, protect-missing, protect-done}
+use Rattle.page_calls.proofs.located.AtPage.{located, locatable, inside, searchable, groups-apart, pair-is, place-is, edited-is}
 use borrow.Author.Needs.{needs}
 use Rattle.page_calls.proofs.protect_page.Statement.{statement}
 use Rattle.page_calls.proofs.protect_page.Tie as tie
 
 locate-requires : tie.Need-locate-requires
-locate-requires c κs = search needs
+locate-requires c κs = locatable _ _ (c .before .pre .1)
 
-search-both-requires : tie.Need-search-both-requires
-search-both-requires c κs =
-    let start = c .before .before .before in
-    searchable _ _ _ (c .before .locate .ensures) _ (start .pre .0) (start .pre .1) (start .pre .2) (start .pre .3)
+-- the groups are the page's
+at : (c : tie.After-locate) →
+    let a = c .before .before .args in
+    c .locate .result ≡ located (a .sdr1) (record { vsid = a .vsid; index = a .index })
+at c = let pre = c .before .before .pre in c .locate .ensures _ (pre .0) (pre .1)
 
--- the search is the page's
-told : (c : tie.After-search-both) →
-    let a = c .before .before .before .before .args in
-    c .search-both .result ≡ pageSearch (maskOnes (a .sdr1)) (a .table .now) (record { vsid = a .vsid; index = a .index })
-told c = search-is _ _ _ (c .before .before .locate .ensures) _ _ (c .search-both .ensures)
+-- what a search of them asks
+ready : (c : tie.After-locate) →
+    let a = c .before .before .args in
+    let l = c .locate .result in
+    let n = length (a .table .now) in
+    (64 * l .primary + 64 ≤ n) × (64 * l .secondary + 64 ≤ n) × (a .vsid < 2 ^ 24) × (l .api < 2 ^ 6)
+ready c = let pre = c .before .before .pre in searchable _ _ _ (at c) _ (pre .0) (pre .1) (pre .2) (pre .3)
 
-found-requires : tie.Need-found-requires
-found-requires c κs = search needs
+mul-from : tie.Need-mul-from
+mul-from c = let (p, s, v, a) = ready (c .before) in search needs
+
+add-to : tie.Need-add-to
+add-to c = let (p, s, v, a) = ready (c .before) in search needs
+
+mul-next : tie.Need-mul-next
+mul-next c = let (p, s, v, a) = ready (c .before .before) in search needs
+
+add-end : tie.Need-add-end
+add-end c = let (p, s, v, a) = ready (c .before .before) in search needs
+
+sub-find : tie.Need-sub-find
+sub-find c = search needs
+
+part-find-start : tie.Need-part-find-start
+part-find-start c = search needs
+
+part-find-end : tie.Need-part-find-end
+part-find-end c = let (p, s, v, a) = ready (c .before .before .before) in search needs
+
+sub-find-2 : tie.Need-sub-find-2
+sub-find-2 c = search needs
+
+part-find-start-2 : tie.Need-part-find-start-2
+part-find-start-2 c = search needs
+
+part-find-end-2 : tie.Need-part-find-end-2
+part-find-end-2 c = let (p, s, v, a) = ready (c .before .before .before .before) in search needs
+
+find-requires : tie.Need-find-requires
+find-requires c κs = let (p, s, v, a) = ready (c .before .before .before .before .before) in search needs
+
+-- the place is that of the only match in the groups, and so of the page's
+module _ (c : tie.After-find) where
+  abbrev located-by : tie.After-locate
+  located-by = c .before .before .before .before .before .before
+
+  abbrev begin : tie.Start
+  begin = located-by .before .before
+
+  found-place :
+      let t = begin .args .table .now in
+      let l = located-by .locate .result in
+      c .find .result ≡ onlyPlace (pairMatches (begin .args .vsid) (l .api) (groupOf t (l .primary)) (groupOf t (l .secondary)))
+  found-place = place-is _ _ _ (at located-by) _ _ (c .find .ensures)
+
+  own-place : c .find .result ≡ onlyPlace (pageMatches (maskOnes (begin .args .sdr1)) (begin .args .table .now) (record { vsid = begin .args .vsid; index = begin .args .index }))
+  own-place = found-place ∙ ap onlyPlace (pair-is _ _ _ (at located-by) (begin .args .table .now))
 
 same-length : tie.Need-same-length
 same-length c = search needs
 
 returns : tie.Need-returns
-returns c = sym (protect-missing _ _ _ _ (told (c .before .before)) _ _ (sym (c .before .found .ensures) ∙ not-true _ (c .if1 .taken)))
+returns c = sym (protect-missing _ _ _ _ refl _ _ (only-missing _ (sym (own-place (c .before)) ∙ c .if1 .taken)))
 
-edit-found-requires : tie.Need-edit-found-requires
-edit-found-requires c κs =
-    let told = c .before .before in
-    let l = told .before .before .before in
-    let start = l .before .before in
-    let (first, second, vsid, api) = searchable _ _ _ (l .locate .ensures) _ (start .pre .0) (start .pre .1) (start .pre .2) (start .pre .3) in
-    (start .pre .4, first, second, vsid, api, groups-apart _ _ _ (l .locate .ensures), sym (told .found .ensures) ∙ not-false _ (c .before .if1 .left), told .before .search-both .ensures)
+edit-place-requires : tie.Need-edit-place-requires
+edit-place-requires c κs =
+    let f = c .before .before in
+    let l = located-by f in
+    let (p, s, v, a) = ready l in
+    (begin f .pre .4, p, s, v, a, groups-apart _ _ _ (at l), c .before .if1 .left, found-place f)
 
 same-length-2 : tie.Need-same-length-2
 same-length-2 c = search needs
@@ -49,22 +101,30 @@ same-length-2 c = search needs
 returns-2 : tie.Need-returns-2
 returns-2 c =
     let e = c .before .before in
-    let found = e .before .before .before in
-    let s = found .before in
-    let l = s .before .before in
-    let start = l .before .before in
-    ap (λ (t : List ℕ). ended 0 t []) (edited-is _ _ _ (l .locate .ensures) _ (Protect (start .args .pp)) _ (e .edit-found .ensures))
-    ∙ sym (protect-done _ _ _ _ (told s) (inside _ _ _ (start .pre .0) (start .pre .1)) (sym (found .found .ensures) ∙ not-false _ (e .before .before .if1 .left)) _ _)
+    let some = e .before .before in
+    let f = some .before in
+    let start = begin f in
+    ap (λ (t : List ℕ). ended 0 t []) (edited-is _ _ _ (at (located-by f)) _ (Protect (start .args .pp)) _ (e .edit-place .ensures))
+    ∙ sym (protect-done _ _ _ _ refl (inside _ _ _ (start .pre .0) (start .pre .1)) (only-found _ (λ z. some .if1 .left (own-place f ∙ z))) _ _)
 
 pub protect-page-spec : {M : Type 1} → statement M
 protect-page-spec =
     tie.close
     (tie.spec
     locate-requires
-    search-both-requires
-    found-requires
+    mul-from
+    add-to
+    mul-next
+    add-end
+    sub-find
+    part-find-start
+    part-find-end
+    sub-find-2
+    part-find-start-2
+    part-find-end-2
+    find-requires
     same-length
     returns
-    edit-found-requires
+    edit-place-requires
     same-length-2
     returns-2)

@@ -3,7 +3,7 @@ use borrow.Author.Needs.{needs}
 use borrow.Author.Tests.{lt-ltb}
 use mathlib.Core.Path.{_≡_, sym, ap, ap₂, _∙_}
 use mathlib.Core.List.{List}
-use Prim.Native.Nat.{ℕ, _+_, _*_, _≤_}
+use Prim.Native.Nat.{ℕ, _+_, _*_, _^_, _≤_, _<_}
 use native.Mathlib.Omega.{arith}
 use lib.ListN.{length}
 use Rattle.entry.specs.Entry.{withMarks}
@@ -23,47 +23,100 @@ use Rattle.calls.specs.OnBytes.{layout, usedBy, wantedPage, searched, searchIn,
 use Rattle.calls.proofs.OnBytes.{matches-by-groups}
 use Rattle.calls.proofs.Access.{done-by-first, late-done, marked-done, decision-noted}
 use Rattle.page_calls.proofs.located.AtPage as at-page
-use Rattle.page_calls.proofs.located.AtPage.{inside, searchable, search-is}
+use Rattle.page_calls.proofs.located.AtPage.{located, locatable, inside, searchable, place-is, search-is}
 use Rattle.table_access.specs.Part.{marked, SameMatches}
 use Rattle.table_access.proofs.by_page.Statement.{statement}
 use Rattle.table_access.proofs.by_page.Tie as tie
 
+locate-requires : tie.Need-locate-requires
+locate-requires c κs = locatable _ _ (c .before .pre .1)
+
+-- the groups are the page's
+at : (c : tie.After-locate) →
+    let a = c .before .before .args in
+    c .locate .result ≡ located (a .sdr1) (wantedPage (a .wanted))
+at c = let pre = c .before .before .pre in c .locate .ensures _ (pre .0) (pre .1)
+
+-- what a search of them asks
+ready : (c : tie.After-locate) →
+    let a = c .before .before .args in
+    let l = c .locate .result in
+    let n = length (a .table .now) in
+    (64 * l .primary + 64 ≤ n) × (64 * l .secondary + 64 ≤ n) × (a .wanted .vsid < 2 ^ 24) × (l .api < 2 ^ 6)
+ready c = let pre = c .before .before .pre in searchable _ _ _ (at c) _ (pre .0) (pre .1) (pre .2) (pre .3)
+
+mul-from : tie.Need-mul-from
+mul-from c = let (p, s, v, a) = ready (c .before) in search needs
+
+add-to : tie.Need-add-to
+add-to c = let (p, s, v, a) = ready (c .before) in search needs
+
+mul-next : tie.Need-mul-next
+mul-next c = let (p, s, v, a) = ready (c .before .before) in search needs
+
+add-end : tie.Need-add-end
+add-end c = let (p, s, v, a) = ready (c .before .before) in search needs
+
+sub-find : tie.Need-sub-find
+sub-find c = search needs
+
+part-find-start : tie.Need-part-find-start
+part-find-start c = search needs
+
+part-find-end : tie.Need-part-find-end
+part-find-end c = let (p, s, v, a) = ready (c .before .before) in search needs
+
+sub-find-2 : tie.Need-sub-find-2
+sub-find-2 c = search needs
+
+part-find-start-2 : tie.Need-part-find-start-2
+part-find-start-2 c = search needs
+
+part-find-end-2 : tie.Need-part-find-end-2
+part-find-end-2 c = let (p, s, v, a) = ready (c .before .before .before) in search needs
+
+find-requires : tie.Need-find-requires
+find-requires c κs = let (p, s, v, a) = ready (c .before .before .before .before) in search needs
+
+search-at-requires : tie.Need-search-at-requires
+search-at-requires c κs =
+    let l = c .before .before .before .before .before in
+    let (p, s, v, a) = ready l in
+    (p, s, v, a, place-is _ _ _ (at l) _ _ (c .find .ensures))
+
+abbrev located-by : tie.After-search-at → tie.After-locate
+located-by c = c .before .before .before .before .before .before
+
+abbrev begin : tie.After-search-at → tie.Start
+begin c = located-by c .before .before
+
 -- what the search noted are the page's matches
-noted-are : (c : tie.After-search-both) →
-    let a = c .before .before .before .args in
-    c .search-both .result ≡ summary (matchesOf (layout (maskOnes (a .sdr1))) (a .table .now) (wantedPage (a .wanted)))
+noted-are : (c : tie.After-search-at) →
+    let a = begin c .args in
+    c .search-at .result ≡ summary (matchesOf (layout (maskOnes (a .sdr1))) (a .table .now) (wantedPage (a .wanted)))
 noted-are c =
-    let at-locate = c .before in
-    let a = at-locate .before .before .args in
-    search-is _ _ _ (at-locate .locate .ensures) _ _ (c .search-both .ensures)
+    let a = begin c .args in
+    search-is _ _ _ (at (located-by c)) _ _ (c .search-at .ensures)
     ∙ ap summary (sym (matches-by-groups (maskOnes (a .sdr1)) (a .table .now) (wantedPage (a .wanted))))
 
 -- the outcome is that of the page's matches
 outcome-is : (c : tie.After-after-search) →
-    let a = c .before .before .before .before .before .args in
+    let a = begin (c .before .before) .args in
     c .after-search .result ≡ afterSearch (a .kind) (a .wanted .key) (searched (matchesOf (layout (maskOnes (a .sdr1))) (a .table .now) (wantedPage (a .wanted))))
 outcome-is c =
     let at-both = c .before .before in
-    let a = at-both .before .before .before .args in
+    let a = begin at-both .args in
     c .after-search .ensures ∙ ap (afterSearch (a .kind) (a .wanted .key)) (c .before .searched-of .ensures _ (noted-are at-both))
 
 -- the group is that of the first match
 group-is : (c : tie.After-group) →
     let at-both = c .before .before .before .before in
-    let a = at-both .before .before .before .args in
-    c .group .result ≡ groupNumber (10 + maskOnes (a .sdr1)) (inSecondary (at-both .search-both .result)) (wantedPage (a .wanted))
+    let a = begin at-both .args in
+    c .group .result ≡ groupNumber (10 + maskOnes (a .sdr1)) (inSecondary (at-both .search-at .result)) (wantedPage (a .wanted))
 group-is c =
     let at-both = c .before .before .before .before in
-    at-page.group-is _ _ _ (at-both .before .locate .ensures) (inSecondary (at-both .search-both .result)) (c .group .result)
+    at-page.group-is _ _ _ (at (located-by at-both)) (inSecondary (at-both .search-at .result)) (c .group .result)
     (rw (c .before .in-secondary .ensures) at (c .group .ensures))
-
-locate-requires : tie.Need-locate-requires
-locate-requires c κs = search needs
-
-search-both-requires : tie.Need-search-both-requires
-search-both-requires c κs =
-    let pre = c .before .before .pre in
-    searchable _ _ _ (c .locate .ensures) _ (pre .0) (pre .1) (pre .2) (pre .3)
 
 searched-of-requires : tie.Need-searched-of-requires
 searched-of-requires c κs = search needs
@@ -82,22 +135,22 @@ entry-requires c κs = search needs
 
 -- the group lies in the table, so its number is small
 group-inside : (c : tie.After-group) →
-    let a = c .before .before .before .before .before .before .before .args in 64 * c .group .result + 64 ≤ length (a .table .now)
+    let a = begin (c .before .before .before .before) .args in 64 * c .group .result + 64 ≤ length (a .table .now)
 group-inside c =
     let at-both = c .before .before .before .before in
-    let start = at-both .before .before .before in
-    rw (group-is c) (inside (start .args .sdr1) (wantedPage (start .args .wanted)) _ (start .pre .0) (start .pre .1) (inSecondary (at-both .search-both .result)))
+    let start = begin at-both in
+    rw (group-is c) (inside (start .args .sdr1) (wantedPage (start .args .wanted)) _ (start .pre .0) (start .pre .1) (inSecondary (at-both .search-at .result)))
 
-cast-t14 : tie.Need-cast-t14
+cast-t27 : tie.Need-cast-t27
 unfolding tableLength
-cast-t14 c =
+cast-t27 c =
     let at-group = c .before in
-    let right = at-group .before .before .before .before .before .before .before .pre .1 in
+    let right = begin (at-group .before .before .before .before) .pre .1 in
     let within = group-inside at-group in
     record { fits = omega arith }
 
-cast-t15 : tie.Need-cast-t15
-cast-t15 c = let small = summary-entry-lt (c .before .before .before .before .before .search-both .result) in let is = c .entry .ensures in record { fits = omega arith }
+cast-t28 : tie.Need-cast-t28
+cast-t28 c = let small = summary-entry-lt (c .before .before .before .before .before .search-at .result) in let is = c .entry .ensures in record { fits = omega arith }
 
 answer-of-requires : tie.Need-answer-of-requires
 answer-of-requires c κs = search needs
@@ -113,11 +166,11 @@ returns c =
     let at-group = at-entry .before in
     let at-after = at-group .before .before in
     let at-both = at-after .before .before in
-    let start = at-both .before .before .before in
+    let start = begin at-both in
     let a = start .args in
     let k = maskOnes (a .sdr1) in
     let t = a .table .now in
-    let s = at-both .search-both .result in
+    let s = at-both .search-at .result in
     let g = groupNumber (10 + k) (inSecondary s) (wantedPage (a .wanted)) in
     let outcome = outcome-is at-after in
     let late = outcome-searched (a .kind) (searchIn k t) (a .wanted) in
@@ -142,14 +195,25 @@ by-page-spec =
     tie.close
     (tie.spec
     locate-requires
-    search-both-requires
+    mul-from
+    add-to
+    mul-next
+    add-end
+    sub-find
+    part-find-start
+    part-find-end
+    sub-find-2
+    part-find-start-2
+    part-find-end-2
+    find-requires
+    search-at-requires
     searched-of-requires
     after-search-requires
     in-secondary-requires
     group-requires
     entry-requires
-    cast-t14
-    cast-t15
+    cast-t27
+    cast-t28
     answer-of-requires
     decision-of-requires
     returns)

@@ -1,13 +1,21 @@
--- `page_calls::located::locate` meets its contract: under 10 + k ones the hash names the two groups.
-use Prim.Native.Nat.{_+_}
-use Rattle.register_words.specs.Sdr1.{maskOnes, hashBits}
+-- `page_calls::located::locate` meets its contract: a table of 65,536 × 2 ^ k bytes has 2 ^ (10 + k) groups, so that its last group's number is the 10 + k
+-- ones under which the hash names the two groups.
+use mathlib.Core.Path.{_≡_, _∙_}
+use Prim.Native.Nat.{_+_, _-_, _/_, _^_}
+use native.Mathlib.Omega.{arith}
+use lib.Pow.{pow-add}
+use Rattle.register_words.specs.Sdr1.{maskOnes}
+use Rattle.register_words.proofs.Sdr1.{length-is}
 use Rattle.groups.specs.Hash.{groupNumber, groupsOf}
 use borrow.Author.Needs.{needs}
 use Rattle.page_calls.proofs.located.locate.Statement.{statement}
 use Rattle.page_calls.proofs.located.locate.Tie as tie
 
-hash-mask-requires : tie.Need-hash-mask-requires
-hash-mask-requires c κs = search needs
+sub-last : tie.Need-sub-last
+sub-last c = search needs
+
+cast-last : tie.Need-cast-last
+cast-last c = search needs
 
 hash-of-requires : tie.Need-hash-of-requires
 hash-of-requires c κs = search needs
@@ -15,30 +23,32 @@ hash-of-requires c κs = search needs
 groups-of-requires : tie.Need-groups-of-requires
 groups-of-requires c κs = search needs
 
+cast-t6 : tie.Need-cast-t6
+cast-t6 c = search needs
+
 cast-t7 : tie.Need-cast-t7
 cast-t7 c = search needs
-
-cast-t8 : tie.Need-cast-t8
-cast-t8 c = search needs
 
 api-of-requires : tie.Need-api-of-requires
 api-of-requires c κs = search needs
 
 returns : tie.Need-returns
-unfolding groupNumber groupsOf hashBits
-returns c =
-    let start = c .before .before .before .before .before .before in
+unfolding groupNumber groupsOf
+returns c sdr1 shape right =
     let g = c .before .before .before in
-    rw (g .groups-of .ensures (10 + maskOnes (start .args .sdr1)) (g .before .before .hash-mask .ensures), g .before .hash-of .ensures, c .api-of .ensures)
+    let n = 10 + maskOnes sdr1 in
+    let last : g .before .before .args .lent / 64 - 1 ≡ 2 ^ n - 1 = omega (arith, right ∙ length-is sdr1 shape, pow-add 2 10 (maskOnes sdr1)) in
+    rw (g .groups-of .ensures n last, g .before .hash-of .ensures, c .api-of .ensures)
 
 pub locate-spec : {M : Type 1} → statement M
 locate-spec =
     tie.close
     (tie.spec
-    hash-mask-requires
+    sub-last
+    cast-last
     hash-of-requires
     groups-of-requires
+    cast-t6
     cast-t7
-    cast-t8
     api-of-requires
     returns)

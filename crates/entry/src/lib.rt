@@ -46,17 +46,14 @@ pub fn second_word(rpn: u32, r: u32, c: u32, wimg: u32, pp: u32) -> u32
     (rpn << 12) | (r << 8) | (c << 7) | (wimg << 3) | pp
 }
 
-// Whether each field is within its width.
+// Whether each field is within its width. The four fields of one bit are put together by or and asked once.
 pub fn within_widths(f: Fields) -> bool
     ensures { λ r. ⌜ r ≡ withinWidths f ⌝ }
 {
-    (f.v < 2)
+    ((f.v | f.h | f.r | f.c) < 2)
         & (f.vsid < 0x1000000)
-        & (f.h < 2)
         & (f.api < 64)
         & (f.rpn < 0x100000)
-        & (f.r < 2)
-        & (f.c < 2)
         & (f.wimg < 16)
         & (f.pp < 4)
 }

@@ -9,6 +9,11 @@ pub use pages::mmu_map;
 pub use pages::mmu_protect;
 pub use pages::mmu_unmap;
 ghost use mathlib.Core.Path.{_≡_};
+ghost use mathlib.Core.List.{[], _∷_};
+ghost use lib.ListN.{length};
+ghost use Rattle.numbers.specs.Numbers.{entrySize};
+ghost use Rattle.words.specs.Words.{bytesOf};
+ghost use Rattle.entry.specs.Entry.{packed};
 ghost use Rattle.calls.specs.WithoutTable.{checkCall, setRegisterCall, packCall, unpackCall};
 
 // Checks a register page.
@@ -33,6 +38,22 @@ pub extern "C" fn mmu_set_register(registers: &mut [u8], number: u32, word: u32)
     register_pages::set_word(registers, number, word)
 }
 
+// Packs fields into the eight bytes of an entry. Zeros are written first, for they stand there where a field is past its width.
+fn write_packed(fields: entry::Fields, entry: &mut [u8]) -> u32
+    requires { ⌜ length (now entry) ≡ entrySize ⌝ }
+    ensures { λ n. ⌜ (n ≡ packed fields .0) × (now (entry .exit) ≡ bytesOf (packed fields .1 .0 ∷ packed fields .1 .1 ∷ [])) ⌝ }
+{
+    let zeros = [0, 0];
+    words::write_words(entry, &zeros);
+    let packed = entry::pack(fields);
+    if packed.result != numbers::DONE {
+        return packed.result;
+    }
+    let both = [packed.words.first, packed.words.second];
+    words::write_words(entry, &both);
+    numbers::DONE
+}
+
 // Packs nine fields into the two words of an entry.
 #[no_mangle]
 pub extern "C" fn mmu_pack(
@@ -53,7 +74,7 @@ pub extern "C" fn mmu_pack(
     if entry.len() != numbers::ENTRY_SIZE {
         return numbers::REFUSED_LENT_LENGTH;
     }
-    let packed = entry::pack(entry::Fields {
+    let fields = entry::Fields {
         v,
         vsid,
         h,
@@ -63,10 +84,8 @@ pub extern "C" fn mmu_pack(
         c,
         wimg,
         pp,
-    });
-    let both = [packed.words.first, packed.words.second];
-    words::write_words(entry, &both);
-    packed.result
+    };
+    write_packed(fields, entry)
 }
 
 // Unpacks the two words of an entry into nine fields.

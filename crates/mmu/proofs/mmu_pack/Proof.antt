@@ -1,8 +1,10 @@
--- `mmu::mmu_pack` meets its contract: two words fill eight bytes.
-use mathlib.Core.Path.{_≡_, sym}
+-- `mmu::mmu_pack` meets its contract: an entry of another length than eight bytes is left as it was.
+use mathlib.Core.Path.{_≡_, sym, ap₂, _∙_}
+use mathlib.Core.List.{List}
+use Prim.Native.Nat.{ℕ}
 use lib.ListN.{length}
 use Rattle.calls.specs.WithoutTable.{packCall}
-use Rattle.calls.proofs.Lent.{right-length, wrong-length, beside}
+use Rattle.calls.proofs.Lent.{right-length, wrong-length}
 use borrow.Author.Needs.{needs}
 use Rattle.mmu.proofs.mmu_pack.Statement.{statement}
 use Rattle.mmu.proofs.mmu_pack.Tie as tie
@@ -11,14 +13,8 @@ returns : tie.Need-returns
 unfolding packCall
 returns c = sym (wrong-length 8 _ _ (c .if1 .taken))
 
-pack-requires : tie.Need-pack-requires
-pack-requires c κs = search needs
-
-slice-aggregate-write-words : tie.Need-slice-aggregate-write-words
-slice-aggregate-write-words c = search needs
-
-write-words-requires : tie.Need-write-words-requires
-write-words-requires c κs = search needs
+write-packed-requires : tie.Need-write-packed-requires
+write-packed-requires c κs = search needs
 
 same-length : tie.Need-same-length
 same-length c = search needs
@@ -26,17 +22,9 @@ same-length c = search needs
 returns-2 : tie.Need-returns-2
 unfolding packCall
 returns-2 c =
-    let at-pack = c .before .before .before .before .before in
-    let len : length (at-pack .before .before .before .args .entry .now) ≡ 8 = at-pack .before .if1 .left in
-    rw (right-length, ← at-pack .pack .ensures) (beside _ (c .before .before .write-words .ensures))
+    let put = c .before .before .write-packed .ensures in
+    let start = c .before .before .before .before .before .before in
+    ap₂ (λ (n : ℕ) (b : List ℕ). (n, b)) (put .0) (put .1) ∙ sym (right-length 8 (start .args .entry .now) _ (c .before .before .before .before .if1 .left))
 
 pub mmu-pack-spec : {M : Type 1} → statement M
-mmu-pack-spec =
-    tie.close
-    (tie.spec
-    returns
-    pack-requires
-    slice-aggregate-write-words
-    write-words-requires
-    same-length
-    returns-2)
+mmu-pack-spec = tie.close (tie.spec returns write-packed-requires same-length returns-2)

@@ -4,7 +4,7 @@ RT ?= rt
 PREFIX ?= /usr/local
 LIBDIR ?= $(PREFIX)/lib
 INCLUDEDIR ?= $(PREFIX)/include
-VERSION := 0.8.1
+VERSION := 0.9.0
 ARCHIVE ?= target/staticlib/libmmu.a
 OUT := target/c
 C_FLAGS := -std=c99 -Wall -Wextra -pedantic -O2 -Iinclude
@@ -14,7 +14,7 @@ LOCKED := tools/locked.sh
 PACKAGE := $(LIBDIR)/cmake/mmu
 PACKAGE_FILES := mmu.pc mmuConfig.cmake mmuConfigVersion.cmake
 
-.PHONY: all demo core header test test-c test-install documents bench install package-files uninstall clean help
+.PHONY: all demo core cached header test test-c test-install documents bench install package-files uninstall clean help
 .DELETE_ON_ERROR:
 
 all: $(ARCHIVE)
@@ -31,6 +31,9 @@ demo: $(OUT)/frame_reuse
 
 core: $(OUT)/core
 	@$(OUT)/core
+
+cached: $(OUT)/cached
+	@$(OUT)/cached
 
 header: $(ARCHIVE)
 	python3 tools/check_header.py --self-test
@@ -83,6 +86,7 @@ help:
 	@echo 'make                    the archive, $(ARCHIVE), from the proved crates'
 	@echo 'make demo               builds and runs examples/frame_reuse.c: one frame lent anew to another address space'
 	@echo 'make core               builds and runs examples/core.c: a small processor core'
+	@echo 'make cached             builds and runs examples/cached.c: loads and stores with the translation cache'
 	@echo 'make test               the whole gate, .ci/run'
 	@echo 'make test-c             header and C tests under AddressSanitizer and valgrind'
 	@echo 'make test-install       installs into a temporary folder; pkg-config, CMake and uninstall'

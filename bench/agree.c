@@ -11,11 +11,11 @@
 #include <stdlib.h>
 #include <string.h>
 
-enum { CHECK, SET_REGISTER, CLEAR, MAP, UNMAP, PROTECT, LOOK, ACCESS, PACK, UNPACK, CALLS };
+enum { CHECK, SET_REGISTER, CLEAR, MAP, UNMAP, PROTECT, LOOK, ACCESS, ACCESS_CACHED, INVALIDATE, PACK, UNPACK, CALLS };
 enum { LARGEST_TABLE = 1 << 19, ROUND = 400, VSIDS = 8, PAGES = 6 };
 
-static const char *const names[CALLS] = { "check", "set_register", "clear", "map", "unmap",
-                                          "protect", "look", "access", "pack", "unpack" };
+static const char *const names[CALLS] = { "check", "set_register", "clear", "map", "unmap", "protect", "look",
+                                          "access", "access_cached", "invalidate", "pack", "unpack" };
 
 /* The results that each call can give; a 255 ends a list. */
 static const uint8_t possible[CALLS][13] = {
@@ -27,6 +27,8 @@ static const uint8_t possible[CALLS][13] = {
     { 0, 1, 2, 6, 8, 255 },
     { 0, 1, 2, 6, 8, 10, 11, 255 },
     { 0, 1, 2, 3, 4, 5, 6, 10, 11, 12, 64, 65, 255 },
+    { 0, 1, 2, 3, 4, 5, 6, 10, 11, 12, 64, 65, 255 },
+    { 0, 6, 11, 255 },
     { 0, 6, 11, 255 },
     { 0, 11, 255 },
 };
@@ -35,6 +37,7 @@ static const uint8_t possible[CALLS][13] = {
 struct lent {
     uint8_t registers[MMU_REGISTERS_SIZE_LONG + 1];
     uint8_t answer[MMU_ACCESS_ANSWER_SIZE + 1];
+    uint8_t cache[MMU_CACHE_SIZE + 1];
     uint8_t table[LARGEST_TABLE + 1];
 };
 
@@ -42,7 +45,7 @@ struct request {
     int call;
     uint32_t sdr1, vsid, page_index, rpn, wimg, pp, mode, kind, address, length, number, word;
     uint32_t v, h, api, r, c;
-    size_t registers_len, table_len, answer_len;
+    size_t registers_len, table_len, cache_len, answer_len;
 };
 
 static struct lent lent[2];
@@ -62,6 +65,9 @@ static unsigned long edges_done, edges_faulted;
 
 /* Accesses that were done or faulted, by the rule shown. */
 static unsigned long rules[MMU_RULE_DONE + 1];
+
+/* Accesses with a cache: hits by the rule shown, and those that went to the table. */
+static unsigned long hits[MMU_RULE_DONE + 1], misses;
 
 /* Looks at a page whose matches are not equal: how many were done, and how many refused as contradicting. */
 static unsigned long unequal_done, unequal_refused;
@@ -226,6 +232,24 @@ static void plant_page(uint32_t sdr1)
         plant_entry(sdr1, vsid, page);
 }
 
+/* A place of the cache that holds the page of an address, or any, or nearly does. */
+static void plant_place(uint32_t address)
+{
+    uint32_t segment = mmu_get_word(lent[0].registers, MMU_REGISTER_OFFSET(MMU_REGISTER_SEGMENT(address >> 28)));
+    uint32_t vsid = below(4) ? segment & MMU_SEGMENT_VSID : random_vsid(), words[4], i;
+    uint32_t page = below(4) ? address >> 12 & 0xFFFF : random_page();
+    size_t at = MMU_CACHE_SET_SIZE * (page % MMU_CACHE_SETS) + MMU_CACHE_PLACE_SIZE * below(2);
+    words[0] = MMU_FIRST_V | vsid << MMU_FIRST_VSID_SHIFT | below(128);
+    words[1] = random_second() | (below(2) ? MMU_SECOND_C : 0);
+    words[2] = page;
+    words[3] = below(3) ? below(2) : any();
+    if (below(3) == 0)
+        words[below(3)] ^= 1u << below(32);
+    for (i = 0; i < 4; i++)
+        mmu_put_word(lent[0].cache, at + 4 * i, words[i]);
+    memcpy(lent[1].cache + at, lent[0].cache + at, MMU_CACHE_PLACE_SIZE);
+}
+
 /* Whether the matches of a page differ in some bit of their second words. */
 static int unequal(uint32_t sdr1, uint32_t vsid, uint32_t page)
 {
@@ -251,6 +275,7 @@ static size_t answer_size(int call)
 {
     switch (call) {
     case ACCESS:
+    case ACCESS_CACHED:
         return MMU_ACCESS_ANSWER_SIZE;
     case PACK:
         return MMU_ENTRY_SIZE;
@@ -273,10 +298,10 @@ static void choose_operand(struct request *q)
 /* An access more often than the rest, a clear seldom, so that the table fills. */
 static int random_call(void)
 {
-    int call = (int)below(CALLS + 6);
+    int call = (int)below(CALLS + 10);
     if (call == CLEAR && below(40))
         call = MAP;
-    return call < CALLS ? call : ACCESS;
+    return call < CALLS ? call : call % 2 ? ACCESS : ACCESS_CACHED;
 }
 
 static struct request random_request(uint32_t sdr1)
@@ -302,6 +327,7 @@ static struct request random_request(uint32_t sdr1)
     q.c = argument(2);
     q.registers_len = rarely() ? MMU_REGISTERS_SIZE_SHORT + MMU_REGISTERS_SIZE_LONG - page_len : length(page_len);
     q.table_len = length(MMU_TABLE_SIZE(sdr1));
+    q.cache_len = length(MMU_CACHE_SIZE);
     q.answer_len = length(answer_size(q.call));
     return q;
 }
@@ -325,6 +351,7 @@ static uint32_t perform(const struct calls *calls, struct lent *l, const struct 
 {
     uint8_t *registers = slice(l->registers, q->registers_len);
     uint8_t *table = slice(l->table, q->table_len);
+    uint8_t *cache = slice(l->cache, q->cache_len);
     uint8_t *answer = slice(l->answer, q->answer_len);
     switch (q->call) {
     case CHECK:
@@ -344,6 +371,11 @@ static uint32_t perform(const struct calls *calls, struct lent *l, const struct 
     case ACCESS:
         return calls->access(registers, q->registers_len, q->mode, q->kind, q->address, q->length, table, q->table_len,
                              answer, q->answer_len);
+    case ACCESS_CACHED:
+        return calls->access_cached(registers, q->registers_len, q->mode, q->kind, q->address, q->length, table,
+                                    q->table_len, cache, q->cache_len, answer, q->answer_len);
+    case INVALIDATE:
+        return calls->invalidate(q->page_index, cache, q->cache_len);
     case PACK:
         return calls->pack(q->v, q->vsid, q->h, q->api, q->rpn, q->r, q->c, q->wimg, q->pp, answer, q->answer_len);
     default:
@@ -355,6 +387,7 @@ static int same_bytes(size_t table_size)
 {
     return memcmp(lent[0].registers, lent[1].registers, sizeof lent[0].registers) == 0
         && memcmp(lent[0].answer, lent[1].answer, sizeof lent[0].answer) == 0
+        && memcmp(lent[0].cache, lent[1].cache, sizeof lent[0].cache) == 0
         && memcmp(lent[0].table, lent[1].table, table_size + 1) == 0;
 }
 
@@ -372,11 +405,27 @@ static void note_answer(const struct request *q, uint32_t number)
         blocks[is_long(q->registers_len)][answer.detail]++;
 }
 
+/* Counts an access with a cache by whether the part that answers hit. */
+static void note_hit(uint32_t number)
+{
+    struct mmu_answer answer = mmu_read_answer(lent[0].answer);
+    if (number != MMU_DONE && number < MMU_DATA_STORAGE_FAULT)
+        return;
+    if (answer.entry == MMU_HIT_ENTRY)
+        hits[answer.rule]++;
+    else
+        misses += answer.rule >= MMU_RULE_GUARDED;
+}
+
 static void step(uint32_t sdr1)
 {
     struct request q = random_request(sdr1);
     uint32_t numbers[2];
     choose_word(&q);
+    if (q.call == ACCESS_CACHED && below(2)) {
+        plant_place(q.address);
+        plant_place(q.address + 0x80);
+    }
     numbers[0] = perform(&library, &lent[0], &q);
     numbers[1] = perform(&contender, &lent[1], &q);
     if (numbers[0] != numbers[1] || !same_bytes(MMU_TABLE_SIZE(sdr1))) {
@@ -389,6 +438,8 @@ static void step(uint32_t sdr1)
         seen_on[is_long(q.registers_len)][q.call == ACCESS ? 2 : q.call][numbers[0] < 66 ? numbers[0] : 0]++;
     if (q.call == ACCESS)
         note_answer(&q, numbers[0]);
+    if (q.call == ACCESS_CACHED)
+        note_hit(numbers[0]);
     if (q.call == LOOK && numbers[0] == MMU_DONE)
         unequal_done += unequal(q.sdr1, q.vsid, q.page_index);
     if (q.call == LOOK && numbers[0] == MMU_REFUSED_CONTRADICTION)
@@ -403,6 +454,7 @@ static void start_round(uint32_t sdr1)
         memset(lent[i].table, 0, sizeof lent[i].table);
         lent[i].table[MMU_TABLE_SIZE(sdr1)] = 0xA5;
         memset(lent[i].answer, 0xA5, sizeof lent[i].answer);
+        memset(lent[i].cache, 0, sizeof lent[i].cache);
     }
     page_len = below(2) ? MMU_REGISTERS_SIZE_LONG : MMU_REGISTERS_SIZE_SHORT;
     random_registers(sdr1);
@@ -447,6 +499,9 @@ static int report(int small)
     missed += (edges_done == 0) + (edges_faulted == 0);
     printf("looks at unequal matches: %lu done, %lu refused\n", unequal_done, unequal_refused);
     missed += (unequal_done == 0) + (unequal_refused == 0);
+    printf("accesses with a cache: hits by rule 4:%lu 5:%lu 6:%lu, by the table %lu\n", hits[4], hits[5], hits[6],
+           misses);
+    missed += (hits[4] == 0) + (hits[5] == 0) + (hits[6] == 0) + (misses == 0);
     printf("by rule:");
     for (i = 0; i <= (int)MMU_RULE_DONE; i++) {
         printf(" %d:%lu", i, rules[i]);

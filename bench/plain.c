@@ -1,5 +1,5 @@
 /*
- * The ten calls of docs/RULES.md in portable C, written for speed: the contender of the benchmarks.
+ * The twelve calls of docs/RULES.md in portable C, written for speed: the contender of the benchmarks.
  * It makes the library's checks in the library's order and shares no code with it.
  */
 #include "plain.h"
@@ -22,7 +22,7 @@
 
 enum { FETCH, LOAD, STORE };
 enum { RULE_REAL, RULE_BLOCK, RULE_NO_EXECUTE, RULE_NO_MATCH, RULE_GUARDED, RULE_PROTECTION, RULE_DONE };
-enum { SHORT_PAGE = 132, LONG_PAGE = 196, SEGMENTS = 4, PAIRS = 68, RECORD = 32 };
+enum { SHORT_PAGE = 132, LONG_PAGE = 196, SEGMENTS = 4, PAIRS = 68, RECORD = 32, CACHE = 2048, HIT_ENTRY = 8 };
 
 #define NO_MATCH 0x40000000u
 #define NO_EXECUTE 0x10000000u
@@ -574,21 +574,28 @@ INLINE int allowed(uint32_t kind, uint32_t detail)
     return 0x47EFEFu >> (8 * kind + detail) & 1;
 }
 
-/* An access, the pairs of its side, and where they begin by the quick test; EVERYWHERE if that left the page open. */
+/*
+ * An access, the pairs of its side, and where they begin by the quick test; EVERYWHERE if that left the page open. The
+ * cache is NULL in an access without one.
+ */
 struct access {
     const uint8_t *registers, *pairs;
     uint32_t count, mode, kind;
     uint64_t begins;
     uint8_t *table;
     size_t table_len;
-    uint8_t *answer;
+    uint8_t *answer, *cache;
 };
 
-/* Which part of the operand is translated, and which entry did it, to be marked when the whole operand is done. */
+/*
+ * Which part of the operand is translated, and which entry did it, to be marked when the whole operand is done; then it
+ * is loaded into this place of the cache.
+ */
 struct part {
     int second;
     uint32_t address;
     uint8_t *entry;
+    uint32_t place;
 };
 
 /* A done part: the first one's words 0 to 3, the second one's words 4 and 5. */
@@ -615,10 +622,10 @@ INLINE uint32_t fault(const struct access *access, const struct part *part, uint
     return answer_words(access->answer, 64, access->kind == STORE ? cause | STORING : cause, 0x300, part->address);
 }
 
-/* What the entry of the first match says: steps 5 to 7. */
-INLINE uint32_t by_entry(const struct access *access, struct part *part, struct match match, uint32_t segment)
+/* What the second word of the first match, or of a loaded entry, says: steps 5 to 7. */
+INLINE uint32_t by_entry(const struct access *access, const struct part *part, uint32_t second, struct match match,
+                         uint32_t segment)
 {
-    uint32_t second = word_at(match.entry + 4);
     uint32_t key = (access->mode & 4 ? segment >> 27 : segment >> 28) & 4, detail = key | (second & 3);
     if (access->kind == FETCH && second & 8) {
         show(access, RULE_GUARDED, 0, match.group, match.number);
@@ -630,7 +637,6 @@ INLINE uint32_t by_entry(const struct access *access, struct part *part, struct 
     }
     if (!part->second)
         show(access, RULE_DONE, detail, match.group, match.number);
-    part->entry = match.entry;
     return done(access, part, ((second ^ part->address) & 0xFFFFF000) ^ part->address, second >> 3 & 15);
 }
 
@@ -646,18 +652,59 @@ INLINE struct match first_match(const struct access *access, struct groups group
     return match;
 }
 
-/* Steps 3 and 4. */
+/* Whether a place of the cache holds a page: V and VSID of the first word, and the whole third word. */
+INLINE int holds(const uint8_t *place, uint32_t vsid, uint32_t page_index)
+{
+    return (raw_at(place) & raw_of(0xFFFFFF80u)) == raw_of(0x80000000u | vsid << 7)
+        && raw_at(place + 8) == raw_of(page_index);
+}
+
+/* The place that a page of the set would take: place 1 where place 0 alone has the newer load. */
+INLINE uint32_t older(const uint8_t *cache, uint32_t set)
+{
+    return set + (raw_at(cache + set + 12) == raw_of(1) && raw_at(cache + set + 28) != raw_of(1) ? 16 : 0);
+}
+
+/* Asks the cache for the part's page: whether it hits, and which place answers or is to be loaded. */
+INLINE int hits(const struct access *access, struct part *part, uint32_t vsid, uint32_t page_index)
+{
+    uint32_t set = (page_index & 63) * 32;
+    if (holds(access->cache + set, vsid, page_index))
+        part->place = set;
+    else if (holds(access->cache + set + 16, vsid, page_index))
+        part->place = set + 16;
+    else {
+        part->place = older(access->cache, set);
+        return 0;
+    }
+    return access->kind != STORE || access->cache[part->place + 7] & 0x80;
+}
+
+/* What a hit answers: the group that the loaded H names, and no entry's number. */
+INLINE uint32_t by_hit(const struct access *access, const struct part *part, uint32_t vsid, uint32_t page_index,
+                       uint32_t segment)
+{
+    const uint8_t *place = access->cache + part->place;
+    uint32_t last = ((uint32_t)access->table_len - 64) >> 6;
+    struct match match = { NULL, ((vsid ^ page_index) & last) ^ (place[3] & 0x40 ? last : 0), HIT_ENTRY };
+    return by_entry(access, part, word_at(place + 4), match, segment);
+}
+
+/* Steps 3 and 4; the cache is asked before the table. */
 INLINE uint32_t by_page(const struct access *access, struct part *part)
 {
-    uint32_t segment = word_at(access->registers + SEGMENTS + 4 * (part->address >> 28));
+    uint32_t segment = word_at(access->registers + SEGMENTS + 4 * (part->address >> 28)), result;
     uint32_t vsid = segment & 0xFFFFFF, page_index = part->address >> 12 & 0xFFFF;
-    struct groups groups = groups_of(vsid, page_index, access->table, access->table_len);
+    struct groups groups;
     struct match match;
     enum found found;
     if (access->kind == FETCH && segment & 0x10000000) {
         show(access, RULE_NO_EXECUTE, 0, 0, 0);
         return fault(access, part, NO_EXECUTE);
     }
+    if (access->cache != NULL && hits(access, part, vsid, page_index))
+        return by_hit(access, part, vsid, page_index, segment);
+    groups = groups_of(vsid, page_index, access->table, access->table_len);
     found = find(&match, groups);
     if (found == NONE) {
         show(access, RULE_NO_MATCH, 0, 0, 0);
@@ -670,7 +717,10 @@ INLINE uint32_t by_page(const struct access *access, struct part *part)
             return refuse(access->answer, 10);
         }
     }
-    return by_entry(access, part, match, segment);
+    result = by_entry(access, part, word_at(match.entry + 4), match, segment);
+    if (result == 0)
+        part->entry = match.entry;
+    return result;
 }
 
 /* The block with this number, which holds the address. */
@@ -710,13 +760,24 @@ INLINE uint32_t translate(const struct access *access, struct part *part)
     return by_page(access, part);
 }
 
-INLINE void mark(const struct part *part, uint32_t kind)
+/* Marks the entry that did a part, and loads it into the cache, where it is the newer of its set. */
+INLINE void mark(const struct access *access, const struct part *part)
 {
+    uint32_t second;
     if (part->entry == NULL)
         return;
-    part->entry[6] |= 1;
-    if (kind == STORE)
-        part->entry[7] |= 0x80;
+    if (access->cache == NULL) {
+        part->entry[6] |= 1;
+        if (access->kind == STORE)
+            part->entry[7] |= 0x80;
+        return;
+    }
+    second = raw_at(part->entry + 4) | (access->kind == STORE ? raw_of(0x180) : raw_of(0x100));
+    memcpy(part->entry + 4, &second, 4);
+    memcpy(access->cache + part->place, part->entry, 4);
+    memcpy(access->cache + part->place + 4, &second, 4);
+    put_words(access->cache + part->place + 8, part->address >> 12 & 0xFFFF, 1);
+    put_word(access->cache + (part->place ^ 16) + 12, 0);
 }
 
 /* Words 4 to 7 of an answer without a second part. */
@@ -748,22 +809,22 @@ INLINE uint32_t real(uint8_t *answer, uint32_t address, uint32_t length, uint32_
 /* An operand with so many bytes before a page edge. */
 INLINE uint32_t over_edge(const struct access *access, uint32_t address, uint32_t length, uint32_t bytes)
 {
-    struct part first = { 0, address, NULL }, second = { 1, address + bytes, NULL };
+    struct part first = { 0, address, NULL, 0 }, second = { 1, address + bytes, NULL, 0 };
     uint32_t result = translate(access, &first);
     if (result == 0)
         result = translate(access, &second);
     if (result != 0)
         return no_second(access->answer, result, 0);
-    mark(&first, access->kind);
-    mark(&second, access->kind);
+    mark(access, &first);
+    mark(access, &second);
     put_words(access->answer + 24, bytes, length - bytes);
     return 0;
 }
 
-/* An access whose page and answer have a right length. */
+/* An access whose page, cache and answer have a right length. */
 INLINE uint32_t access_with(struct access *access, uint32_t address, uint32_t length)
 {
-    struct part part = { 0, address, NULL };
+    struct part part = { 0, address, NULL, 0 };
     uint32_t result, bytes = 0x1000 - (address & 0xFFF);
     uint64_t begins[2];
     int data = access->kind != FETCH;
@@ -786,20 +847,43 @@ INLINE uint32_t access_with(struct access *access, uint32_t address, uint32_t le
     if (length > bytes)
         return over_edge(access, address, length, bytes);
     result = translate(access, &part);
-    mark(&part, access->kind);
+    mark(access, &part);
     return no_second(access->answer, result, length);
 }
 
 uint32_t PLAIN(access)(const uint8_t *registers, size_t registers_len, uint32_t mode, uint32_t kind, uint32_t address,
                        uint32_t length, uint8_t *table, size_t table_len, uint8_t *answer, size_t answer_len)
 {
-    struct access of_short = { registers, NULL, 4, mode, kind, 0, table, table_len, answer };
-    struct access of_long = { registers, NULL, 8, mode, kind, 0, table, table_len, answer };
+    struct access of_short = { registers, NULL, 4, mode, kind, 0, table, table_len, answer, NULL };
+    struct access of_long = { registers, NULL, 8, mode, kind, 0, table, table_len, answer, NULL };
     if (answer_len != 48)
         return 11;
     if (registers_len == SHORT_PAGE)
         return access_with(&of_short, address, length);
     return registers_len == LONG_PAGE ? access_with(&of_long, address, length) : 11;
+}
+
+uint32_t PLAIN(access_cached)(const uint8_t *registers, size_t registers_len, uint32_t mode, uint32_t kind,
+                              uint32_t address, uint32_t length, uint8_t *table, size_t table_len, uint8_t *cache,
+                              size_t cache_len, uint8_t *answer, size_t answer_len)
+{
+    struct access of_short = { registers, NULL, 4, mode, kind, 0, table, table_len, answer, cache };
+    struct access of_long = { registers, NULL, 8, mode, kind, 0, table, table_len, answer, cache };
+    if (answer_len != 48 || cache_len != CACHE)
+        return 11;
+    if (registers_len == SHORT_PAGE)
+        return access_with(&of_short, address, length);
+    return registers_len == LONG_PAGE ? access_with(&of_long, address, length) : 11;
+}
+
+uint32_t PLAIN(invalidate)(uint32_t page_index, uint8_t *cache, size_t cache_len)
+{
+    if (cache_len != CACHE)
+        return 11;
+    if (page_index > 0xFFFF)
+        return 6;
+    memset(cache + (page_index & 63) * 32, 0, 32);
+    return 0;
 }
 
 /* ---- Packing ---------------------------------------------------------------------------------- */

@@ -11,6 +11,15 @@ from pathlib import Path
 HEAD = ["row", "library", "plain C", "ratio", "library ns", "plain C ns", "ratio"]
 # A tenth more than the plain C is what has to be explained.
 LIMIT = 1.1
+# Each access with a cache, and the same access without one.
+CACHED = [
+    ("access with a cache, hit", "access, page hit, primary entry 0"),
+    ("access with a cache, hit, blocks off", "access, page hit, primary entry 0, blocks off"),
+    ("access with a cache, miss", "access, page hit, primary entry 0"),
+    ("access with a cache, miss, blocks off", "access, page hit, primary entry 0, blocks off"),
+]
+# What a hit may take of the same access without a cache, and how many instructions a miss may take more.
+HIT_GOAL, MISS_GOAL = 0.90, 60
 
 
 def fields(path):
@@ -100,6 +109,24 @@ def over_limit(rows):
     return "More than a tenth more instructions than the plain C: " + "; ".join(over) + "."
 
 
+def beside_access(rows):
+    """A table of each access with a cache beside the same access of the same build without one, and what misses a goal."""
+    by_name = {row[0]: row for row in rows}
+    lines = ["| access with a cache | library | without | ratio | more | plain C | without | ratio | more |",
+             "|---|---:|---:|---:|---:|---:|---:|---:|---:|"]
+    missed = []
+    for name, same in CACHED:
+        cells = [name.removeprefix("access with a cache, ")]
+        for with_cache, without in zip(by_name[name][1:3], by_name[same][1:3]):
+            cells += [f"{with_cache:.0f}", f"{without:.0f}", f"{with_cache / without:.2f}", f"{with_cache - without:+.0f}"]
+        lines.append("| " + " | ".join(cells) + " |")
+        library, access = by_name[name][1], by_name[same][1]
+        if ", hit" in name and library > HIT_GOAL * access or ", miss" in name and library - access > MISS_GOAL:
+            missed.append(name)
+    goal = f"The goal is at most {HIT_GOAL:.2f} of the access for a hit and {MISS_GOAL} instructions more for a miss: "
+    return "\n".join(lines), goal + ("missed in " + "; ".join(missed) if missed else "met in all four") + "."
+
+
 def document(directory, rows):
     machine = dict(fields(directory / "machine.txt"))
     agreed = (directory / "agree.txt").read_text().splitlines()[0]
@@ -107,16 +134,20 @@ def document(directory, rows):
     parts = [
         "# Benchmarks",
         "Made by `bench/run.sh --write`; `make bench` prints the same table.",
-        "The contender is `bench/plain.c`: the ten calls in portable C with the same checks, written for speed. Before the "
+        "The contender is `bench/plain.c`: the twelve calls in portable C with the same checks, written for speed. Before the "
         f"timing both are held against each other: {agreed}.",
         "Instructions are those of one call, counted by callgrind inside the call alone; they repeat exactly. Nanoseconds are the "
         "least of 200 rounds in which the two take turns. The register page is the short one where a row does not say \"long page\". "
         "In all access rows but those marked \"blocks off\" every block pair is on, on each side of 256 MB, 16 MB, 1 MB and 128 KB; "
         "a long page has each of these lengths twice a side. An access checks the whole register page each time. It is to one byte, "
-        "and over a page edge to eight, four in each page.",
+        "and over a page edge to eight, four in each page. With a cache, a hit is of a page that was loaded, and before each miss "
+        "the page's set is emptied.",
         markdown_table(rows),
         "![The library beside plain C](benchmarks.svg)",
         over_limit(rows),
+        "## An access with a cache beside the same access without one",
+        "Instructions of the same build, the page at its first place, both groups full.",
+        *beside_access(rows),
     ]
     if notes.exists():
         parts.append(notes.read_text().rstrip())
@@ -132,6 +163,7 @@ def main():
     rows = read_rows(directory)
     print(text_table(rows))
     print(over_limit(rows))
+    print(*beside_access(rows), sep="\n")
     if "--write" in sys.argv[2:]:
         Path("docs").mkdir(exist_ok=True)
         Path("docs/BENCHMARKS.md").write_text(document(directory, rows))

@@ -34,6 +34,7 @@ struct bench {
     uint8_t access_answer[MMU_ACCESS_ANSWER_SIZE];
     uint8_t fields[MMU_FIELDS_SIZE];
     uint8_t packed[MMU_ENTRY_SIZE];
+    uint8_t cache[MMU_CACHE_SIZE];
     uint8_t *table;
     size_t table_len;
     uint8_t *entries[2];
@@ -65,6 +66,13 @@ static inline uint32_t access_at(struct bench *bench, const struct calls *calls,
                          bench->table, bench->table_len, bench->access_answer, MMU_ACCESS_ANSWER_SIZE);
 }
 
+static inline uint32_t cached_at(struct bench *bench, const struct calls *calls, uint32_t address)
+{
+    return calls->access_cached(bench->registers, bench->registers_len, bench->mode, bench->kind, address,
+                                bench->length, bench->table, bench->table_len, bench->cache, MMU_CACHE_SIZE,
+                                bench->access_answer, MMU_ACCESS_ANSWER_SIZE);
+}
+
 /* ---- Preparing -------------------------------------------------------------------------------- */
 
 static void set(struct bench *bench, uint32_t number, uint32_t word)
@@ -78,6 +86,7 @@ static void start_on(struct bench *bench, size_t registers_len, uint32_t sdr1)
 {
     uint32_t i;
     memset(bench->registers, 0, sizeof bench->registers);
+    memset(bench->cache, 0, sizeof bench->cache);
     bench->registers_len = registers_len;
     bench->sdr1 = sdr1;
     bench->table_len = MMU_TABLE_SIZE(sdr1);
@@ -243,6 +252,26 @@ static void block_hit(struct bench *bench)
                 && mmu_get_word(bench->access_answer, MMU_ANSWER_DETAIL) == 3, "the fourth block is not hit");
 }
 
+/* The page is at its first place and in the cache, so that each access by the cache hits. */
+static void load_cache(struct bench *bench)
+{
+    cached_at(bench, &contender, bench->address);
+    cached_at(bench, &contender, bench->address);
+    require(mmu_get_word(bench->access_answer, MMU_ANSWER_ENTRY) == MMU_HIT_ENTRY, "the cache is not hit");
+}
+
+static void cache_hit(struct bench *bench)
+{
+    page_at(bench, 0);
+    load_cache(bench);
+}
+
+static void cache_hit_blocks_off(struct bench *bench)
+{
+    blocks_off(bench);
+    load_cache(bench);
+}
+
 static void storing(struct bench *bench)
 {
     page_at(bench, 0);
@@ -355,6 +384,33 @@ static uint32_t run_store(struct bench *bench, const struct calls *calls, uint32
     return sum;
 }
 
+static uint32_t run_cached(struct bench *bench, const struct calls *calls, uint32_t count)
+{
+    uint32_t sum = 0;
+    while (count-- > 0)
+        sum += cached_at(bench, calls, bench->address);
+    return sum;
+}
+
+/* The page's set is emptied before each access, so that each is loaded anew. */
+static uint32_t run_cached_miss(struct bench *bench, const struct calls *calls, uint32_t count)
+{
+    uint32_t sum = 0;
+    while (count-- > 0) {
+        memset(bench->cache + MMU_CACHE_SET_SIZE * (PAGE_INDEX % MMU_CACHE_SETS), 0, MMU_CACHE_SET_SIZE);
+        sum += cached_at(bench, calls, bench->address);
+    }
+    return sum;
+}
+
+static uint32_t run_invalidate(struct bench *bench, const struct calls *calls, uint32_t count)
+{
+    uint32_t sum = 0;
+    while (count-- > 0)
+        sum += calls->invalidate(PAGE_INDEX + count % 2, bench->cache, MMU_CACHE_SIZE);
+    return sum;
+}
+
 static uint32_t run_working_set(struct bench *bench, const struct calls *calls, uint32_t count)
 {
     uint32_t sum = 0;
@@ -447,6 +503,11 @@ static const struct row rows[] = {
     { "access over a page edge, a store that sets C twice", storing_over_edge, run_store, MMU_DONE, 16 },
     { "access, random pages, 64 KB table", working_set_small, run_working_set, MMU_DONE, ACCESSES },
     { "access, random pages, 512 KB table", working_set_large, run_working_set, MMU_DONE, ACCESSES },
+    { "access with a cache, hit", cache_hit, run_cached, MMU_DONE, 16 },
+    { "access with a cache, hit, blocks off", cache_hit_blocks_off, run_cached, MMU_DONE, 16 },
+    { "access with a cache, miss", primary_0, run_cached_miss, MMU_DONE, 16 },
+    { "access with a cache, miss, blocks off", blocks_off, run_cached_miss, MMU_DONE, 16 },
+    { "invalidate", cache_hit, run_invalidate, MMU_DONE, 16 },
     { "map and unmap, empty groups", empty_groups, run_map_unmap, MMU_DONE, 16 },
     { "map and unmap, only secondary entry 7 free", last_place_free, run_map_unmap, MMU_DONE, 16 },
     { "protect", primary_0, run_protect, MMU_DONE, 16 },

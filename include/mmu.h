@@ -1,6 +1,7 @@
 /*
  * mmu.h - address translation of a 32-bit PowerPC: register set (SDR1, segment registers, BATs), hashed page
- * table, access check. A core calls mmu_access for each load, store and fetch and takes the DSI or ISI it tells.
+ * table, access check, translation cache. A core calls mmu_access or mmu_access_cached for each load, store and fetch
+ * and takes the DSI or ISI it tells.
  *
  * Link with libmmu.a. docs/C-GUIDE.md tells how to use the calls; README.md has the manual's words beside ours.
  *
@@ -20,7 +21,7 @@ extern "C" {
 
 /* The version; CHANGELOG.md says what a caller must change from one to the next. */
 #define MMU_VERSION_MAJOR 0
-#define MMU_VERSION_MINOR 8
+#define MMU_VERSION_MINOR 9
 
 /* ---- Results ---------------------------------------------------------------------------------- */
 
@@ -28,7 +29,7 @@ extern "C" {
 #define MMU_DATA_STORAGE_FAULT 64u        /* DSI: a load or a store is not allowed or not mapped. */
 #define MMU_INSTRUCTION_STORAGE_FAULT 65u /* ISI: a fetch is not allowed or not mapped. */
 
-/* Refusals: table and registers are left as they were. */
+/* Refusals: table, cache and registers are left as they were. */
 #define MMU_REFUSED_TABLE_LENGTH 1u   /* Table length wrong: the lent table is not as long as SDR1 says. */
 #define MMU_REFUSED_SDR1 2u           /* SDR1 shape: a reserved bit, a gap in the mask, or an origin bit under it. */
 #define MMU_REFUSED_BLOCK 3u          /* Block shape: a pair that is on breaks a rule of block words. */
@@ -39,7 +40,7 @@ extern "C" {
 #define MMU_REFUSED_NO_MATCH 8u       /* The page has no match (unmap, protect, look). */
 #define MMU_REFUSED_FULL 9u           /* Map: all 16 entries of the page's two groups have V = 1. */
 #define MMU_REFUSED_CONTRADICTION 10u /* Contradicting matches: RPN, WIMG or PP differs (access, look). */
-#define MMU_REFUSED_LENT_LENGTH 11u   /* Registers, answer, entry or fields of a wrong length; nothing is written. */
+#define MMU_REFUSED_LENT_LENGTH 11u /* Registers, cache, answer, entry or fields of another length; none is written. */
 #define MMU_REFUSED_OPERAND_LENGTH 12u /* Access: an operand of 0 or over MMU_LONGEST_OPERAND bytes. */
 
 /* ---- An access -------------------------------------------------------------------------------- */
@@ -112,7 +113,7 @@ extern "C" {
 #define MMU_ANSWER_RULE 32u   /* Rule, MMU_RULE_REAL to MMU_RULE_DONE. */
 #define MMU_ANSWER_DETAIL 36u /* Rule 1: number of the block pair on its side, from 0; 5 and 6: key * 4 + PP; else 0. */
 #define MMU_ANSWER_GROUP 40u  /* Rules 4 to 6: number of the group (PTEG) where the entry used stands; else 0. */
-#define MMU_ANSWER_ENTRY 44u  /* Rules 4 to 6: number of that entry in the group, 0 to 7; else 0. */
+#define MMU_ANSWER_ENTRY 44u  /* Rules 4 to 6: number of that entry in the group, 0 to 7, MMU_HIT_ENTRY; else 0. */
 
 /* ---- Register page: 33 words, or 49 ------------------------------------------------------------ */
 
@@ -207,7 +208,21 @@ extern "C" {
 #define MMU_FIELD_WIMG 28u  /* Byte offset of WIMG, below 16. */
 #define MMU_FIELD_PP 32u    /* Byte offset of PP, below 4. */
 
-/* ---- The ten calls ---------------------------------------------------------------------------- */
+/* ---- Translation cache (TLB): 64 sets of two places --------------------------------------------- */
+
+/*
+ * The cache of mmu_access_cached and mmu_invalidate. Set s, of page indexes that end in the six bits s, has the bytes
+ * from 32 * s on: place 0, then place 1, four words each, an entry's two words, the page index, and 1 for the newer
+ * load, else 0. Zeros are an empty cache. Any bytes are taken, but only a cache that began as zeros, and that these two
+ * calls alone wrote, keeps the promise of mmu_access_cached.
+ */
+#define MMU_CACHE_SIZE 2048u    /* Length of the cache in bytes. */
+#define MMU_CACHE_SETS 64u      /* Sets of the cache: invalidates of 0 to 63 meet them all. */
+#define MMU_CACHE_SET_SIZE 32u  /* Length of a set in bytes. */
+#define MMU_CACHE_PLACE_SIZE 16u /* Length of a place in bytes. */
+#define MMU_HIT_ENTRY 8u        /* The entry number in the answer where the cache answered: no entry was looked for. */
+
+/* ---- The twelve calls ------------------------------------------------------------------------- */
 
 /* Each returns MMU_DONE, a refusal or, an access alone, a fault. Of several refusals that hold, the first is told. */
 
@@ -304,6 +319,38 @@ uint32_t mmu_access(const uint8_t *registers, size_t registers_len, uint32_t mod
                     uint32_t length, uint8_t *table, size_t table_len, uint8_t *answer, size_t answer_len);
 
 /*
+ * Access with a translation cache: the access of mmu_access, but a page that the cache holds (V, VSID and page index,
+ * place 0 first) is answered by the entry as loaded. Such a hit reads no byte of the table and writes none of table or
+ * cache. A store to a loaded entry with C clear is no hit and goes to the table. Where every part is done, each page
+ * that was taken from the table is loaded, its two words as marked: into the place that holds it, else into place 1
+ * where place 0 alone has the newer load, else into place 0. It becomes the newer load. The answer is that of
+ * mmu_access; after a hit its entry number is MMU_HIT_ENTRY and its group the one that the loaded H names.
+ *   registers, mode, kind, address, length  as for mmu_access
+ *   table      the table, MMU_TABLE_SIZE(SDR1 of the page) bytes, though every page may hit
+ *   cache      the cache, MMU_CACHE_SIZE bytes, read and written
+ *   answer     MMU_ACCESS_ANSWER_SIZE bytes, written; mmu_read_answer reads it
+ * The promise: result, table and answer, but its entry number, are those of mmu_access, if the cache began as zeros and
+ * is lent with this table alone, if each mmu_unmap and mmu_protect that was done is followed by mmu_invalidate of its
+ * page index, and each mmu_clear by those of 0 to 63, all done, before the next access with the cache, and if nobody
+ * else writes table or cache.
+ * Faults: MMU_DATA_STORAGE_FAULT of a load or store, MMU_INSTRUCTION_STORAGE_FAULT of a fetch.
+ * Refusals: MMU_REFUSED_LENT_LENGTH (the cache's too), MMU_REFUSED_ARGUMENT (mode, kind), MMU_REFUSED_OPERAND_LENGTH,
+ *   MMU_REFUSED_SDR1, MMU_REFUSED_BLOCK, MMU_REFUSED_BLOCKS_SHARE, MMU_REFUSED_SEGMENT, MMU_REFUSED_TABLE_LENGTH,
+ *   MMU_REFUSED_CONTRADICTION.
+ */
+uint32_t mmu_access_cached(const uint8_t *registers, size_t registers_len, uint32_t mode, uint32_t kind,
+                           uint32_t address, uint32_t length, uint8_t *table, size_t table_len, uint8_t *cache,
+                           size_t cache_len, uint8_t *answer, size_t answer_len);
+
+/*
+ * Invalidate: zeroes the set of a page index in the cache, both places, whatever pages they hold.
+ *   page_index  below 2^16; its low six bits are the set's number
+ *   cache       the cache, MMU_CACHE_SIZE bytes
+ * Refusals: MMU_REFUSED_LENT_LENGTH, MMU_REFUSED_ARGUMENT.
+ */
+uint32_t mmu_invalidate(uint32_t page_index, uint8_t *cache, size_t cache_len);
+
+/*
  * Packs nine fields into the two words of an entry; two zero words after MMU_REFUSED_ARGUMENT.
  *   v, h, r, c       0 or 1
  *   vsid, rpn        below 2^24, below 2^20
@@ -358,8 +405,8 @@ struct mmu_answer {
     uint32_t second_bytes;      /* How many they are; 0 where the operand lies within one page. */
     uint32_t rule;              /* MMU_RULE_.., of an access that is done or a fault. */
     uint32_t detail;            /* Rule 1: number of the block pair; rules 5 and 6: mmu_detail_key and mmu_detail_pp. */
-    uint32_t group;             /* Rules 4 to 6: group of the entry used; it is at MMU_ENTRY_OFFSET(group, entry). */
-    uint32_t entry;             /* Rules 4 to 6: its number in the group. */
+    uint32_t group;             /* Rules 4 to 6: group of the entry used, which is at MMU_ENTRY_OFFSET(group, entry). */
+    uint32_t entry;             /* Rules 4 to 6: its number in the group, or MMU_HIT_ENTRY. */
 };
 
 /* Reads the MMU_ACCESS_ANSWER_SIZE bytes that an access wrote; after MMU_REFUSED_LENT_LENGTH it wrote none. */

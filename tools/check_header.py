@@ -172,7 +172,7 @@ def refusals_in_tally(tally):
     if not table:
         raise Unreadable("tally.rs: no table NUMBERS")
     rows = re.findall(r'\("(\w+)", &\[([^\]]*)\]\)', table.group(1))
-    names = {"set": "set_register"}
+    names = {"set": "set_register", "cached": "access_cached"}
     return {"mmu_" + names.get(call, call): {int(number) for number in numbers.split(",")} - {0, 64, 65}
             for call, numbers in rows}
 

@@ -11,7 +11,7 @@ arrangement exists: its type says that it is right).
     definitions.py --list      each definition and its lines
 
 A line counts if it is text: imports, comments, empty lines, `module` and `unfolding` lines do not. Statements are counted apart. A name that two
-definitions have fails the tool, and so does a file that the reading order below does not place.
+definitions have fails the tool (rows have names of their own), and so does a file that the reading order below does not place.
 """
 import collections
 import glob
@@ -28,6 +28,8 @@ START = [
     ("calls", "OnBytes", ["ended", "onBytes"]),
     ("calls", "WithoutTable", ["checkCall", "setRegisterCall", "packCall", "unpackCall"]),
     ("calls", "Demands", ["Demands"]),
+    ("cached_calls", "Cached", ["onCached", "invalidateCall"]),
+    ("cached_calls", "Demands", ["CachedDemands"]),
 ]
 ROWS = {"Tables", "PageRows", "OperandRows", "FourGroups", "Rows", "Cases"}
 STATEMENTS = "Statements"
@@ -39,8 +41,10 @@ ORDER = [
     ("Access", ["protection/Access", "protection/Protection", "protection/Fault", "translation/Steps", "translation/Decision", "translation/Operand"]),
     ("Groups and matches", ["groups/Page", "groups/Hash", "groups/Group", "tables/Matches", "tables/Layout", "matches/Search"]),
     ("Calls on bytes", ["calls/Request", "calls/Rules", "calls/Answers", "calls/OnBytes", "calls/Lent", "calls/WithoutTable"]),
+    ("The cache", ["cache/Cache", "cached_calls/Cached", "cached_calls/Discipline"]),
     ("The finite map", ["placement/Lists", "placement/FiniteMap", "placement/Placement", "calls/OnMap", "tables/Runs", "calls/Histories"]),
-    (STATEMENTS, ["entry/RoundTrip", "registers/Blocks", "translation/Stated", "calls/AnyTable", "calls/Refusals", "calls/Widened", "calls/Theorem", "calls/Demands"]),
+    (STATEMENTS, ["entry/RoundTrip", "registers/Blocks", "translation/Stated", "calls/AnyTable", "calls/Refusals", "calls/Widened", "calls/Theorem", "calls/Demands", "calls/Represents", "cache/Placed",
+        "cached_calls/AnyCache", "cached_calls/Invisible", "cached_calls/Demands"]),
 ]
 
 WORD = re.compile(r"[^\s(){},;.]+")
@@ -130,9 +134,11 @@ def cited(files, types):
 
 
 def one_meaning(files):
-    """Fails where two files of specs/ define one name."""
+    """Fails where two files of specs/ define one name; rows have names of their own."""
     places = collections.defaultdict(set)
     for place, (_, definitions) in files.items():
+        if place[1] in ROWS:
+            continue
         for name, definition in definitions.items():
             if any(re.match(r"\s*(?:abbrev|unfoldable|pub record|pub data) ", line) for line in definition.lines if re.search(rf"(?<!\S){re.escape(name)}(?!\S)", line)):
                 fields = [line for line in definition.lines if line.strip().startswith(f"pub {name} :")]

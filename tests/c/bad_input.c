@@ -75,11 +75,11 @@ static void give_back(struct slice *slice)
 }
 
 /*
- * Register page, table and two answers, one of unmap and look and one of an access, of the given lengths: SDR1 and
- * segment 0 are those of the twelve cases, all blocks off.
+ * Register page, table, cache and two answers, one of unmap and look and one of an access, of the given lengths: SDR1
+ * and segment 0 are those of the twelve cases, all blocks off, the cache empty.
  */
 struct lent {
-    struct slice registers, table, answer, access_answer;
+    struct slice registers, table, cache, answer, access_answer;
 };
 
 /* The two lengths of a register page. */
@@ -95,6 +95,7 @@ static struct lent lend_all(size_t registers_len, size_t table_len, size_t answe
     struct lent lent;
     lent.registers = lend(registers_len, 0);
     lent.table = lend(table_len, 0);
+    lent.cache = lend(MMU_CACHE_SIZE, 0);
     lent.answer = lend(answer_len, 0xA5);
     lent.access_answer = lend(access_answer_len, 0xA5);
     if (is_page(registers_len)) {
@@ -119,6 +120,7 @@ static void give_back_all(struct lent *lent)
 {
     give_back(&lent->registers);
     give_back(&lent->table);
+    give_back(&lent->cache);
     give_back(&lent->answer);
     give_back(&lent->access_answer);
 }
@@ -157,10 +159,10 @@ static int fault_is(const struct lent *lent, uint32_t result, uint32_t fault, ui
     return answer_is(&lent->access_answer, result, fault, offset, address) && second_is(lent, 0, 0, 0, 0);
 }
 
-/* After a refusal: the number, table and registers as they were. */
+/* After a refusal: the number, table, cache and registers as they were. */
 static int left(const struct lent *lent, uint32_t got, uint32_t number)
 {
-    return got == number && unchanged(&lent->registers) && unchanged(&lent->table);
+    return got == number && unchanged(&lent->registers) && unchanged(&lent->table) && unchanged(&lent->cache);
 }
 
 /* The same of a call that answers: the answer untouched at 11, else the number and zeros. */
@@ -209,6 +211,22 @@ static uint32_t access_operand(struct lent *l, uint32_t mode, uint32_t kind, uin
 static uint32_t access_at(struct lent *l, uint32_t mode, uint32_t kind, uint32_t address)
 {
     return access_operand(l, mode, kind, address, 1);
+}
+
+static uint32_t cached_operand(struct lent *l, uint32_t mode, uint32_t kind, uint32_t address, uint32_t length)
+{
+    return mmu_access_cached(l->registers.bytes, l->registers.len, mode, kind, address, length, l->table.bytes,
+                             l->table.len, l->cache.bytes, l->cache.len, l->access_answer.bytes, l->access_answer.len);
+}
+
+static uint32_t cached_at(struct lent *l, uint32_t mode, uint32_t kind, uint32_t address)
+{
+    return cached_operand(l, mode, kind, address, 1);
+}
+
+static uint32_t invalidate(struct lent *l, uint32_t page)
+{
+    return mmu_invalidate(page, l->cache.bytes, l->cache.len);
 }
 
 /* ---- Lengths ---------------------------------------------------------------------------------- */
@@ -314,6 +332,99 @@ static void test_wrong_table_lengths(void)
     }
 }
 
+/* Every length of the cache around the right one, 0 as NULL: 11 before 6 and 12, and nothing is written. */
+static void test_cache_lengths(void)
+{
+    size_t len;
+    for (len = 0; len <= MMU_CACHE_SIZE + 33; len += len < 80 || len >= MMU_CACHE_SIZE - 33 ? 1 : 31) {
+        struct lent l = lend_right();
+        uint32_t right = len == MMU_CACHE_SIZE, got;
+        give_back(&l.cache);
+        l.cache = lend(len, 0x5A);
+        got = cached_operand(&l, 8, 3, ADDRESS, 0);
+        expect(access_refused(&l, got, right ? 6 : 11), "access with a cache, by its length, 11 before 6 and 12", got);
+        got = invalidate(&l, 0x10000);
+        expect(left(&l, got, right ? 6 : 11), "invalidate by the cache's length, 11 before 6", got);
+        memset(l.access_answer.bytes, 0xA5, l.access_answer.len);
+        got = cached_at(&l, 0, MMU_LOAD, ADDRESS);
+        if (right)
+            expect(got == 0 && done_is(&l, ADDRESS, 3, ADDRESS) && unchanged(&l.cache), "real mode", (uint32_t)len);
+        else
+            expect(access_refused(&l, got, 11), "access with a cache, by its length alone", (uint32_t)len);
+        got = invalidate(&l, PAGE);
+        if (right)
+            memset(l.cache.before + MMU_CACHE_SET_SIZE * (PAGE % 64), 0, MMU_CACHE_SET_SIZE);
+        expect(left(&l, got, right ? 0 : 11), "invalidate by the cache's length alone", (uint32_t)len);
+        give_back_all(&l);
+    }
+}
+
+/* The other lengths of an access with a cache: of register page and answer, and of the table after them. */
+static void test_lengths_with_cache(void)
+{
+    size_t len;
+    for (len = 0; len <= LONGEST_PAGE; len++) {
+        struct lent l = lend_page(len);
+        uint32_t got = cached_operand(&l, 8, 3, ADDRESS, 0);
+        expect(access_refused(&l, got, is_page(len) ? 6 : 11), "access with a cache, by the page's length", got);
+        give_back_all(&l);
+    }
+    for (len = 0; len <= 2 * MMU_ACCESS_ANSWER_SIZE; len++) {
+        struct lent l = lend_all(pages[len % 2], TABLE, MMU_ANSWER_SIZE, len);
+        uint32_t got = cached_operand(&l, 8, 3, ADDRESS, 0);
+        if (len != MMU_ACCESS_ANSWER_SIZE)
+            expect(access_refused(&l, got, 11), "access with a cache and another answer length", got);
+        give_back_all(&l);
+    }
+    for (len = 0; len <= 2; len++) {
+        static const size_t lengths[] = { 0, 65535, 131072 };
+        struct lent l = lend_all(pages[len % 2], lengths[len], MMU_ANSWER_SIZE, MMU_ACCESS_ANSWER_SIZE);
+        size_t at = MMU_CACHE_SET_SIZE * (PAGE % 64);
+        mmu_put_word(l.cache.bytes, at, 0x86380E03u);
+        mmu_put_word(l.cache.bytes, at + 8, PAGE);
+        remember(&l.cache);
+        expect(access_refused(&l, cached_at(&l, 0, MMU_LOAD, ADDRESS), 1), "real mode, another table length", 1);
+        expect(access_refused(&l, cached_at(&l, 3, MMU_LOAD, ADDRESS), 1), "a hit, another table length", 1);
+        give_back_all(&l);
+    }
+}
+
+/* Each slice of an access with a cache in front of an unreadable page: done by the table, by the cache, and by both. */
+static void test_guarded_cache(void)
+{
+    uint8_t *page_end = guarded(), *cache_end = guarded(), *answer_end = guarded();
+    uint8_t *registers = page_end - MMU_REGISTERS_SIZE, *cache = cache_end - MMU_CACHE_SIZE;
+    uint8_t *answer = answer_end - MMU_ACCESS_ANSWER_SIZE;
+    struct slice table = lend(TABLE, 0);
+    size_t len;
+    uint32_t i, got;
+    mmu_put_word(registers, 0, SDR1);
+    mmu_put_word(registers, 4, VSID);
+    for (i = 0; i < 130; i++)
+        expect(mmu_map(SDR1, VSID, i, i, 2, 2, table.bytes, table.len) == 0, "map", i);
+    for (i = 0; i < 4 * 129; i++) {
+        uint32_t kind = MMU_LOAD + i / 258, in_page = i % 129;
+        got = mmu_access_cached(registers, MMU_REGISTERS_SIZE, 3, kind, in_page * 4096 + 4095, 2, table.bytes,
+                                table.len, cache, MMU_CACHE_SIZE, answer, MMU_ACCESS_ANSWER_SIZE);
+        expect(got == 0 && mmu_get_word(answer, 4) == in_page * 4096 + 4095
+                   && mmu_get_word(answer, 16) == in_page * 4096 + 4096, "access before unreadable pages", i);
+    }
+    for (i = 0; i < 256; i++)
+        expect(mmu_invalidate(i * 257, cache, MMU_CACHE_SIZE) == 0, "invalidate before an unreadable page", i);
+    for (i = 0; i < MMU_CACHE_SIZE; i++)
+        expect(cache[i] == 0, "64 sets are the whole cache", i);
+    for (len = 0; len < MMU_CACHE_SIZE; len++) {
+        expect(mmu_invalidate(63, cache_end - len, len) == 11, "a shorter cache before an unreadable page", 11);
+        got = mmu_access_cached(registers, MMU_REGISTERS_SIZE, 3, MMU_LOAD, 63 * 4096, 1, table.bytes, table.len,
+                                cache_end - len, len, answer, MMU_ACCESS_ANSWER_SIZE);
+        expect(got == 11, "access with a shorter cache before an unreadable page", (uint32_t)len);
+    }
+    give_back(&table);
+    munmap(page_end - GUARD, 2 * GUARD);
+    munmap(cache_end - GUARD, 2 * GUARD);
+    munmap(answer_end - GUARD, 2 * GUARD);
+}
+
 static void test_wrong_entry_lengths(void)
 {
     static const size_t lengths[] = { 0, 1, 7, 9, 16, 35, 37, 72 };
@@ -355,6 +466,23 @@ static void test_page_numbers(void)
         expect(refused(&l, look(&l, 5, vsid, PAGE), 6), "look with a large VSID, before 2", vsid);
         give_back_all(&l);
     }
+}
+
+/* Invalidate takes page indexes below 65,536; each empties the set of its low six bits, and none other. */
+static void test_invalidate_numbers(void)
+{
+    struct lent l = lend_right();
+    uint32_t page;
+    int i;
+    for (i = 0; i < 4; i++)
+        expect(left(&l, invalidate(&l, beyond(1u << 16, i)), 6), "invalidate with a large page index", 6);
+    for (page = 0; page < 0x10000; page += page < 128 || page >= 0xFF80 ? 1 : 61) {
+        memset(l.cache.bytes, 0xA5, l.cache.len);
+        remember(&l.cache);
+        memset(l.cache.before + MMU_CACHE_SET_SIZE * (page % 64), 0, MMU_CACHE_SET_SIZE);
+        expect(left(&l, invalidate(&l, page), 0), "invalidate empties one set", page);
+    }
+    give_back_all(&l);
 }
 
 static void test_access_and_register_numbers(void)
@@ -673,6 +801,203 @@ static void test_page_story(void)
     give_back_all(&l);
 }
 
+/* ---- The cache -------------------------------------------------------------------------------- */
+
+static void put_place(struct lent *l, uint32_t page, uint32_t place, uint32_t first, uint32_t second, uint32_t third,
+                      uint32_t newer)
+{
+    size_t at = MMU_CACHE_SET_SIZE * (page % 64) + MMU_CACHE_PLACE_SIZE * place;
+    mmu_put_word(l->cache.bytes, at, first);
+    mmu_put_word(l->cache.bytes, at + 4, second);
+    mmu_put_word(l->cache.bytes, at + 8, third);
+    mmu_put_word(l->cache.bytes, at + 12, newer);
+}
+
+static int place_is(const struct lent *l, uint32_t page, uint32_t place, uint32_t first, uint32_t second,
+                    uint32_t third, uint32_t newer)
+{
+    size_t at = MMU_CACHE_SET_SIZE * (page % 64) + MMU_CACHE_PLACE_SIZE * place;
+    return mmu_get_word(l->cache.bytes, at) == first && mmu_get_word(l->cache.bytes, at + 4) == second
+        && mmu_get_word(l->cache.bytes, at + 8) == third && mmu_get_word(l->cache.bytes, at + 12) == newer;
+}
+
+/* A page is loaded, hit, loaded again by a store, hit by a store; unmapped, still hit, and gone by its invalidate. */
+static void test_cache_story(void)
+{
+    struct lent l = lend_right();
+    uint8_t *entry = l.table.bytes + 0x3E6 * MMU_GROUP_SIZE;
+    expect(map(&l, SDR1, VSID, PAGE, 0x12345, 2, 2) == 0, "map", 0);
+    expect(cached_at(&l, MMU_MODE_DR, MMU_LOAD, ADDRESS) == 0 && rule_is(&l, 6, 2, 0x3E6, 0), "load by the table", 0);
+    expect(place_is(&l, PAGE, 0, 0x86380E03u, 0x12345112u, PAGE, 1) && place_is(&l, PAGE, 1, 0, 0, 0, 0), "loaded", 0);
+    remember(&l.table);
+    remember(&l.cache);
+    expect(cached_at(&l, MMU_MODE_DR, MMU_LOAD, ADDRESS) == 0 && rule_is(&l, 6, 2, 0x3E6, MMU_HIT_ENTRY)
+               && done_is(&l, 0x1234501Bu, 2, ADDRESS) && left(&l, 0, 0), "load by the cache", 0);
+    expect(cached_at(&l, MMU_MODE_DR, MMU_STORE, ADDRESS) == 0 && rule_is(&l, 6, 2, 0x3E6, 0)
+               && mmu_get_word(entry, 4) == 0x12345192u, "store goes to the table", 0);
+    expect(place_is(&l, PAGE, 0, 0x86380E03u, 0x12345192u, PAGE, 1) && place_is(&l, PAGE, 1, 0, 0, 0, 0), "again", 0);
+    expect(cached_at(&l, MMU_MODE_DR, MMU_STORE, ADDRESS) == 0 && rule_is(&l, 6, 2, 0x3E6, 8), "store by the cache", 0);
+    expect(protect(&l, SDR1, VSID, PAGE, 3) == 0 && invalidate(&l, PAGE) == 0, "protect and its invalidate", 0);
+    expect(place_is(&l, PAGE, 0, 0, 0, 0, 0), "empty", 0);
+    expect(cached_at(&l, MMU_MODE_DR, MMU_STORE, ADDRESS) == 64 && rule_is(&l, 5, 3, 0x3E6, 0)
+               && place_is(&l, PAGE, 0, 0, 0, 0, 0), "a fault loads nothing", 64);
+    expect(cached_at(&l, MMU_MODE_DR, MMU_LOAD, ADDRESS) == 0 && rule_is(&l, 6, 3, 0x3E6, 0), "load again", 0);
+    expect(cached_at(&l, MMU_MODE_DR, MMU_STORE, ADDRESS) == 64 && rule_is(&l, 5, 3, 0x3E6, 8)
+               && fault_is(&l, 64, 0x0A000000u, 0x300, ADDRESS), "a fault by the cache", 64);
+    expect(unmap(&l, SDR1, VSID, PAGE) == 0, "unmap", 0);
+    expect(cached_at(&l, MMU_MODE_DR, MMU_LOAD, ADDRESS) == 0, "the cache is as it was", 0);
+    expect(access_at(&l, MMU_MODE_DR, MMU_LOAD, ADDRESS) == 64, "the table is not", 64);
+    expect(invalidate(&l, PAGE + 0x10000) == 6 && cached_at(&l, MMU_MODE_DR, MMU_LOAD, ADDRESS) == 0, "refused", 6);
+    expect(invalidate(&l, PAGE % 64) == 0 && cached_at(&l, MMU_MODE_DR, MMU_LOAD, ADDRESS) == 64, "invalidate", 64);
+    give_back_all(&l);
+}
+
+/* What garbage in the page's set does: the two places as lent, the kind, and what answers. */
+struct place_case {
+    uint32_t places[2][4], kind, result, entry;
+};
+
+static void test_places(void)
+{
+    static const struct place_case cases[] = {
+        { { { 0x86380E03u, 0x54321012u, PAGE, 0 }, { 0, 0, 0, 0 } }, MMU_LOAD, 0, 8 },
+        { { { 0x86380E03u, 0x54321012u, PAGE, 7 }, { 0, 0, 0, 0 } }, MMU_LOAD, 0, 8 },
+        { { { 0x86380E3Fu, 0x54321012u, PAGE, 0 }, { 0, 0, 0, 0 } }, MMU_LOAD, 0, 8 },
+        { { { 0, 0, 0, 0 }, { 0x86380E03u, 0x54321012u, PAGE, 0 } }, MMU_LOAD, 0, 8 },
+        { { { 0x06380E03u, 0x54321012u, PAGE, 0 }, { 0, 0, 0, 0 } }, MMU_LOAD, 0, 0 },
+        { { { 0x86380E83u, 0x54321012u, PAGE, 0 }, { 0, 0, 0, 0 } }, MMU_LOAD, 0, 0 },
+        { { { 0x86380E03u, 0x54321012u, PAGE + 0x10000, 0 }, { 0, 0, 0, 0 } }, MMU_LOAD, 0, 0 },
+        { { { 0x86380E03u, 0x54321012u, PAGE ^ 0x40, 0 }, { 0, 0, 0, 0 } }, MMU_LOAD, 0, 0 },
+        { { { 0x86380E03u, 0x54321012u, PAGE, 0 }, { 0, 0, 0, 0 } }, MMU_STORE, 0, 0 },
+        { { { 0x86380E03u, 0x54321092u, PAGE, 0 }, { 0, 0, 0, 0 } }, MMU_STORE, 0, 8 },
+        { { { 0x86380E03u, 0x54321012u, PAGE, 0 }, { 0x86380E03u, 0x54321092u, PAGE, 0 } }, MMU_STORE, 0, 0 },
+        { { { 0x86380E03u, 0x54321093u, PAGE, 0 }, { 0, 0, 0, 0 } }, MMU_STORE, 64, 8 },
+        { { { 0x86380E03u, 0x5432101Au, PAGE, 0 }, { 0, 0, 0, 0 } }, MMU_FETCH, 65, 8 },
+        { { { 0x86380E43u, 0x54321012u, PAGE, 0 }, { 0, 0, 0, 0 } }, MMU_FETCH, 0, 8 },
+    };
+    size_t i;
+    for (i = 0; i < sizeof cases / sizeof cases[0]; i++) {
+        const struct place_case *c = &cases[i];
+        struct lent l = lend_right();
+        uint32_t place, got, group = c->entry == 8 && (c->places[0][0] & MMU_FIRST_H) ? 0x019 : 0x3E6;
+        expect(map(&l, SDR1, VSID, PAGE, 0x12345, 2, 2) == 0, "map", 0);
+        for (place = 0; place < 2; place++)
+            put_place(&l, PAGE, place, c->places[place][0], c->places[place][1], c->places[place][2],
+                      c->places[place][3]);
+        remember(&l.table);
+        remember(&l.cache);
+        got = cached_at(&l, 3, c->kind, ADDRESS);
+        expect(got == c->result && mmu_get_word(l.access_answer.bytes, 44) == c->entry
+                   && mmu_get_word(l.access_answer.bytes, 40) == group, "a place as lent", (uint32_t)i);
+        if (got == 0)
+            expect(mmu_get_word(l.access_answer.bytes, 4) == (c->entry == 8 ? 0x5432101Bu : 0x1234501Bu), "frame", got);
+        if (c->entry == 8)
+            expect(left(&l, got, c->result), "a hit writes neither table nor cache", (uint32_t)i);
+        give_back_all(&l);
+    }
+}
+
+/* Which place a new page takes, by the two fourth words as lent: place 1 where place 0's alone is 1. */
+static void test_replaced_place(void)
+{
+    static const uint32_t words[] = { 0, 1, 2, 0x80000001u, 0xFFFFFFFFu };
+    uint32_t i;
+    for (i = 0; i < 25; i++) {
+        struct lent l = lend_right();
+        uint32_t zero = words[i / 5], one = words[i % 5], taken = zero == 1 && one != 1;
+        expect(map(&l, SDR1, VSID, PAGE, 0x12345, 2, 2) == 0, "map", 0);
+        put_place(&l, PAGE, 0, 0x80000080u, 2, PAGE ^ 0x40, zero);
+        put_place(&l, PAGE, 1, 0x00000080u, 3, PAGE ^ 0x80, one);
+        expect(cached_at(&l, 3, MMU_STORE, ADDRESS) == 0, "store", 0);
+        expect(place_is(&l, PAGE, taken, 0x86380E03u, 0x12345192u, PAGE, 1), "the place that is taken", i);
+        expect(taken ? place_is(&l, PAGE, 0, 0x80000080u, 2, PAGE ^ 0x40, 0)
+                     : place_is(&l, PAGE, 1, 0x00000080u, 3, PAGE ^ 0x80, 0), "the other one", i);
+        give_back_all(&l);
+    }
+}
+
+/* Over a page edge: each page by the cache or by the table, loaded only where both are done. */
+static void test_cache_at_page_edge(void)
+{
+    struct lent l = lend_right();
+    uint32_t edge = 0x00FFB000u, got;
+    expect(map(&l, SDR1, VSID, PAGE, 0x12345, 2, 2) == 0, "map before the edge", 0);
+    got = cached_operand(&l, 3, MMU_LOAD, edge - 2, 8);
+    expect(got == 64 && place_is(&l, PAGE, 0, 0, 0, 0, 0), "no match after it: nothing is loaded", got);
+    expect(map(&l, SDR1, VSID, PAGE + 1, 0x6789A, 2, 2) == 0, "map after the edge", 0);
+    got = cached_at(&l, 3, MMU_LOAD, ADDRESS);
+    expect(got == 0 && place_is(&l, PAGE, 0, 0x86380E03u, 0x12345112u, PAGE, 1), "the first page is loaded", got);
+    got = cached_operand(&l, 3, MMU_LOAD, edge - 2, 8);
+    expect(got == 0 && rule_is(&l, 6, 2, 0x3E6, 8) && second_is(&l, 0x6789A000u, 2, 2, 6), "hit and table", got);
+    expect(place_is(&l, PAGE + 1, 0, 0x86380E03u, 0x6789A112u, PAGE + 1, 1), "the second is loaded", got);
+    expect(invalidate(&l, PAGE) == 0, "invalidate", 0);
+    got = cached_operand(&l, 3, MMU_LOAD, edge - 2, 8);
+    expect(got == 0 && rule_is(&l, 6, 2, 0x3E6, 0) && second_is(&l, 0x6789A000u, 2, 2, 6), "table and hit", got);
+    got = cached_operand(&l, 3, MMU_LOAD, edge - 2, 8);
+    expect(got == 0 && rule_is(&l, 6, 2, 0x3E6, 8), "hit and hit", got);
+    expect(unmap(&l, SDR1, VSID, PAGE + 1) == 0 && invalidate(&l, PAGE + 1) == 0, "unmap and its invalidate", 0);
+    remember(&l.table);
+    remember(&l.cache);
+    got = cached_operand(&l, 3, MMU_LOAD, edge - 2, 8);
+    expect(got == 64 && fault_is(&l, 64, 0x40000000u, 0x300, edge) && left(&l, got, 64), "hit and no match", got);
+    give_back_all(&l);
+}
+
+/* A page of two segments with one VSID: loaded by the one it is hit by the other; another VSID does not hit. */
+static void test_cache_of_segments(void)
+{
+    struct lent l = lend_right();
+    mmu_put_word(l.registers.bytes, MMU_REGISTER_OFFSET(MMU_REGISTER_SEGMENT(3)), MMU_SEGMENT_KS | VSID);
+    mmu_put_word(l.registers.bytes, MMU_REGISTER_OFFSET(MMU_REGISTER_SEGMENT(4)), VSID + 1);
+    expect(map(&l, SDR1, VSID, PAGE, 0x12345, 2, 1) == 0, "map", 0);
+    expect(cached_at(&l, 3, MMU_STORE, ADDRESS) == 0 && rule_is(&l, 6, 1, 0x3E6, 0), "by segment 0", 0);
+    expect(cached_at(&l, 3, MMU_LOAD, 0x30000000u | ADDRESS) == 0 && rule_is(&l, 6, 5, 0x3E6, 8), "by segment 3", 0);
+    expect(cached_at(&l, 3, MMU_STORE, 0x30000000u | ADDRESS) == 64 && rule_is(&l, 5, 5, 0x3E6, 8), "its key", 64);
+    expect(cached_at(&l, 3, MMU_LOAD, 0x40000000u | ADDRESS) == 64 && rule_is(&l, 3, 0, 0, 0), "by segment 4", 64);
+    expect(invalidate(&l, PAGE) == 0, "invalidate", 0);
+    expect(cached_at(&l, 3, MMU_LOAD, 0x30000000u | ADDRESS) == 0
+               && place_is(&l, PAGE, 0, 0x86380E03u, 0x12345191u, PAGE, 1), "loaded by segment 3", 0);
+    expect(cached_at(&l, 3, MMU_LOAD, ADDRESS) == 0 && rule_is(&l, 6, 1, 0x3E6, 8), "hit by segment 0", 0);
+    mmu_put_word(l.registers.bytes, MMU_REGISTER_OFFSET(MMU_REGISTER_SEGMENT(3)), MMU_SEGMENT_N | VSID);
+    expect(cached_at(&l, 3, MMU_FETCH, 0x30000000u | ADDRESS) == 65 && rule_is(&l, 2, 0, 0, 0), "N before a hit", 65);
+    expect(cached_at(&l, 0, MMU_LOAD, ADDRESS) == 0 && rule_is(&l, 0, 0, 0, 0), "real mode before a hit", 0);
+    mmu_put_word(l.registers.bytes, MMU_REGISTER_OFFSET(MMU_REGISTER_DATA_LOWER(2)), 0x90000002u);
+    mmu_put_word(l.registers.bytes, MMU_REGISTER_OFFSET(MMU_REGISTER_DATA_UPPER(2)), 0x00001FFEu);
+    expect(cached_at(&l, 3, MMU_LOAD, ADDRESS) == 0 && rule_is(&l, 1, 2, 0, 0), "a block before a hit", 0);
+    give_back_all(&l);
+}
+
+/* Slices side by side in one block of memory, at odd addresses, in each order of cache and table: none is mixed up. */
+static void test_slices_side_by_side(void)
+{
+    enum { ALL = MMU_REGISTERS_SIZE + TABLE + MMU_CACHE_SIZE + MMU_ACCESS_ANSWER_SIZE };
+    int turned, i;
+    for (turned = 0; turned < 2; turned++) {
+        struct slice all = lend(1 + ALL, 0);
+        uint8_t *registers = all.bytes + 1, *first = registers + MMU_REGISTERS_SIZE;
+        uint8_t *table = turned ? first + MMU_CACHE_SIZE : first, *cache = turned ? first : first + TABLE;
+        uint8_t *answer = all.bytes + 1 + ALL - MMU_ACCESS_ANSWER_SIZE;
+        mmu_put_word(registers, 0, SDR1);
+        mmu_put_word(registers, 4, VSID);
+        /* The last set of the cache and the last group of the table: page 3FF xor VSID, and a page of set 63. */
+        expect(mmu_map(SDR1, VSID, (VSID & 0x3FF) ^ 0x3FF, 0x12345, 2, 2, table, TABLE) == 0, "map, side by side", 0);
+        expect(mmu_map(SDR1, VSID, 0x3F, 0x6789A, 2, 2, table, TABLE) == 0, "map of set 63, side by side", 0);
+        for (i = 0; i < 4; i++) {
+            uint32_t address = (i < 2 ? 0x3Fu : (VSID & 0x3FF) ^ 0x3FFu) << 12;
+            uint32_t got = mmu_access_cached(registers, MMU_REGISTERS_SIZE, 3, MMU_STORE, address, 4, table, TABLE,
+                                             cache, MMU_CACHE_SIZE, answer, MMU_ACCESS_ANSWER_SIZE);
+            expect(got == 0 && mmu_get_word(answer, 4) == (i < 2 ? 0x6789A000u : 0x12345000u)
+                       && (mmu_get_word(answer, 44) == 8) == (i % 2), "access, side by side", got);
+        }
+        expect(mmu_get_word(registers, 0) == SDR1 && mmu_get_word(registers, 4) == VSID, "registers stay", 0);
+        expect(mmu_invalidate(0x3F, cache, MMU_CACHE_SIZE) == 0, "invalidate, side by side", 0);
+        expect(mmu_get_word(cache, MMU_CACHE_SIZE - 32) == 0, "the last set is empty", 0);
+        expect(mmu_get_word(table, TABLE - MMU_GROUP_SIZE + 4) == 0x12345192u, "the table stays", 0);
+        expect(mmu_get_word(answer, 44) == 8 && all.bytes[0] == 0, "the answer stays", 0);
+        give_back(&all);
+    }
+}
+
 /* ---- The rule that decided --------------------------------------------------------------------- */
 
 /* An access, and what it must answer: its result and the record. */
@@ -901,8 +1226,12 @@ static uint32_t random_call(struct lent *l, uint32_t call, uint32_t sdr1)
         return unmap(l, sdr1, some(1u << 24), some(1u << 16));
     case 6:
         return look(l, sdr1, some(1u << 24), some(1u << 16));
-    default:
+    case 7:
         return access_operand(l, some(8), some(3), any() | (any() % 2 ? 0xFF0u : 0), some(MMU_LONGEST_OPERAND + 1));
+    case 8:
+        return cached_operand(l, some(8), some(3), any() | (any() % 2 ? 0xFF0u : 0), some(MMU_LONGEST_OPERAND + 1));
+    default:
+        return invalidate(l, some(1u << 16));
     }
 }
 
@@ -912,24 +1241,27 @@ static void test_random_numbers(long count, size_t page)
     struct lent l = lend_page(page);
     size_t i;
     while (count-- > 0) {
-        uint32_t call = any() % 8, got;
+        uint32_t call = any() % 10, got;
         if (any() % 8 == 0)
             mmu_put_word(l.registers.bytes, 4 * (any() % (page / 4)), any() % 3 ? 0 : any());
         for (i = 0; i < 8; i++)
             mmu_put_word(l.table.bytes, 4 * (any() % (TABLE / 4)), any());
+        for (i = 0; i < 16; i++)
+            mmu_put_word(l.cache.bytes, 4 * (any() % (MMU_CACHE_SIZE / 4)), any());
         if (any() % 4 == 0)
             mmu_put_word(l.registers.bytes, 0, SDR1);
         remember(&l.registers);
         remember(&l.table);
+        remember(&l.cache);
         memset(l.answer.bytes, 0xA5, l.answer.len);
         memset(l.access_answer.bytes, 0xA5, l.access_answer.len);
         got = random_call(&l, call, any() % 2 ? SDR1 : any());
-        expect(got <= 11 || ((got == 12 || got == 64 || got == 65) && call == 7), "a result of the list", got);
+        expect(got <= 11 || ((got == 12 || got == 64 || got == 65) && (call == 7 || call == 8)), "a result", got);
         if (got != 0)
-            expect(unchanged(&l.registers) && unchanged(&l.table), "a refusal or a fault leaves table and registers", got);
+            expect(left(&l, got, got), "a refusal or a fault leaves table, cache and registers", got);
         if ((call == 5 || call == 6) && got >= 1 && got <= 10)
             expect(answer_is(&l.answer, got, 0, 0, 0), "a refusal's answer", got);
-        if (call == 7 && got >= 1 && got <= 12 && got != 11)
+        if ((call == 7 || call == 8) && got >= 1 && got <= 12 && got != 11)
             expect(fault_is(&l, got, 0, 0, 0) && rule_is(&l, 0, 0, 0, 0), "an access's refusal", got);
     }
     give_back_all(&l);
@@ -942,8 +1274,12 @@ int main(int argc, char **argv)
     test_guarded_registers();
     test_wrong_answer_lengths();
     test_wrong_table_lengths();
+    test_cache_lengths();
+    test_lengths_with_cache();
+    test_guarded_cache();
     test_wrong_entry_lengths();
     test_page_numbers();
+    test_invalidate_numbers();
     test_access_and_register_numbers();
     test_long_numbers();
     test_operand_lengths();
@@ -952,6 +1288,12 @@ int main(int argc, char **argv)
     test_order();
     test_long_page();
     test_page_story();
+    test_cache_story();
+    test_places();
+    test_replaced_place();
+    test_cache_at_page_edge();
+    test_cache_of_segments();
+    test_slices_side_by_side();
     test_rules();
     test_page_edge();
     test_full_groups();

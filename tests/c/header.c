@@ -302,6 +302,42 @@ static void test_access_by_page(void)
     expect(mmu_get_word(table, MMU_ENTRY_OFFSET(a.group, a.entry)) == 0x86380E03u, "the entry used", 5);
 }
 
+/* The names of the cache beside a load, the same again by the cache, an unmap and its invalidate. */
+static void test_access_cached(void)
+{
+    static uint8_t table[65536], cache[MMU_CACHE_SIZE];
+    uint8_t registers[MMU_REGISTERS_SIZE], bytes[MMU_ACCESS_ANSWER_SIZE], second[MMU_ANSWER_SIZE];
+    uint32_t number, wanted[4] = { MMU_DONE, MMU_DONE, MMU_DONE, MMU_DATA_STORAGE_FAULT };
+    size_t at = MMU_CACHE_SET_SIZE * (0x0FFAu % MMU_CACHE_SETS);
+    struct mmu_answer a;
+    memset(registers, 0, sizeof registers);
+    memset(cache, 0, sizeof cache);
+    mmu_put_word(registers, MMU_REGISTER_OFFSET(MMU_REGISTER_SDR1), 0x0F980000u);
+    mmu_put_word(registers, MMU_REGISTER_OFFSET(MMU_REGISTER_SEGMENT(0u)), 0x0C701Cu);
+    expect(mmu_map(0x0F980000u, 0x0C701Cu, 0x0FFA, 0x12345, 2, 2, table, sizeof table) == MMU_DONE, "map", 0);
+    for (number = 0; number < 4; number++) {
+        if (number == 2)
+            expect(mmu_unmap(0x0F980000u, 0x0C701Cu, 0x0FFA, table, sizeof table, second, sizeof second) == MMU_DONE,
+                   "unmap", 0);
+        if (number == 3)
+            expect(mmu_invalidate(0x0FFA, cache, sizeof cache) == MMU_DONE, "invalidate", 0);
+        expect(mmu_access_cached(registers, sizeof registers, MMU_MODE_DR, MMU_LOAD, 0x00FFA01Bu, 4, table,
+                                 sizeof table, cache, sizeof cache, bytes, sizeof bytes) == wanted[number],
+               "access with a cache", number);
+        a = mmu_read_answer(bytes);
+        if (number < 3)
+            expect(a.physical == 0x1234501Bu && rule_is(&a, MMU_RULE_DONE, 2, 0x3E6, number ? MMU_HIT_ENTRY : 0),
+                   "by the table, then by the cache", number);
+        if (number < 3)
+            expect(mmu_get_word(cache, at) == 0x86380E03u && mmu_get_word(cache, at + 4) == 0x12345112u
+                       && mmu_get_word(cache, at + 8) == 0x0FFA && mmu_get_word(cache, at + 12) == 1, "place", number);
+    }
+    expect(mmu_get_word(cache, at) == 0 && mmu_get_word(cache, at + MMU_CACHE_PLACE_SIZE) == 0, "an empty set", 0);
+    expect(MMU_CACHE_SETS * MMU_CACHE_SET_SIZE == MMU_CACHE_SIZE, "sets of the cache", 64);
+    expect(MMU_CACHE_SET_SIZE == 2 * MMU_CACHE_PLACE_SIZE, "places of a set", 2);
+    expect(mmu_invalidate(0x10000, cache, sizeof cache) == MMU_REFUSED_ARGUMENT, "invalidate of no page index", 6);
+}
+
 int main(void)
 {
     uint8_t fields[MMU_FIELDS_SIZE];
@@ -320,5 +356,6 @@ int main(void)
     test_access();
     test_long_page();
     test_access_by_page();
+    test_access_cached();
     return failures ? 1 : 0;
 }

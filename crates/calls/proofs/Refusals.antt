@@ -23,6 +23,7 @@ use Rattle.translation.specs.Steps.{pageOutcome, afterSearch, outcomeOf, answer
 use Rattle.translation.specs.Operand.{stopped}
 use Rattle.translation.specs.Stated.{earlyOutcome}
 use Rattle.translation.specs.declared.Answer.{Answer}
+use Rattle.translation.specs.declared.Wanted.{Wanted}
 use Rattle.translation.specs.declared.decision.Decision.{Decision}
 use Rattle.translation.specs.declared.operand.OperandAnswer.{OperandAnswer}
 use Rattle.translation.specs.declared.Early.{Early}
@@ -38,7 +39,7 @@ use Rattle.calls.specs.Request.{ClearCall, MapCall, ProtectCall, Answere
 use Rattle.calls.specs.Rules.{onLongPage, refusal}
 use Rattle.calls.specs.Answers.{accessAnswer, refusedBytes, answerRefused}
 use Rattle.calls.specs.WithoutTable.{setRegisterCall, packCall, unpackCall}
-use Rattle.calls.specs.OnBytes.{layout, Ended, ended, byMatches, byOption, earlyOf, bytesDo, onBytes, startOf, partAnswer, usedBy, partDecision, searchIn, firstPlaceIn}
+use Rattle.calls.specs.OnBytes.{layout, Ended, ended, byMatches, byOption, earlyOf, bytesDo, onBytes, startOf, partAnswer, usedBy, partDecision, wholeAnswer, searchIn, firstPlaceIn}
 use Rattle.calls.specs.Refusals.{RefusalsLeave}
 use Rattle.calls.proofs.Lent.{right-length, wrong-length}
 use Rattle.calls.proofs.OnBytes.{taken, refused}
@@ -120,18 +121,23 @@ unfolding bytesDo
 look-fits k c t =
     by-list Fits (matchesOf (layout k) t (c .page)) _ _ (λ z. omega arith) (λ x xs. by-bool Fits (contradict x xs) _ _ (λ z. omega arith) (λ z. omega arith))
 
-access-fits : (k : ℕ) (c : AccessCall (List ℕ)) (t : List ℕ) → Fits (bytesDo k (access c) t)
-unfolding bytesDo outcomeOf
-access-fits k c t = result-of (λ (n : ℕ). n ≡ 11 → ⊥) (c .address) (c .length) (partAnswer c (searchIn k t)) (partDecision c (searchIn k t) (firstPlaceIn k t)) (part false) (part true)
+-- what an operand answers that its arguments do not refuse, whatever its searches find
+pub whole-fits : (c : AccessCall (List ℕ)) (search : Wanted → Searched) (place : Wanted → ℕ × ℕ) → wholeAnswer c search place .part .result ≡ 11 → ⊥
+unfolding outcomeOf
+whole-fits c search place = result-of (λ (n : ℕ). n ≡ 11 → ⊥) (c .address) (c .length) (partAnswer c search) (partDecision c search place) (part false) (part true)
   where
-    part : (second : Bool) → partAnswer c (searchIn k t) second .result ≡ 11 → ⊥
+    part : (second : Bool) → partAnswer c search second .result ≡ 11 → ⊥
     part second = go (earlyOf c second) refl
       where
-        go : (early : Early) → earlyOf c second ≡ early → answerOf (c .kind) (startOf c second) (outcomeOf (c .kind) (searchIn k t) early) .result ≡ 11 → ⊥
+        go : (early : Early) → earlyOf c second ≡ early → answerOf (c .kind) (startOf c second) (outcomeOf (c .kind) search early) .result ≡ 11 → ⊥
         go (Decided outcome) e z =
             early-fits (c .kind) (startOf c second) outcome
             (access-as-stated .before (onLongPage c) (registerWords (c .registers)) (c .mode) (c .kind) (startOf c second) .only-early outcome e) z
-        go (Search wanted) e z = late-fits (c .kind) (wanted .key) (startOf c second) _ z
+        go (Search wanted) e z = late-fits (c .kind) (wanted .key) (startOf c second) (search wanted) z
+
+access-fits : (k : ℕ) (c : AccessCall (List ℕ)) (t : List ℕ) → Fits (bytesDo k (access c) t)
+unfolding bytesDo
+access-fits k c t = whole-fits c (searchIn k t) (firstPlaceIn k t)
 
 module _ (request : Request (List ℕ)) (t : List ℕ) where
   abbrev number : ℕ
@@ -165,18 +171,21 @@ module _ (request : Request (List ℕ)) (t : List ℕ) where
 abbrev Zeros : Ended (List ℕ) → Type 0
 Zeros e = (e .number ≡ 0 → ⊥) → (e .number ≡ 64 → ⊥) → (e .number ≡ 65 → ⊥) → (e .number ≡ 11 → ⊥) → e .answer ≡ bytesOf (e .number ∷ replicate 11 0)
 
+-- refused by its work: the part that stops an operand is a refusal
+pub whole-zeros : (c : AccessCall (List ℕ)) (search : Wanted → Searched) (place : Wanted → ℕ × ℕ) → let a = wholeAnswer c search place in
+    (a .part .result ≡ 0 → ⊥) → (a .part .result ≡ 64 → ⊥) → (a .part .result ≡ 65 → ⊥) → accessAnswer a ≡ bytesOf (a .part .result ∷ replicate 11 0)
+unfolding accessAnswer
+whole-zeros c search place done by-data by-fetch =
+    let (second, stops) = not-done-stops (c .address) (c .length) (partAnswer c search) (partDecision c search place) done in
+    let number = ap (λ (x : OperandAnswer). x .part .result) stops in
+    let (words, shown) = refused-words (c .kind) (startOf c second) (usedBy place (earlyOf c second)) (outcomeOf (c .kind) search (earlyOf c second))
+    (λ z. done (number ∙ z)) (λ z. by-data (number ∙ z)) (λ z. by-fetch (number ∙ z)) in
+    ap accessAnswer (stops ∙ ap₂ (λ (a : Answer) (d : Decision). stopped a d) words shown) ∙ ap (λ (n : ℕ). bytesOf (n ∷ replicate 11 0)) (sym number)
+
 module _ (c : AccessCall (List ℕ)) (t : List ℕ) where
-  -- refused by its work: the part that stops it is a refusal
   does-zeros : (k : ℕ) → Zeros (bytesDo k (access c) t)
-  unfolding bytesDo accessAnswer
-  does-zeros k done by-data by-fetch lent =
-      let parts : Bool → Answer = partAnswer c (searchIn k t) in
-      let deciding : Bool → Decision = partDecision c (searchIn k t) (firstPlaceIn k t) in
-      let (second, stops) = not-done-stops (c .address) (c .length) parts deciding done in
-      let number = ap (λ (x : OperandAnswer). x .part .result) stops in
-      let (words, shown) = refused-words (c .kind) (startOf c second) (usedBy (firstPlaceIn k t) (earlyOf c second)) (outcomeOf (c .kind) (searchIn k t) (earlyOf c second))
-      (λ z. done (number ∙ z)) (λ z. by-data (number ∙ z)) (λ z. by-fetch (number ∙ z)) in
-      ap accessAnswer (stops ∙ ap₂ (λ (a : Answer) (d : Decision). stopped a d) words shown) ∙ ap (λ (n : ℕ). bytesOf (n ∷ replicate 11 0)) (sym number)
+  unfolding bytesDo
+  does-zeros k done by-data by-fetch lent = whole-zeros c (searchIn k t) (firstPlaceIn k t) done by-data by-fetch
 
   -- refused by its arguments
   arguments-zeros : (number : ℕ) → Zeros (ended number t (answerRefused (λ lent. lent) (access c) number))

@@ -60,7 +60,7 @@ by-cases (some a) missing found = found a refl
 
 -- the first word of a page's own entry matches it and fits
 module _ (b : Bool) (page : Page) (valid : InRange page) where
-  own-matches : (k : ℕ) → layout k .matching b page (entryWord b page) ≡ true
+  pub own-matches : (k : ℕ) → layout k .matching b page (entryWord b page) ≡ true
   unfolding entryWord
   own-matches k = match-own (page .vsid) (hOf b) (apiOf (page .index))
 

@@ -40,7 +40,7 @@ module _ (pairs width : ℕ) (words : List ℕ) (mode kind address length : ℕ)
   partEarly second = beforeSearch pairs width words mode kind (partStart address length second)
 
   -- a part wants the page at the page index of its start
-  wanted-index : (second : Bool) (wanted : Wanted) → partEarly second ≡ Search wanted → wanted .index ≡ pageIndex (partStart address length second)
+  pub wanted-index : (second : Bool) (wanted : Wanted) → partEarly second ≡ Search wanted → wanted .index ≡ pageIndex (partStart address length second)
   wanted-index second wanted e = ap (λ (w : Wanted). w .index) (searches pairs width words mode kind (partStart address length second) wanted e .wants)
 
   pub pages-apart : overEdge address length ≡ true → (v w : Wanted) → partEarly false ≡ Search v → partEarly true ≡ Search w
@@ -91,12 +91,12 @@ module _ (k kind : ℕ) (wanted : Wanted) (t : List ℕ) where
           (by-matches (own k t page) (λ none. rw (mark-none 0 none) left) (λ x xs some. rw (mark-first x xs some) (first x xs some)))
       go false e = rw (unmarked k kind (Search wanted) result t (eqb-false result 0 e)) left
 
-  own-match : (x : Match) (xs : List Match) → own k t page ≡ x ∷ xs → MatchOf (layout k) t page x
+  pub own-match : (x : Match) (xs : List Match) → own k t page ≡ x ∷ xs → MatchOf (layout k) t page x
   own-match x xs e = members-of (layout k) t page x (subst (List·Memᴰ x) (sym e) (List·Memᴰ·head refl))
 
   module _ (good : GoodTable k t) where
     -- what is written fits an entry's words
-    fits : (x : Match) → MatchOf (layout k) t page x → Word (x .first) × Word (withMarks true (storing kind) (x .second))
+    pub fits : (x : Match) → MatchOf (layout k) t page x → Word (x .first) × Word (withMarks true (storing kind) (x .second))
     fits x m =
         let (first, second) = words-fit t (groupAt k page (x .secondary)) (x .entry) (good .bytes) in
         (rw (m .first-word) first, rw (m .second-word) (marks-lt true (storing kind) (secondHere k t page (x .secondary) (x .entry)) second))

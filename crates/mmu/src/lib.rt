@@ -1,8 +1,11 @@
 // The exported calls. Each contract gives the result number and every lent byte by a definition of the crate `calls`, for all inputs.
 mod access;
+mod cached;
 mod pages;
 
 pub use access::mmu_access;
+pub use cached::mmu_access_cached;
+pub use cached::mmu_invalidate;
 pub use pages::mmu_clear;
 pub use pages::mmu_look;
 pub use pages::mmu_map;

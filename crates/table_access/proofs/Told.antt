@@ -1,12 +1,19 @@
 -- What an operand answers and leaves, case by case: its first part stops it, its second part does, or all its parts are done.
 use Prim.Native.Nat.{ℕ, _*_, _^_}
-use mathlib.Core.Path.{_≡_, refl, ap, _∙_}
+use mathlib.Core.Path.{_≡_, refl, sym, ap, subst, _∙_}
 use mathlib.Core.Bool.{Bool, true, false, cond}
-use mathlib.Core.List.{List}
+use mathlib.Core.List.{List, _∷_, List·Memᴰ, List·Memᴰ·head}
 use lib.ListN.{length, getD}
 use Prim.Native.Nat.{_<_}
 use Rattle.register_words.specs.Sdr1.{sdr1Shape, tableLength, maskOnes}
 use Rattle.register_words.proofs.Sdr1.{length-is}
+use Rattle.matches.specs.Search.{summary, inSecondary, entryOf}
+use Rattle.matches.specs.declared.Summary.{Summary}
+use Rattle.matches.proofs.Summaries.{Summarised, summarised, place-secondary, place-entry}
+use Rattle.groups.specs.Page.{Page}
+use Rattle.tables.specs.Matches.{Match}
+use Rattle.tables.specs.Layout.{matchesOf}
+use Rattle.tables.proofs.Groups.{members-of}
 use Rattle.translation.specs.Operand.{firstBytes, overEdge, partStart, stopped, within, acrossEdge}
 use Rattle.translation.specs.declared.Answer.{Answer}
 use Rattle.translation.specs.declared.decision.Decision.{Decision}
@@ -14,7 +21,7 @@ use Rattle.translation.specs.declared.operand.OperandAnswer.{OperandAnswer}
 use Rattle.translation.specs.declared.Early.{Early}
 use Rattle.translation.specs.declared.Early.the-variants.{Decided, Search}
 use Rattle.translation.proofs.Parts.{first-stops, one-done, second-stops, both-done}
-use Rattle.calls.specs.OnBytes.{markedBy}
+use Rattle.calls.specs.OnBytes.{layout, markedBy}
 use Rattle.calls.specs.Represents.{GoodTable}
 use Rattle.calls.proofs.Access.{unmarked}
 use Rattle.calls.proofs.TwoMarks.{second-kept}
@@ -88,3 +95,11 @@ pub same-self : (k : ℕ) (e : Early) (t : List ℕ) → SameMatches k e t t
 unfolding SameMatches
 same-self k (Decided outcome) t = tt
 same-self k (Search wanted) t = refl
+
+-- what a search noted of a page's matches is the place and the second word of the first of them
+pub first-noted : (k : ℕ) (t : List ℕ) (page : Page) (s : Summary) → s ≡ summary (matchesOf (layout k) t page) → (x : Match) (xs : List Match)
+    → matchesOf (layout k) t page ≡ x ∷ xs → (inSecondary s ≡ x .secondary) × (entryOf s ≡ x .entry) × (s .second ≡ x .second)
+first-noted k t page s noted x xs e =
+    let own = members-of (layout k) t page x (subst (List·Memᴰ x) (sym e) (List·Memᴰ·head refl)) in
+    let m : Summarised x xs s = subst (Summarised x xs) (sym (noted ∙ ap summary e)) (summarised x xs) in
+    (place-secondary s x (m .place) (own .in-range), place-entry s x (m .place) (own .in-range), m .second)

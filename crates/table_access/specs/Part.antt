@@ -1,7 +1,7 @@
 -- A part of an operand as the code holds it, and the parts of an access by the words of its register set.
 use Prim.Native.Nat.{ℕ, _+_, _*_, _≤_}
 use mathlib.Core.Bool.{Bool, true, false, cond}
-use mathlib.Core.List.{List}
+use mathlib.Core.List.{List, _∷_}
 use mathlib.Core.Path.{_≡_}
 use lib.Dec.{ltb}
 use lib.ListN.{length}
@@ -9,7 +9,9 @@ use Rattle.numbers.specs.Numbers.{groupEntries}
 use Rattle.entry.specs.Entry.{withMarks}
 use Rattle.register_words.specs.Block.{blWidth}
 use Rattle.registers.specs.Set.{blockPairs}
+use Rattle.groups.specs.Hash.{groupNumber}
 use Rattle.groups.specs.Group.{firstOf, putAt}
+use Rattle.tables.specs.Matches.{Match}
 use Rattle.tables.specs.Layout.{matchesOf}
 use Rattle.protection.specs.Access.{storing}
 use Rattle.translation.specs.Steps.{beforeSearch, outcomeOf, answerOf}
@@ -39,12 +41,20 @@ SameMatches k (Search wanted) t u = matchesOf (layout k) u (wantedPage wanted) �
 abbrev pub Marks : ℕ → ℕ → Early → List ℕ → Part → Type 0
 Marks k kind early t part = (u : List ℕ) → part .answer .result ≡ 0 → SameMatches k early t u → marked kind part u ≡ markedBy k kind early 0 u
 
--- a part at an address, by what steps 1 to 3 came to: its answer, what decided it, a group of the table, and its mark
+-- which entry that is: the first match of the page, and none for a part that no search decides
+unfoldable pub OfFirst : ℕ → Early → List ℕ → Part → Type 0
+OfFirst k (Decided outcome) t part = part .entry ≡ groupEntries
+OfFirst k (Search wanted) t part =
+    (x : Match) (xs : List Match) → matchesOf (layout k) t (wantedPage wanted) ≡ x ∷ xs
+    → (part .group ≡ groupNumber (10 + k) (x .secondary) (wantedPage wanted)) × (part .entry ≡ x .entry) × (part .second ≡ x .second)
+
+-- a part at an address, by what steps 1 to 3 came to: its answer, what decided it, a group of the table, its mark and its entry
 pub record ByPart (k : ℕ) (t : List ℕ) (kind address : ℕ) (early : Early) (part : Part) : Type 0 where
   pub answers : part .answer ≡ answerOf kind address (outcomeOf kind (searchIn k t) early)
   pub decides : part .decision ≡ decisionOf (usedBy (firstPlaceIn k t) early) (outcomeOf kind (searchIn k t) early)
   pub inside : 64 * part .group + 64 ≤ length t
   pub marks : Marks k kind early t part
+  pub first : OfFirst k early t part
 
 module _ (words : List ℕ) (access : Access) where
   -- steps 1 to 3 of the first part (false) or the second (true)

@@ -45,7 +45,7 @@ pub struct Part {
 
 // The first broken rule after the lent lengths, or 0: the arguments' ranges, then the register page, then the table's length. `begins` is what the
 // quick test of the page answered; where it did not decide, the exact check does.
-fn refusal(registers: &[u8], begins: u32, access: Access, lent: usize) -> u32
+pub fn refusal(registers: &[u8], begins: u32, access: Access, lent: usize) -> u32
     requires { ⌜ (isPage (length (now registers)) ≡ true)
         × ((begins ≡ everywhere → ⊥) → checkWords (blockPairs true) (blWidth (isLong (length (now registers)))) (setWords (now registers)) ≡ 0) ⌝ }
     ensures { λ r. ⌜ r ≡ firstBroken ((not (ltb (access .mode) 8 && ltb (access .kind) 3), refusedArgument)
@@ -72,7 +72,7 @@ fn refusal(registers: &[u8], begins: u32, access: Access, lent: usize) -> u32
 }
 
 // What the matches that a search noted come to.
-fn searched_of(search: matches::Summary) -> translation::Searched
+pub fn searched_of(search: matches::Summary) -> translation::Searched
     ensures { λ r. ⌜ ((ms : List Match) → search ≡ summary ms → r ≡ searched ms) ⌝ }
 {
     if !search.found() {
@@ -114,7 +114,14 @@ fn by_page(table: &[u8], sdr1: u32, kind: u32, address: u32, wanted: translation
 }
 
 // The steps of a part at an address.
-fn part_of(table: &[u8], registers: &[u8], begins: u32, mode: u32, kind: u32, address: u32) -> Part
+pub fn part_of(
+    table: &[u8],
+    registers: &[u8],
+    begins: u32,
+    mode: u32,
+    kind: u32,
+    address: u32,
+) -> Part
     requires { ⌜ (isPage (length (now registers)) ≡ true) × TellsBlocks (setWords (now registers)) begins
         × (sdr1Shape (sdr1Of (setWords (now registers))) ≡ true) × (length (now table) ≡ tableLength (sdr1Of (setWords (now registers)))) ⌝ }
     ensures { λ r. ⌜ ByPart (maskOnes (sdr1Of (setWords (now (registers .entry))))) (now (table .entry)) kind address
@@ -142,7 +149,7 @@ fn part_of(table: &[u8], registers: &[u8], begins: u32, mode: u32, kind: u32, ad
 }
 
 // Step 7 of a part of a done operand: R, and C on a store, in the entry that did it.
-fn mark(table: &mut [u8], kind: u32, part: Part)
+pub fn mark(table: &mut [u8], kind: u32, part: Part)
     requires { ⌜ 64 * part .group + 64 ≤ length (now table) ⌝ }
     ensures { λ _. ⌜ now (table .exit) ≡ marked kind part (now (table .entry)) ⌝ }
 {
@@ -214,7 +221,7 @@ fn by_parts(
 }
 
 // An operand that is not translated: each part's address is its own, and nothing is marked.
-fn untranslated(access: Access) -> translation::operand::OperandAnswer
+pub fn untranslated(access: Access) -> translation::operand::OperandAnswer
     requires { ⌜ relocated (access .mode) (access .kind) ≡ false ⌝ }
     ensures { λ r. ⌜ ((words : List ℕ) (k : ℕ) (t : List ℕ) → (r ≡ wholeTold words access k t) × (t ≡ tableLeft words access k t)) ⌝ }
 {

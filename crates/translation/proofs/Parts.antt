@@ -84,14 +84,19 @@ operand-stated address length = record {
         go true e = refl
         go false e = let l = ltb-false length (4096 - address % 4096) e in omega arith
 
--- the second part's page has another page index, also after the last one
-pub next-page : (address length : ℕ) → overEdge address length ≡ true → pageIndex (partStart address length false) ≡ pageIndex (partStart address length true) → ⊥
+-- the second part's page index has other low six bits than the first's, also after the last one
+pub next-low : (address length : ℕ) → overEdge address length ≡ true
+    → pageIndex (partStart address length false) % 64 ≡ pageIndex (partStart address length true) % 64 → ⊥
 unfolding pageIndex partStart
-next-page address length over same =
+next-low address length over same =
     apart (firstBytes address length) (first-bytes-are address length (over-edge address length over .0)) same
   where
-    apart : (n : ℕ) → n ≡ 4096 - address % 4096 → address / 2 ^ 12 % 2 ^ 16 ≡ (address + n) % 2 ^ 32 / 2 ^ 12 % 2 ^ 16 → ⊥
+    apart : (n : ℕ) → n ≡ 4096 - address % 4096 → address / 2 ^ 12 % 2 ^ 16 % 64 ≡ (address + n) % 2 ^ 32 / 2 ^ 12 % 2 ^ 16 % 64 → ⊥
     apart n e q = omega arith
+
+-- so it is another
+pub next-page : (address length : ℕ) → overEdge address length ≡ true → pageIndex (partStart address length false) ≡ pageIndex (partStart address length true) → ⊥
+next-page address length over same = next-low address length over (ap (λ (n : ℕ). n % 64) same)
 
 -- ---- the answer
 

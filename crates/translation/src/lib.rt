@@ -78,7 +78,7 @@ fn block_outcome(registers: &[u8], kind: u32, address: u32, pair: usize) -> Outc
 }
 
 // The page that the search looks for, at a segment and an address.
-fn wanted_of(user: bool, segment: u32, address: u32) -> Wanted
+pub fn wanted_of(user: bool, segment: u32, address: u32) -> Wanted
     ensures { λ r. ⌜ r ≡ wantedOf user segment address ⌝ }
 {
     Wanted {

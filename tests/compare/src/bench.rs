@@ -3,6 +3,7 @@
 use std::fmt::Write;
 
 use model::bytes::Model;
+use model::cache::{CACHE, SET};
 use model::call::{Call, Lengths, Lent};
 use model::registers::{Layout, Side, LONG_PAGE, SHORT_PAGE};
 use model::search::{places, Place};
@@ -31,6 +32,8 @@ impl Difference {
 pub struct Before {
     pub registers: Vec<u8>,
     pub places: Vec<Place>,
+    /// The words of the cache's sets of these pages.
+    pub sets: Vec<(u32, Vec<u32>)>,
 }
 
 /// Which slice is lent as the table.
@@ -54,6 +57,7 @@ pub struct Bench<'a> {
     pub registers: Region,
     pub table: Region,
     pub other: Region,
+    pub cache: Region,
     pub answer: Region,
     pub tally: Tally,
 }
@@ -67,10 +71,12 @@ impl<'a> Bench<'a> {
             registers: Region::new(0),
             table: Region::new(table),
             other: Region::new(other),
+            cache: Region::new(CACHE),
             answer: Region::new(0),
             tally: Tally::default(),
         };
         bench.registers.lend(SHORT_PAGE, Edge::End);
+        bench.cache.lend(CACHE, Edge::End);
         bench
     }
 
@@ -98,6 +104,7 @@ impl<'a> Bench<'a> {
         Lengths {
             registers: self.registers.length(),
             table: lent_as_table(&self.table, &self.other, lending).length(),
+            cache: self.cache.length(),
             answer: self.answer.length(),
         }
     }
@@ -132,7 +139,11 @@ impl<'a> Bench<'a> {
             ("registers", &self.registers),
             ("table", lent_as_table(&self.table, &self.other, lending)),
             ("answer", &self.answer),
+            ("cache", &self.cache),
         ] {
+            if name == "cache" && !call.is_lent_cache() {
+                continue;
+            }
             if let Some(text) = byte_difference(name, region) {
                 return Err(self.difference(call, lending, &before, &text));
             }
@@ -152,9 +163,22 @@ impl<'a> Bench<'a> {
         let table = lent_as_table(&self.table, &self.other, lending).bytes();
         let registers = self.registers.bytes();
         self.tally.note(&self.model, call, registers, table, lengths);
-        let pages = pages_of(call, registers, table.len()).into_iter();
+        self.tally.hits.note(&self.model, call, registers, table, self.cache.bytes(), lengths);
+        let pages = pages_of(call, registers, table.len());
+        let set = |page_index: u32| {
+            let bytes = self.cache.bytes().chunks_exact(SET).nth(page_index as usize % 64)?;
+            Some((page_index, bytes.chunks_exact(4).map(|word| word_at(word, 0)).collect()))
+        };
+        let sets = match call {
+            Call::AccessCached(_) => {
+                pages.iter().filter_map(|(_, page)| set(page.page_index)).collect()
+            }
+            Call::Invalidate { page_index } => set(*page_index).into_iter().collect(),
+            _ => Vec::new(),
+        };
+        let pages = pages.into_iter();
         let places = pages.flat_map(|(sdr1, page)| places(sdr1, page, table)).collect();
-        Before { registers: registers.to_vec(), places }
+        Before { registers: registers.to_vec(), places, sets }
     }
 
     fn on_model(&mut self, call: &Call, lending: Lending) -> u32 {
@@ -162,7 +186,8 @@ impl<'a> Bench<'a> {
             Lending::Table => self.table.model(),
             Lending::Other => self.other.model(),
         };
-        let lent = Lent { registers: self.registers.model(), table, answer: self.answer.model() };
+        let (registers, cache) = (self.registers.model(), self.cache.model());
+        let lent = Lent { registers, table, cache, answer: self.answer.model() };
         self.model.perform(call, lent)
     }
 
@@ -171,8 +196,8 @@ impl<'a> Bench<'a> {
             Lending::Table => self.table.subject(),
             Lending::Other => self.other.subject(),
         };
-        let lent =
-            Lent { registers: self.registers.subject(), table, answer: self.answer.subject() };
+        let (registers, cache) = (self.registers.subject(), self.cache.subject());
+        let lent = Lent { registers, table, cache, answer: self.answer.subject() };
         self.subject.perform(call, lent)
     }
 
@@ -192,6 +217,9 @@ impl<'a> Bench<'a> {
             let Place { group, entry, h, .. } = place;
             let words = format!("{:08X} {:08X}", place.first, place.second);
             let _ = writeln!(text, "entry before: group {group:#x} ({h}) entry {entry}: {words}");
+        }
+        for (page_index, words) in &before.sets {
+            let _ = writeln!(text, "set of page index {page_index:04X} before: {words:08X?}");
         }
         text.push_str(what);
         let calls = self.tally.calls;

@@ -48,6 +48,7 @@ impl<'a> Setup<'a> {
         let lent = Lent {
             registers: &mut registers,
             table: &mut self.table,
+            cache: &mut [],
             answer: &mut self.answer[..call.answer_length().unwrap_or(0)],
         };
         self.machine.perform(&call, lent)

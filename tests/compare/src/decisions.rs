@@ -33,7 +33,7 @@ impl Decisions {
     pub fn note(&mut self, set: &Registers, ends: &[End]) {
         let outcomes: Vec<Outcome> = ends.iter().map(|end| end.outcome).collect();
         let Some(speaking) = record::speaking(None, &outcomes) else { return };
-        let End { part, outcome, ref matches } = ends[speaking];
+        let End { part, outcome, ref matches, .. } = ends[speaking];
         let done = outcome.is_done();
         let [rule, detail] = record::rule_and_detail(None, set, part, outcome);
         let shown = match (ends.len(), speaking) {

@@ -1,12 +1,15 @@
 //! The comparison tried on models that are wrong: it has to find each.
 
 use model::bytes::Model;
-use model::flaw::{Flaw, MapFlaw, RecordFlaw};
+use model::flaw::{CacheFlaw, Flaw, MapFlaw, RecordFlaw};
 
 use crate::bench::{self, Difference};
 use crate::lists::{self, Judges};
 use crate::tally::Tally;
-use crate::{edges, exhaustive, lengths, packing, quick, singles, turned, widened, Section};
+use crate::{
+    cached, cached_limits, cached_runs, edges, exhaustive, lengths, packing, quick, singles,
+    turned, widened, Section,
+};
 
 /// The comparisons a wrong model goes through, as the library does, until one finds it.
 const SECTIONS: [Section; 5] =
@@ -24,6 +27,10 @@ pub struct Found {
     pub by_quick_edges: usize,
     /// Those that are asked at the edges of the quick test alone, one for each bit of a register page among them.
     pub of_quick_test: usize,
+    /// Those about the translation cache.
+    pub of_cache: usize,
+    /// Those of them that a run without a cache shows, with no other judge.
+    pub by_runs: usize,
     pub maps: usize,
     /// Those that the finite map, which knows no place, rightly lets pass.
     pub left_to_table: usize,
@@ -50,6 +57,8 @@ pub fn run(factor: u32) -> Result<Found, Difference> {
     by_widening_alone(&mut found, factor)?;
     by_a_turned_bit(&mut found)?;
     at_the_quick_test(&mut found)?;
+    of_the_cache(&mut found, factor)?;
+    by_a_run_without_cache(&mut found, factor)?;
     of_the_map(&mut found, factor)?;
     left_to_the_table(&mut found, factor)?;
     Ok(found)
@@ -127,6 +136,33 @@ fn at_the_quick_test(found: &mut Found) -> Result<(), Difference> {
         let outcome = quick::run_with(&Model::with(flaw), alone);
         found.calls(outcome, &format!("{flaw:?} at the quick test"))?;
         found.of_quick_test += 1;
+    }
+    Ok(())
+}
+
+/// Caches of any bytes show each mistake about the cache.
+fn of_the_cache(found: &mut Found, factor: u32) -> Result<(), Difference> {
+    for flaw in CacheFlaw::ALL {
+        let outcome = cached::run(&Model::with(Flaw::Cache(flaw)), factor);
+        found.calls(outcome, &format!("{flaw:?} by a cache of any bytes"))?;
+        found.of_cache += 1;
+    }
+    Ok(())
+}
+
+/// A run with a cache held to the same run without, and to the finite map after a clear; the right one passes, and so
+/// do those that keep the promise with another place or another age.
+fn by_a_run_without_cache(found: &mut Found, factor: u32) -> Result<(), Difference> {
+    let alone = bench::Judges::StatementAlone;
+    cached_limits::run(&Model::default(), factor)?;
+    cached_runs::run_with(&Model::default(), factor, alone)?;
+    for flaw in CacheFlaw::UNSEEN_IN_RUNS {
+        cached_runs::run_with(&Model::with(Flaw::Cache(flaw)), factor, alone)?;
+    }
+    for flaw in CacheFlaw::IN_RUNS {
+        let outcome = cached_runs::run_with(&Model::with(Flaw::Cache(flaw)), factor, alone);
+        found.calls(outcome, &format!("{flaw:?} by a run without a cache"))?;
+        found.by_runs += 1;
     }
     Ok(())
 }

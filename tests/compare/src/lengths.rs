@@ -3,11 +3,13 @@
 
 use std::ops::RangeInclusive;
 
+use model::cache::CACHE;
 use model::call::{Access, Call, Page};
 use model::entry::Fields;
 use model::registers::{LONG_PAGE, SHORT_PAGE};
 
 use crate::bench::{Bench, Difference, Lending};
+use crate::cached::plant_set;
 use crate::machine::Machine;
 use crate::random::Random;
 use crate::region::Edge;
@@ -33,6 +35,8 @@ fn calls() -> Vec<Call> {
     let elsewhere = Page { vsid: 1, ..PAGE };
     let operand =
         |mode, kind, address, length| Call::Access(Access { mode, kind, address, length });
+    let with_cache =
+        |mode, kind, address, length| Call::AccessCached(Access { mode, kind, address, length });
     let access = |mode, kind| operand(mode, kind, 0x00FF_A01B, 1);
     let map = |page, pp| Call::Map { sdr1, page, rpn: 0x12345, wimg: 2, pp };
     let fields = |pp| Fields { v: 1, pp, ..Fields::default() };
@@ -62,6 +66,13 @@ fn calls() -> Vec<Call> {
         operand(1, 1, 0x00FF_9FFF, 2),
         operand(1, 1, 0x00FF_A01B, 0),
         operand(7, 0, 0x00FF_AFFF, 129),
+        with_cache(1, 1, 0x00FF_A01B, 1),
+        with_cache(1, 2, 0x00FF_AFFF, 128),
+        with_cache(0, 1, 0x00FF_A01B, 1),
+        with_cache(8, 1, 0x00FF_A01B, 1),
+        with_cache(1, 1, 0x00FF_A01B, 129),
+        Call::Invalidate { page_index: PAGE.page_index },
+        Call::Invalidate { page_index: 65_536 },
         Call::Pack(fields(3)),
         Call::Pack(fields(4)),
         Call::Unpack { first: 0x8638_0E03, second: 0x1234_5012 },
@@ -73,7 +84,8 @@ pub fn run(subject: &dyn Machine, _factor: u32) -> Result<Tally, Difference> {
     let mut random = Random::new(0x1E46);
     for edge in [Edge::End, Edge::Start, Edge::Odd] {
         for call in calls() {
-            let mut stage = Stage { random: &mut random, bench: &mut bench, call, edge };
+            let mut stage =
+                Stage { random: &mut random, bench: &mut bench, call, edge, cache: CACHE };
             stage.run()?;
         }
     }
@@ -85,6 +97,8 @@ struct Stage<'a, 'b> {
     bench: &'a mut Bench<'b>,
     call: Call,
     edge: Edge,
+    /// The bytes lent as a cache.
+    cache: usize,
 }
 
 impl Stage<'_, '_> {
@@ -111,6 +125,18 @@ impl Stage<'_, '_> {
                 self.one(0, 0, answer)?;
             }
         }
+        if self.call.is_lent_cache() {
+            for cache in 0..=CACHE + 80 {
+                self.cache = cache;
+                self.one(SHORT_PAGE, RIGHT, answer)?;
+                if cache % 16 == 0 {
+                    self.one(LONG_PAGE, 0, answer)?;
+                    self.one(0, RIGHT, answer)?;
+                    self.one(SHORT_PAGE, RIGHT, 0)?;
+                }
+            }
+            self.cache = CACHE;
+        }
         Ok(())
     }
 
@@ -122,6 +148,10 @@ impl Stage<'_, '_> {
             groups::plant(self.random, &mut self.bench.other, SDR1, PAGE, &groups::MATCHES);
         }
         self.bench.answer.lend(answer, self.edge);
+        self.bench.cache.lend(self.cache, self.edge);
+        if self.cache >= CACHE {
+            plant_set(self.random, &mut self.bench.cache, PAGE, None);
+        }
         self.bench.compare(&self.call, Lending::Other)?;
         Ok(())
     }

@@ -334,7 +334,7 @@ impl Stage<'_> {
         }
         let got = format!("{number} {words:x?}");
         let text = format!("the finite map\n  expected {expected:x?}\n  got      {got}");
-        let before = Before { registers, places: Vec::new() };
+        let before = Before { registers, places: Vec::new(), sets: Vec::new() };
         Err(self.bench.difference(&call, lending, &before, &text))
     }
 

@@ -23,7 +23,7 @@ impl Machine for Mmu {
 }
 
 fn call_library(library: Mmu, call: &Call, lent: Lent) -> u32 {
-    let Lent { registers, table, answer } = lent;
+    let Lent { registers, table, cache, answer } = lent;
     let numbers = |page: Page| [page.vsid, page.page_index];
     match *call {
         Call::Check => library.check(registers),
@@ -39,6 +39,11 @@ fn call_library(library: Mmu, call: &Call, lent: Lent) -> u32 {
             let numbers = [access.mode, access.kind, access.address, access.length];
             library.access(registers, numbers, table, answer)
         }
+        Call::AccessCached(access) => {
+            let numbers = [access.mode, access.kind, access.address, access.length];
+            library.access_cached(registers, numbers, table, cache, answer)
+        }
+        Call::Invalidate { page_index } => library.invalidate(page_index, cache),
         Call::Pack(fields) => library.pack(fields.list(), answer),
         Call::Unpack { first, second } => library.unpack(first, second, answer),
     }

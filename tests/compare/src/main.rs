@@ -4,6 +4,9 @@
 
 mod arrangements;
 mod bench;
+mod cached;
+mod cached_limits;
+mod cached_runs;
 mod cases;
 mod decisions;
 mod duplicates;
@@ -12,6 +15,7 @@ mod exhaustive;
 mod flaws;
 mod gaps;
 mod guarded;
+mod hits;
 mod lengths;
 mod lists;
 mod machine;
@@ -43,7 +47,7 @@ use tally::Tally;
 /// A comparison of some machine with the model, its random part so many times as long.
 type Section = fn(&dyn Machine, u32) -> Result<Tally, Difference>;
 
-const SECTIONS: [(&str, Empty, Section); 11] = [
+const SECTIONS: [(&str, Empty, Section); 14] = [
     ("recorded accesses", Empty::Null, vectors::run),
     ("packing", Empty::Null, packing::run),
     ("complete tables", Empty::Null, exhaustive::run),
@@ -55,6 +59,9 @@ const SECTIONS: [(&str, Empty, Section); 11] = [
     ("lengths, empty as lent", Empty::AsLent, lengths::run),
     ("single calls", Empty::Null, singles::run),
     ("lists of calls", Empty::Null, lists::run),
+    ("caches of any bytes", Empty::Null, cached::run),
+    ("runs with a cache", Empty::Null, cached_runs::run),
+    ("limits of the promise", Empty::Null, cached_limits::run),
 ];
 
 /// The argument that makes the program read a byte it must not, to show that the guard works.
@@ -111,6 +118,7 @@ fn test_the_tests(factor: u32) -> Result<(), Difference> {
         "wrong models found: {}, {} of them by the finite map alone, {} at page edges alone, \
          {} by a widened page alone, {} at the edges of the quick test alone; \
          {} more by a bit turned at a place, {} more at the edges of the quick test; \
+         of the cache {}, {} of them by a run without a cache alone; \
          wrong maps found: {}; none took more than {} calls; {} wrong models only the table shows",
         found.models,
         found.by_map,
@@ -119,6 +127,8 @@ fn test_the_tests(factor: u32) -> Result<(), Difference> {
         found.by_quick_edges,
         found.by_turned_bit,
         found.of_quick_test,
+        found.of_cache,
+        found.by_runs,
         found.maps,
         found.most_calls,
         found.left_to_table
@@ -142,7 +152,7 @@ fn print_results(total: &Tally) {
         let numbers = total.numbers().iter().filter(|((call, _), _)| *call == name);
         let counts: Vec<_> =
             numbers.map(|((_, number), count)| format!("{number}: {count}")).collect();
-        println!("  {name:<8} {}", counts.join("  "));
+        println!("  {name:<10} {}", counts.join("  "));
     }
     let mut refusals = std::collections::BTreeMap::new();
     for ((_, number), count) in total.numbers() {
@@ -150,7 +160,7 @@ fn print_results(total: &Tally) {
     }
     let counts: Vec<_> =
         refusals.iter().map(|(number, count)| format!("{number}: {count}")).collect();
-    println!("  {:<8} {}", "all", counts.join("  "));
+    println!("  {:<10} {}", "all", counts.join("  "));
     let rules = total.decisions.by_rule();
     let counts: Vec<_> = rules.iter().map(|(rule, count)| format!("{rule}: {count}")).collect();
     println!("accesses by the rule shown: {}", counts.join("  "));
@@ -160,5 +170,7 @@ fn print_results(total: &Tally) {
     println!("searches with several matches: {equal} equal, {unequal} not equal");
     println!("  that differ in one field alone: {}", counts.join("  "));
     println!("searches whose first match stands behind an entry with V = 0: {}", total.gaps.behind);
+    let [hits, loads] = total.hits.counts();
+    println!("accesses with a cache: {hits} parts hit, {loads} loaded a new page");
     println!("maps that took a place in front of used entries: {}", total.gaps.in_front);
 }

@@ -468,7 +468,7 @@ impl Stage<'_> {
 
     fn difference(&self, call: &Call, page: &Words, text: &str) -> Difference {
         let registers = page.iter().flat_map(|word| word.to_be_bytes()).collect();
-        let before = Before { registers, places: Vec::new() };
+        let before = Before { registers, places: Vec::new(), sets: Vec::new() };
         self.bench.difference(call, Lending::Table, &before, text)
     }
 }

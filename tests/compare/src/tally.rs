@@ -12,6 +12,7 @@ use model::translation::{before_search, BeforeSearch};
 use crate::decisions::Decisions;
 use crate::duplicates::Duplicates;
 use crate::gaps::Gaps;
+use crate::hits::Hits;
 use crate::operands::Operands;
 use crate::pages::Pages;
 
@@ -32,6 +33,7 @@ pub struct Tally {
     pub duplicates: Duplicates,
     pub gaps: Gaps,
     pub pages: Pages,
+    pub hits: Hits,
 }
 
 impl Tally {
@@ -54,6 +56,7 @@ impl Tally {
         self.decisions.add(&other.decisions);
         self.duplicates.add(&other.duplicates);
         self.gaps.add(&other.gaps);
+        self.hits.add(&other.hits);
     }
 
     /// Notes the state a call comes upon.
@@ -85,7 +88,7 @@ impl Tally {
         }
         if let (Call::Access(access), false) = (*call, refused) {
             let set = Registers::read(registers).expect("the length was tested");
-            let ends = model.ends(&set, access, table);
+            let ends = model.ends(&set, access, table, None);
             for end in &ends {
                 *self.outcomes.entry((end.outcome.name(), access.kind)).or_default() += 1;
             }
@@ -106,29 +109,35 @@ impl Tally {
                 vec![(7, !met.is_empty()), (9, first_free(None, sdr1, page, table).is_none())]
             }
             Call::Look { .. } => vec![(10, contradict(None, &met)), (8, met.is_empty())],
-            Call::Access(_) => vec![(10, contradict(None, &met))],
+            Call::Access(_) | Call::AccessCached(_) => vec![(10, contradict(None, &met))],
             _ => vec![(8, met.is_empty())],
         };
         causes.into_iter().filter_map(|(number, holds)| holds.then_some(number)).collect()
     }
 
-    /// What of the lists below was never met.
-    pub fn missing(&self) -> Vec<String> {
+    /// Results and orders that these calls never met.
+    pub fn missing_of(&self, calls: &[&str]) -> Vec<String> {
         let mut missing = Vec::new();
-        for (call, numbers) in NUMBERS {
-            for &number in numbers {
-                if !self.numbers.contains_key(&(call, number)) {
+        for (call, numbers) in NUMBERS.iter().filter(|(call, _)| calls.contains(call)) {
+            for &number in *numbers {
+                if !self.numbers.contains_key(&(*call, number)) {
                     missing.push(format!("{call} never gave {number}"));
                 }
             }
         }
-        for (call, pairs) in ORDERS {
-            for &(first, second) in pairs {
-                if !self.orders.contains_key(&(call, first, second)) {
+        for (call, pairs) in ORDERS.iter().filter(|(call, _)| calls.contains(call)) {
+            for &(first, second) in *pairs {
+                if !self.orders.contains_key(&(*call, first, second)) {
                     missing.push(format!("{call} never met {first} and {second} together"));
                 }
             }
         }
+        missing
+    }
+
+    /// What of the lists below was never met.
+    pub fn missing(&self) -> Vec<String> {
+        let mut missing = self.missing_of(&WITHOUT_CACHE);
         for key in OUTCOMES {
             if !self.outcomes.contains_key(&key) {
                 missing.push(format!("no access of kind {} ended by {}", key.1, key.0));
@@ -153,7 +162,9 @@ impl Tally {
 /// SDR1 and each page that a call searches for, part by part where it is an access.
 pub fn pages_of(call: &Call, registers: &[u8], table: usize) -> Vec<(u32, Page)> {
     let calls = match (*call, Registers::read(registers)) {
-        (Call::Access(access), Some(set)) if (1..=LONGEST).contains(&access.length) => {
+        (Call::Access(access) | Call::AccessCached(access), Some(set))
+            if (1..=LONGEST).contains(&access.length) =>
+        {
             parts(None, &set, access).into_iter().map(Call::Access).collect()
         }
         _ => vec![*call],
@@ -164,7 +175,7 @@ pub fn pages_of(call: &Call, registers: &[u8], table: usize) -> Vec<(u32, Page)>
 /// SDR1 and the page a call searches for first, where a search in a slice of this length is possible.
 fn page_of(call: &Call, registers: &[u8], table: usize) -> Option<(u32, Page)> {
     let (sdr1, page) = match *call {
-        Call::Access(access) => {
+        Call::Access(access) | Call::AccessCached(access) => {
             let set = Registers::read(registers)?;
             if access.mode > 7 || access.kind > 2 || !set.blocks_are_well_formed() {
                 return None;
@@ -195,8 +206,14 @@ fn situation(met: &[Place]) -> &'static str {
     }
 }
 
+/// The calls that are lent no cache.
+#[rustfmt::skip]
+const WITHOUT_CACHE: [&str; 10] = [
+    "check", "set", "clear", "map", "unmap", "protect", "look", "access", "pack", "unpack",
+];
+
 /// Every result number a call can give.
-const NUMBERS: [(&str, &[u32]); 10] = [
+const NUMBERS: [(&str, &[u32]); 12] = [
     ("check", &[0, 11, 2, 3, 4, 5]),
     ("set", &[0, 11, 6, 2, 3, 4, 5]),
     ("clear", &[0, 2, 1]),
@@ -205,13 +222,15 @@ const NUMBERS: [(&str, &[u32]); 10] = [
     ("protect", &[0, 6, 2, 1, 8]),
     ("look", &[0, 11, 6, 2, 1, 8, 10]),
     ("access", &[0, 64, 65, 11, 6, 12, 2, 3, 4, 5, 1, 10]),
+    ("cached", &[0, 64, 65, 11, 6, 12, 2, 3, 4, 5, 1, 10]),
+    ("invalidate", &[0, 11, 6]),
     ("pack", &[0, 11, 6]),
     ("unpack", &[0, 11]),
 ];
 
 /// Two causes that can hold at once, the one to be answered first.
 #[rustfmt::skip]
-const ORDERS: [(&str, &[(u32, u32)]); 9] = [
+const ORDERS: [(&str, &[(u32, u32)]); 11] = [
     ("check", &[(2, 3), (2, 4), (2, 5), (3, 4), (3, 5), (4, 5)]),
     ("set", &[
         (11, 6), (6, 2), (6, 3), (6, 4), (6, 5),
@@ -231,6 +250,14 @@ const ORDERS: [(&str, &[(u32, u32)]); 9] = [
         (2, 3), (2, 4), (2, 5), (2, 1), (3, 4), (3, 5), (3, 1), (4, 5), (4, 1), (5, 1),
         (5, 10), (1, 10),
     ]),
+    ("cached", &[
+        (11, 6), (11, 12), (11, 2), (11, 3), (11, 4), (11, 5), (11, 1), (11, 10),
+        (6, 12), (6, 2), (6, 3), (6, 4), (6, 5), (6, 1),
+        (12, 2), (12, 3), (12, 4), (12, 5), (12, 1), (12, 10),
+        (2, 3), (2, 4), (2, 5), (2, 1), (3, 4), (3, 5), (3, 1), (4, 5), (4, 1), (5, 1),
+        (5, 10), (1, 10),
+    ]),
+    ("invalidate", &[(11, 6)]),
     ("pack", &[(11, 6)]),
 ];
 

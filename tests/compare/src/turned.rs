@@ -121,7 +121,11 @@ impl Scene {
             "first word {first:08X} at place {place} of the search order, turned bits {turned:08X}\n  \
              expected {expected}, word of the answer {wrong:X?}\n  got      {number}, answer {answer:02X?}"
         );
-        let before = Before { registers: bench.registers.bytes().to_vec(), places: Vec::new() };
+        let before = Before {
+            registers: bench.registers.bytes().to_vec(),
+            places: Vec::new(),
+            sets: Vec::new(),
+        };
         Err(bench.difference(call, Lending::Table, &before, &text))
     }
 

@@ -80,6 +80,7 @@ fn fits(vector: &Vector) -> bool {
     let lengths = model::call::Lengths {
         registers: vector.registers.len(),
         table: table_length(vector.sdr1()),
+        cache: 0,
         answer: call.answer_length().unwrap_or(0),
     };
     Model::default().broken(&call, &vector.registers, lengths).is_empty()
@@ -162,7 +163,11 @@ fn compare_recorded(bench: &Bench, vector: &Vector, number: u32) -> Result<(), D
             let what =
                 format!("{file} line {id}: {what}\n  recorded {expected:08X}\n  got {got:08X}");
             let call = Call::Access(vector.access);
-            let before = Before { registers: vector.registers.clone(), places: Vec::new() };
+            let before = Before {
+                registers: vector.registers.clone(),
+                places: Vec::new(),
+                sets: Vec::new(),
+            };
             return Err(bench.difference(&call, Lending::Table, &before, &what));
         }
     }

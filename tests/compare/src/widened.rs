@@ -79,7 +79,7 @@ impl Stage<'_> {
         );
         let mut registers = vec![0; words.layout.length()];
         put_words(&mut registers, &words);
-        let before = Before { registers, places: Vec::new() };
+        let before = Before { registers, places: Vec::new(), sets: Vec::new() };
         Err(self.short.difference(&call, Lending::Table, &before, &text))
     }
 

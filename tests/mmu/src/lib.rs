@@ -60,6 +60,21 @@ mod c {
             answer: *mut u8,
             answer_len: usize,
         ) -> u32;
+        pub fn mmu_access_cached(
+            registers: *const u8,
+            registers_len: usize,
+            mode: u32,
+            kind: u32,
+            address: u32,
+            length: u32,
+            table: *mut u8,
+            table_len: usize,
+            cache: *mut u8,
+            cache_len: usize,
+            answer: *mut u8,
+            answer_len: usize,
+        ) -> u32;
+        pub fn mmu_invalidate(page_index: u32, cache: *mut u8, cache_len: usize) -> u32;
         pub fn mmu_pack(
             v: u32,
             vsid: u32,
@@ -169,6 +184,40 @@ impl Mmu {
                 answer.len(),
             )
         }
+    }
+
+    /// The same with a translation cache.
+    pub fn access_cached(
+        self,
+        registers: &[u8],
+        access: [u32; 4],
+        table: &mut [u8],
+        cache: &mut [u8],
+        answer: &mut [u8],
+    ) -> u32 {
+        let [mode, kind, address, length] = access;
+        let (start, answer_start) = (self.start_mut(table), self.start_mut(answer));
+        let cache_start = self.start_mut(cache);
+        unsafe {
+            c::mmu_access_cached(
+                self.start(registers),
+                registers.len(),
+                mode,
+                kind,
+                address,
+                length,
+                start,
+                table.len(),
+                cache_start,
+                cache.len(),
+                answer_start,
+                answer.len(),
+            )
+        }
+    }
+
+    pub fn invalidate(self, page_index: u32, cache: &mut [u8]) -> u32 {
+        unsafe { c::mmu_invalidate(page_index, self.start_mut(cache), cache.len()) }
     }
 
     /// `fields` are V, VSID, H, API, RPN, R, C, WIMG and PP.

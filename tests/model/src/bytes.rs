@@ -1,11 +1,12 @@
 //! The calls on bytes: each gives its number and rewrites what is lent, as the rules say.
 
-use crate::call::{Access, Call, Lengths, Lent, Page};
+use crate::cache::{Cache, Hit};
+use crate::call::{Access, Call, Lengths, Lent, Page, LOAD};
 use crate::entry::{Fields, CHANGED, IGNORED_BITS, REFERENCED};
-use crate::flaw::{Flaw, RecordFlaw};
+use crate::flaw::{CacheFlaw, Flaw, RecordFlaw};
 use crate::operand;
 use crate::record;
-use crate::registers::{put_register, Registers};
+use crate::registers::{put_register, table_length, Registers, Segment};
 use crate::rules;
 use crate::search::{self, Place, GROUP};
 use crate::translation::{self, BeforeSearch, Outcome};
@@ -35,6 +36,11 @@ impl Model {
             if let Call::SetRegister { number: register, word } = *call {
                 self.spoil_page(number, lent.registers, register, word);
             }
+            if let (1, Call::AccessCached(access)) = (number, *call) {
+                if self.has(Flaw::Cache(CacheFlaw::TableLengthAtMissOnly)) {
+                    return self.access_without_table(lent, access);
+                }
+            }
             return self.refuse(call, number, lent.answer);
         }
         if self.has(Flaw::RefusesAll) {
@@ -57,7 +63,17 @@ impl Model {
             Call::Unmap { sdr1, page } => self.unmap(sdr1, page, lent.table, lent.answer),
             Call::Protect { sdr1, page, pp } => self.protect(sdr1, page, pp, lent.table),
             Call::Look { sdr1, page } => self.look(sdr1, page, lent.table, lent.answer),
-            Call::Access(access) => self.access(lent, access),
+            Call::Access(access) => self.access(lent, access, None),
+            Call::AccessCached(access) => {
+                let cache = Cache::read(self.flaw, lent.cache);
+                self.access(lent, access, Some(cache))
+            }
+            Call::Invalidate { page_index } => {
+                let mut cache = Cache::read(self.flaw, lent.cache);
+                cache.invalidate(page_index);
+                cache.write(lent.cache);
+                0
+            }
             Call::Pack(fields) => {
                 put_words(lent.answer, &fields.words());
                 0
@@ -85,7 +101,9 @@ impl Model {
             return number;
         }
         let record = match call {
-            Call::Access(_) if self.has(Flaw::Record(RecordFlaw::LeftAtRefusal)) => RECORD,
+            _ if call.access().is_some() && self.has(Flaw::Record(RecordFlaw::LeftAtRefusal)) => {
+                RECORD
+            }
             _ => answer.len(),
         };
         answer[..record].fill(0);
@@ -209,10 +227,11 @@ impl Model {
         number
     }
 
-    fn access(&self, lent: Lent, access: Access) -> u32 {
+    /// An access, with a cache or without.
+    fn access(&self, lent: Lent, access: Access, cache: Option<Cache>) -> u32 {
         let registers =
             Registers::read_wrongly(self.flaw, lent.registers).expect("the length was tested");
-        let ends = self.ends(&registers, access, lent.table);
+        let ends = self.ends(&registers, access, lent.table, cache.as_ref());
         let told: Vec<_> = ends.iter().map(|end| (end.part, end.outcome)).collect();
         let words = operand::answer(self.flaw, access, &told);
         let record = self.record(&registers, &ends, lent.table);
@@ -223,6 +242,10 @@ impl Model {
                 lent.table[group..group + GROUP].copy_from_slice(&before[group..group + GROUP]);
             }
             self.mark_part(&ends, number, lent.table);
+        }
+        if let Some(mut cache) = cache {
+            self.load(&ends, &registers, lent.table, &mut cache);
+            cache.write(lent.cache);
         }
         put_words(lent.answer, &words);
         if words[0] != 10 || !self.has(Flaw::Record(RecordFlaw::LeftAtRefusal)) {
@@ -236,32 +259,76 @@ impl Model {
         let flaw = RecordFlaw::of_model(self.flaw);
         let outcomes: Vec<Outcome> = ends.iter().map(|end| end.outcome).collect();
         let Some(speaking) = record::speaking(flaw, &outcomes) else { return [0; 4] };
-        let End { part, outcome, ref matches } = ends[speaking];
+        let End { part, outcome, ref matches, page, hit } = ends[speaking];
         let [rule, mut detail] = record::rule_and_detail(flaw, registers, part, outcome);
-        if let (Some(RecordFlaw::PpOfNextEntry), 5 | 6) = (flaw, rule) {
-            let next = Place { entry: (matches[0].entry + 1) % 8, ..matches[0] };
+        if let (Some(RecordFlaw::PpOfNextEntry), 5 | 6, Some(&first)) =
+            (flaw, rule, matches.first())
+        {
+            let next = Place { entry: (first.entry + 1) % 8, ..first };
             detail = detail & !0b11 | word_at(table, next.at() + 4) & 0b11;
         }
-        let [group, entry] = record::place(flaw, registers, part, outcome, matches);
+        let [group, entry] = match (hit, page) {
+            (Some(hit), Some(page)) => self.place_of_hit(registers, outcome, page, hit, table),
+            _ => record::place(flaw, registers, part, outcome, matches),
+        };
         [rule, detail, group, entry]
     }
 
+    /// Words 10 and 11 of a hit.
+    fn place_of_hit(
+        &self,
+        registers: &Registers,
+        outcome: Outcome,
+        page: Page,
+        hit: Hit,
+        table: &[u8],
+    ) -> [u32; 2] {
+        if !record::has_place(outcome) {
+            return [0, 0];
+        }
+        let [group, entry] = hit.shown(self.flaw, registers.sdr1(), page);
+        let first = || search::matches(None, registers.sdr1(), page, table).first().copied();
+        match CacheFlaw::of_model(self.flaw) {
+            Some(CacheFlaw::TableEntryShown) => {
+                [group, first().map_or(entry, |place| place.entry as u32)]
+            }
+            Some(CacheFlaw::TableGroupShown) => {
+                [first().map_or(group, |place| place.group as u32), entry]
+            }
+            _ => [group, entry],
+        }
+    }
+
     /// What each part of an operand comes to under well-formed registers, on the table as it is lent.
-    pub fn ends(&self, registers: &Registers, access: Access, table: &[u8]) -> Vec<End> {
+    pub fn ends(
+        &self,
+        registers: &Registers,
+        access: Access,
+        table: &[u8],
+        cache: Option<&Cache>,
+    ) -> Vec<End> {
         let parts = operand::parts(self.flaw, registers, access);
         let by_first = self.has(Flaw::SecondBySegmentOfFirst);
         let of_part = |part: Access| match by_first {
             true => registers.with_segment_of(access.address, part.address),
             false => *registers,
         };
-        parts.into_iter().map(|part| self.end(&of_part(part), part, table)).collect()
+        parts.into_iter().map(|part| self.end(&of_part(part), part, table, cache)).collect()
     }
 
-    fn end(&self, registers: &Registers, part: Access, table: &[u8]) -> End {
-        let (page, segment) = match translation::before_search(self.flaw, registers, part) {
-            BeforeSearch::Settled(outcome) => return End { part, outcome, matches: Vec::new() },
+    /// What a part comes to: where it goes by a page, the cache is asked before the table.
+    fn end(&self, registers: &Registers, part: Access, table: &[u8], cache: Option<&Cache>) -> End {
+        let (page, segment) = match self.before_search(registers, part, cache) {
+            BeforeSearch::Settled(outcome) => {
+                return End { part, outcome, matches: Vec::new(), page: None, hit: None }
+            }
             BeforeSearch::Search { page, segment } => (page, segment),
         };
+        if let Some(hit) = cache.and_then(|cache| cache.hit(page, part)) {
+            if let Some(end) = self.end_by_hit(registers, segment, part, page, hit, table) {
+                return end;
+            }
+        }
         let mut matches = search::matches(self.flaw, registers.sdr1(), page, table);
         if self.has(Flaw::NeverMatches) {
             matches.clear();
@@ -271,7 +338,170 @@ impl Model {
             Some(_) if search::contradict(self.flaw, &matches) => Outcome::Contradiction,
             Some(first) => translation::after_match(self.flaw, segment, first.second, part),
         };
-        End { part, outcome, matches }
+        End { part, outcome, matches, page: Some(page), hit: None }
+    }
+
+    /// Steps 1 to 3, or a mistake by which the cache is asked before one of them.
+    fn before_search(
+        &self,
+        registers: &Registers,
+        part: Access,
+        cache: Option<&Cache>,
+    ) -> BeforeSearch {
+        let right = translation::before_search(self.flaw, registers, part);
+        let segment = registers.segment(part.address);
+        let page = Page::of_address(segment.vsid(), part.address);
+        let wrong = match (CacheFlaw::of_model(self.flaw), &right) {
+            (Some(CacheFlaw::BeforeRealMode), BeforeSearch::Settled(Outcome::RealMode))
+            | (
+                Some(CacheFlaw::BeforeBlocks),
+                BeforeSearch::Settled(Outcome::Block { .. } | Outcome::BlockProtection { .. }),
+            )
+            | (Some(CacheFlaw::BeforeNoExecute), BeforeSearch::Settled(Outcome::NoExecute)) => {
+                cache.is_some_and(|cache| cache.hit(page, part).is_some())
+            }
+            _ => false,
+        };
+        match wrong {
+            true => BeforeSearch::Search { page, segment },
+            false => right,
+        }
+    }
+
+    /// What a hit comes to by the entry as loaded; none where a wrong model goes to the table all the same.
+    fn end_by_hit(
+        &self,
+        registers: &Registers,
+        segment: Segment,
+        part: Access,
+        page: Page,
+        hit: Hit,
+        table: &[u8],
+    ) -> Option<End> {
+        let found = || search::matches(None, registers.sdr1(), page, table);
+        let flaw = CacheFlaw::of_model(self.flaw);
+        let asked = match flaw {
+            Some(CacheFlaw::HitNotGuarded | CacheFlaw::BeforeNoExecute) if part.is_fetch() => {
+                Access { kind: LOAD, ..part }
+            }
+            _ => part,
+        };
+        let mut outcome = translation::after_match(self.flaw, segment, hit.words[1], asked);
+        let mut matches = Vec::new();
+        match flaw {
+            Some(CacheFlaw::HitAsksTable) if found().is_empty() => return None,
+            Some(CacheFlaw::HitContradicts) if search::contradict(None, &found()) => {
+                outcome = Outcome::Contradiction
+            }
+            Some(CacheFlaw::HitMarks) => matches = found(),
+            Some(CacheFlaw::HitNotProtected) => {
+                if let Outcome::Protection { key, pp } = outcome {
+                    let Fields { rpn, wimg, .. } = Fields::of_words(0, hit.words[1]);
+                    let physical = rpn << 12 | part.address & 0xFFF;
+                    outcome = Outcome::Page { key, pp, physical, wimg };
+                }
+            }
+            _ => {}
+        }
+        Some(End { part, outcome, matches, page: Some(page), hit: Some(hit) })
+    }
+
+    /// Loads each page of a done access that went to the table, as its entry stands there now.
+    fn load(&self, ends: &[End], registers: &Registers, table: &mut [u8], cache: &mut Cache) {
+        let flaw = CacheFlaw::of_model(self.flaw);
+        let all_done = ends.iter().all(|end| end.outcome.is_done());
+        for (number, end) in ends.iter().enumerate() {
+            let page = end.page.or_else(|| self.page_by_block(registers, end));
+            let Some(page) = page else { continue };
+            if let Some(hit) = &end.hit {
+                cache.touch(page, hit);
+                continue;
+            }
+            let loaded = match (flaw, end.outcome) {
+                (Some(CacheFlaw::StoreNotLoaded), _) if end.part.is_store() => false,
+                (Some(CacheFlaw::FetchNotLoaded), _) if end.part.is_fetch() => false,
+                (Some(CacheFlaw::PartNotLoaded(part)), _) if ends.len() == 2 && part == number => {
+                    false
+                }
+                (Some(CacheFlaw::LoadedEarly), Outcome::Page { .. }) => true,
+                (Some(CacheFlaw::LoadedAtFault), Outcome::Guarded | Outcome::Protection { .. }) => {
+                    true
+                }
+                (Some(CacheFlaw::LoadedAtContradiction), Outcome::Contradiction) => true,
+                (Some(CacheFlaw::LoadedAtNoMatch), Outcome::NoMatch) => true,
+                (_, outcome) => all_done && outcome.is_done(),
+            };
+            if loaded {
+                self.load_page(registers, end, page, table, cache);
+            }
+        }
+    }
+
+    /// The page of a part that a block did, for the mistake by which it is loaded.
+    fn page_by_block(&self, registers: &Registers, end: &End) -> Option<Page> {
+        match (CacheFlaw::of_model(self.flaw), end.outcome) {
+            (Some(CacheFlaw::LoadedByBlock), Outcome::Block { .. }) => {
+                let vsid = registers.segment(end.part.address).vsid();
+                Some(Page::of_address(vsid, end.part.address))
+            }
+            _ => None,
+        }
+    }
+
+    fn load_page(
+        &self,
+        registers: &Registers,
+        end: &End,
+        page: Page,
+        table: &mut [u8],
+        cache: &mut Cache,
+    ) {
+        let flaw = CacheFlaw::of_model(self.flaw);
+        let searched = match end.matches.is_empty() {
+            true => search::matches(None, registers.sdr1(), page, table),
+            false => end.matches.clone(),
+        };
+        let used = match flaw {
+            Some(CacheFlaw::LastMatchLoaded) => searched.last(),
+            _ => searched.first(),
+        };
+        let Some(used) = used else {
+            if flaw == Some(CacheFlaw::LoadedAtNoMatch) {
+                cache.load(page, [0, 0], page.page_index);
+            }
+            return;
+        };
+        let mut entry = [word_at(table, used.at()), word_at(table, used.at() + 4)];
+        let left_out = match flaw {
+            Some(CacheFlaw::ReferencedInCacheOnly) => REFERENCED,
+            Some(CacheFlaw::ChangedInCacheOnly) => CHANGED,
+            _ => 0,
+        };
+        put_word(table, used.at() + 4, entry[1] & !left_out | used.second & left_out);
+        match flaw {
+            Some(CacheFlaw::LoadedUnmarked) => entry[1] = used.second,
+            Some(CacheFlaw::LoadedWithoutH) => entry[0] &= !0x40,
+            _ => {}
+        }
+        let third = match flaw {
+            Some(CacheFlaw::SegmentInThird) => end.part.address >> 12,
+            _ => page.page_index,
+        };
+        cache.load(page, entry, third);
+    }
+
+    /// The mistake by which a table of wrong length is not asked for where every page hits.
+    fn access_without_table(&self, lent: Lent, access: Access) -> u32 {
+        let Lent { registers, cache, answer, .. } = lent;
+        let set = Registers::read(registers).expect("the length was tested");
+        let mut table = vec![0; table_length(set.sdr1())];
+        let held = Cache::read(self.flaw, cache);
+        let ends = self.ends(&set, access, &table, Some(&held));
+        if ends.iter().any(|end| end.page.is_some() && end.hit.is_none()) {
+            return self.refuse(&Call::AccessCached(access), 1, answer);
+        }
+        let lent = Lent { registers, table: &mut table, cache, answer };
+        self.access(lent, access, Some(held))
     }
 
     /// Marks the match that did a part, where every part is done.
@@ -324,9 +554,11 @@ fn marks_of(matches: &[Place]) -> u32 {
     matches.iter().fold(0, |marks, place| marks | place.second & (REFERENCED | CHANGED))
 }
 
-/// What a part of an operand comes to, and the matches it met.
+/// What a part of an operand comes to, the matches it met in the table, its page where it goes by one, and its hit.
 pub struct End {
     pub part: Access,
     pub outcome: Outcome,
     pub matches: Vec<Place>,
+    pub page: Option<Page>,
+    pub hit: Option<Hit>,
 }

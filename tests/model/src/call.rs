@@ -71,13 +71,19 @@ pub enum Call {
     Protect { sdr1: u32, page: Page, pp: u32 },
     Look { sdr1: u32, page: Page },
     Access(Access),
+    /// An access with a translation cache.
+    AccessCached(Access),
+    Invalidate { page_index: u32 },
     Pack(Fields),
     Unpack { first: u32, second: u32 },
 }
 
-/// The names of the ten calls.
-pub const NAMES: [&str; 10] =
-    ["check", "set", "clear", "map", "unmap", "protect", "look", "access", "pack", "unpack"];
+/// The names of the twelve calls.
+#[rustfmt::skip]
+pub const NAMES: [&str; 12] = [
+    "check", "set", "clear", "map", "unmap", "protect", "look", "access", "cached", "invalidate",
+    "pack", "unpack",
+];
 
 impl Call {
     pub fn name(&self) -> &'static str {
@@ -90,6 +96,8 @@ impl Call {
             Call::Protect { .. } => "protect",
             Call::Look { .. } => "look",
             Call::Access(_) => "access",
+            Call::AccessCached(_) => "cached",
+            Call::Invalidate { .. } => "invalidate",
             Call::Pack(_) => "pack",
             Call::Unpack { .. } => "unpack",
         }
@@ -118,19 +126,40 @@ impl Call {
         }
     }
 
+    /// The access, with a cache or without.
+    pub fn access(&self) -> Option<Access> {
+        match *self {
+            Call::Access(access) | Call::AccessCached(access) => Some(access),
+            _ => None,
+        }
+    }
+
+    /// The call with another access, where it is one.
+    pub fn with_access(self, access: Access) -> Call {
+        match self {
+            Call::Access(_) => Call::Access(access),
+            Call::AccessCached(_) => Call::AccessCached(access),
+            _ => self,
+        }
+    }
+
     pub fn is_lent_registers(&self) -> bool {
-        matches!(self, Call::Check | Call::SetRegister { .. } | Call::Access(_))
+        matches!(self, Call::Check | Call::SetRegister { .. }) || self.access().is_some()
     }
 
     pub fn is_lent_table(&self) -> bool {
-        self.sdr1().is_some() || matches!(self, Call::Access(_))
+        self.sdr1().is_some() || self.access().is_some()
+    }
+
+    pub fn is_lent_cache(&self) -> bool {
+        matches!(self, Call::AccessCached(_) | Call::Invalidate { .. })
     }
 
     /// The length an answer has to have; pack's entry and unpack's fields are answers too.
     pub fn answer_length(&self) -> Option<usize> {
         match self {
             Call::Unmap { .. } | Call::Look { .. } => Some(16),
-            Call::Access(_) => Some(48),
+            Call::Access(_) | Call::AccessCached(_) => Some(48),
             Call::Pack(_) => Some(8),
             Call::Unpack { .. } => Some(36),
             _ => None,
@@ -142,6 +171,7 @@ impl Call {
 pub struct Lent<'a> {
     pub registers: &'a mut [u8],
     pub table: &'a mut [u8],
+    pub cache: &'a mut [u8],
     pub answer: &'a mut [u8],
 }
 
@@ -150,6 +180,7 @@ impl Lent<'_> {
         Lengths {
             registers: self.registers.len(),
             table: self.table.len(),
+            cache: self.cache.len(),
             answer: self.answer.len(),
         }
     }
@@ -159,5 +190,6 @@ impl Lent<'_> {
 pub struct Lengths {
     pub registers: usize,
     pub table: usize,
+    pub cache: usize,
     pub answer: usize,
 }

@@ -55,7 +55,8 @@ impl FiniteMap {
         &self.pages
     }
 
-    /// One call on a table: clear, map, unmap, protect, look or access.
+    /// One call on a table: clear, map, unmap, protect, look, an access with a cache or without; or an invalidate,
+    /// which is nothing to the map.
     pub fn perform(&mut self, call: &Call, registers: &[u8], lengths: Lengths) -> Reply {
         if let Some(&number) = rules::broken(None, call, registers, lengths).first() {
             return self.refusal(call, number);
@@ -81,7 +82,8 @@ impl FiniteMap {
                 None => self.refusal(call, 8),
                 Some(frame) => done(Some(second_word(frame))),
             },
-            Call::Access(access) => self.access(registers, access),
+            Call::Access(access) | Call::AccessCached(access) => self.access(registers, access),
+            Call::Invalidate { .. } => done(None),
             _ => panic!("{} is no call on a table", call.name()),
         }
     }
@@ -169,8 +171,8 @@ impl FiniteMap {
         let answer = written.map(|length| {
             let mut words = vec![Some(0); length / 4];
             words[0] = Some(number);
-            if let (Call::Access(_), Some(RecordFlaw::LeftAtRefusal)) =
-                (call, RecordFlaw::of_map(self.flaw))
+            if let (Some(_), Some(RecordFlaw::LeftAtRefusal)) =
+                (call.access(), RecordFlaw::of_map(self.flaw))
             {
                 words[8] = Some(3);
             }

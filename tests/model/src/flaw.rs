@@ -254,6 +254,203 @@ pub enum Flaw {
     Swapped(u32, u32),
     /// The rule that decided is shown wrong.
     Record(RecordFlaw),
+    /// The translation cache is used wrongly.
+    Cache(CacheFlaw),
+}
+
+/// Ways to get the translation cache wrong.
+#[derive(Clone, Copy, Debug, PartialEq, Eq)]
+pub enum CacheFlaw {
+    /// Place 1 is looked at first.
+    PlaceOneFirst,
+    /// V is not compared.
+    VForgotten,
+    /// The VSID is not compared.
+    VsidForgotten,
+    /// The page index is not compared.
+    PageIndexForgotten,
+    /// The page index is compared in its low 16 bits.
+    PageIndexLowBits,
+    /// The API of the loaded word is compared too.
+    ApiCompared,
+    /// An entry with H set does not hit.
+    HCompared,
+    /// A place whose fourth word is neither 0 nor 1 does not hit.
+    AgeCompared,
+    /// A store passes over a place with C clear and looks at the next.
+    ChangedCompared,
+    /// A store hits an entry with C clear.
+    StoreHitsUnchanged,
+    /// No access hits an entry with C clear.
+    LoadMissesUnchanged,
+    /// A fetch never hits.
+    FetchMisses,
+    /// The set goes by the low five bits of the page index.
+    SetByFiveBits,
+    /// The set goes by the high six bits of the page index.
+    SetByHighBits,
+    /// The cache is asked before real mode.
+    BeforeRealMode,
+    /// The cache is asked before the blocks.
+    BeforeBlocks,
+    /// The cache is asked before the segment's N.
+    BeforeNoExecute,
+    /// G is not asked for at a hit.
+    HitNotGuarded,
+    /// Protection is not asked for at a hit.
+    HitNotProtected,
+    /// A hit is refused 10 where the table's matches contradict.
+    HitContradicts,
+    /// A page that has no match in the table does not hit.
+    HitAsksTable,
+    /// A hit marks the table.
+    HitMarks,
+    /// A hit sets R in the cache.
+    HitReferences,
+    /// A hit becomes the newer load.
+    HitIsNewer,
+    /// A hit shows the entry number of the table's first match.
+    TableEntryShown,
+    /// A hit shows the group of the table's first match.
+    TableGroupShown,
+    /// A hit shows the primary group always.
+    PrimaryShown,
+    /// A page is loaded after a fault of its own.
+    LoadedAtFault,
+    /// The first page is loaded though the second is not done.
+    LoadedEarly,
+    /// The first match is loaded after a 10.
+    LoadedAtContradiction,
+    /// A page without a match is loaded, with zero words.
+    LoadedAtNoMatch,
+    /// A page that a block did is loaded from the table.
+    LoadedByBlock,
+    /// Stores load nothing.
+    StoreNotLoaded,
+    /// Fetches load nothing.
+    FetchNotLoaded,
+    /// Over two pages this one is not loaded.
+    PartNotLoaded(usize),
+    /// The entry is loaded before it is marked.
+    LoadedUnmarked,
+    /// R is set in the cache and not in the table.
+    ReferencedInCacheOnly,
+    /// C is set in the cache and not in the table.
+    ChangedInCacheOnly,
+    /// The last of several matches is loaded.
+    LastMatchLoaded,
+    /// Bits 20 to 22 and 29 are loaded as zero.
+    IgnoredBitsNotLoaded,
+    /// The first word is loaded with H = 0.
+    LoadedWithoutH,
+    /// The third word has the segment's number before the page index.
+    SegmentInThird,
+    /// The newer load is replaced.
+    NewerReplaced,
+    /// Place 1 is taken where it has V = 0.
+    EmptyOnePreferred,
+    /// Place 0 is taken where it has V = 0.
+    EmptyZeroPreferred,
+    /// Place 1 is taken where both fourth words are 1.
+    BothNewerTakesOne,
+    /// Place 1 is taken where neither fourth word is 1.
+    NeitherNewerTakesOne,
+    /// A fourth word is the newer load's where it is not 0.
+    NonzeroIsNewer,
+    /// A fourth word is the newer load's where its low bit is 1.
+    LowBitIsNewer,
+    /// A reload goes where a new page would.
+    ReloadByRule,
+    /// A reload goes to the other place.
+    ReloadInOtherPlace,
+    /// A place with V = 0 that has VSID and page index is loaded again.
+    ReloadWithoutV,
+    /// A place that has the page index is loaded again, whatever its VSID.
+    ReloadByPageIndex,
+    /// A reload does not become the newer load.
+    ReloadNotNewer,
+    /// A load leaves the other place's fourth word.
+    OtherStaysNewer,
+    /// A load leaves the other place's fourth word where it is not 1.
+    OtherAgedIfNewer,
+    /// A load empties the other place.
+    OtherEmptied,
+    /// Invalidate zeroes this place alone.
+    InvalidatesPlace(usize),
+    /// Invalidate zeroes the places that have the page index.
+    InvalidatesByPageIndex,
+    /// Invalidate clears V alone.
+    InvalidatesV,
+    /// Invalidate zeroes the whole cache.
+    InvalidatesAll,
+    /// Invalidate takes any page index.
+    InvalidateTakesAny,
+    /// Invalidate tests 6 before 11.
+    InvalidateSixFirst,
+    /// The length of the cache is not looked at.
+    LengthUnchecked,
+    /// A longer cache is taken.
+    LongerTaken,
+    /// The length of the cache is tested last.
+    LengthLast,
+    /// The length of the table is not tested where every page hits.
+    TableLengthAtMissOnly,
+}
+
+impl CacheFlaw {
+    /// All of them.
+    #[rustfmt::skip]
+    pub const ALL: [CacheFlaw; 69] = [
+        CacheFlaw::PlaceOneFirst, CacheFlaw::VForgotten, CacheFlaw::VsidForgotten,
+        CacheFlaw::PageIndexForgotten, CacheFlaw::PageIndexLowBits, CacheFlaw::ApiCompared,
+        CacheFlaw::HCompared, CacheFlaw::AgeCompared, CacheFlaw::ChangedCompared,
+        CacheFlaw::StoreHitsUnchanged, CacheFlaw::LoadMissesUnchanged, CacheFlaw::FetchMisses,
+        CacheFlaw::SetByFiveBits, CacheFlaw::SetByHighBits, CacheFlaw::BeforeRealMode,
+        CacheFlaw::BeforeBlocks, CacheFlaw::BeforeNoExecute, CacheFlaw::HitNotGuarded,
+        CacheFlaw::HitNotProtected, CacheFlaw::HitContradicts, CacheFlaw::HitAsksTable,
+        CacheFlaw::HitMarks, CacheFlaw::HitReferences, CacheFlaw::HitIsNewer,
+        CacheFlaw::TableEntryShown, CacheFlaw::TableGroupShown, CacheFlaw::PrimaryShown,
+        CacheFlaw::LoadedAtFault, CacheFlaw::LoadedEarly, CacheFlaw::LoadedAtContradiction,
+        CacheFlaw::LoadedAtNoMatch, CacheFlaw::LoadedByBlock, CacheFlaw::StoreNotLoaded,
+        CacheFlaw::FetchNotLoaded, CacheFlaw::PartNotLoaded(0), CacheFlaw::PartNotLoaded(1),
+        CacheFlaw::LoadedUnmarked, CacheFlaw::ReferencedInCacheOnly, CacheFlaw::ChangedInCacheOnly,
+        CacheFlaw::LastMatchLoaded, CacheFlaw::IgnoredBitsNotLoaded, CacheFlaw::LoadedWithoutH,
+        CacheFlaw::SegmentInThird, CacheFlaw::NewerReplaced, CacheFlaw::EmptyOnePreferred,
+        CacheFlaw::EmptyZeroPreferred, CacheFlaw::BothNewerTakesOne,
+        CacheFlaw::NeitherNewerTakesOne, CacheFlaw::NonzeroIsNewer, CacheFlaw::LowBitIsNewer,
+        CacheFlaw::ReloadByRule, CacheFlaw::ReloadInOtherPlace, CacheFlaw::ReloadWithoutV,
+        CacheFlaw::ReloadByPageIndex, CacheFlaw::ReloadNotNewer, CacheFlaw::OtherStaysNewer,
+        CacheFlaw::OtherAgedIfNewer, CacheFlaw::OtherEmptied, CacheFlaw::InvalidatesPlace(0),
+        CacheFlaw::InvalidatesPlace(1), CacheFlaw::InvalidatesByPageIndex, CacheFlaw::InvalidatesV,
+        CacheFlaw::InvalidatesAll, CacheFlaw::InvalidateTakesAny, CacheFlaw::InvalidateSixFirst,
+        CacheFlaw::LengthUnchecked, CacheFlaw::LongerTaken, CacheFlaw::LengthLast,
+        CacheFlaw::TableLengthAtMissOnly,
+    ];
+
+    /// Those by which a run with a cache differs from the same run without: the two runs of one machine are the only
+    /// judge. The rest needs a cache that no run from zeros leads to, or changes what is loaded and no answer.
+    #[rustfmt::skip]
+    pub const IN_RUNS: [CacheFlaw; 19] = [
+        CacheFlaw::VForgotten, CacheFlaw::VsidForgotten, CacheFlaw::PageIndexForgotten,
+        CacheFlaw::StoreHitsUnchanged, CacheFlaw::BeforeRealMode, CacheFlaw::BeforeBlocks,
+        CacheFlaw::BeforeNoExecute, CacheFlaw::HitNotGuarded, CacheFlaw::HitNotProtected,
+        CacheFlaw::PrimaryShown, CacheFlaw::LoadedAtFault, CacheFlaw::LoadedEarly,
+        CacheFlaw::LoadedAtContradiction, CacheFlaw::ReferencedInCacheOnly,
+        CacheFlaw::ChangedInCacheOnly, CacheFlaw::LoadedWithoutH,
+        CacheFlaw::InvalidatesPlace(0), CacheFlaw::InvalidatesPlace(1), CacheFlaw::LengthUnchecked,
+    ];
+
+    /// Those that keep the promise about runs: the page stands in another place, or another page makes room.
+    pub const UNSEEN_IN_RUNS: [CacheFlaw; 3] =
+        [CacheFlaw::NewerReplaced, CacheFlaw::ReloadInOtherPlace, CacheFlaw::HitIsNewer];
+
+    /// The mistake about the cache that a wrong model makes, if it is one.
+    pub fn of_model(flaw: Option<Flaw>) -> Option<CacheFlaw> {
+        match flaw {
+            Some(Flaw::Cache(flaw)) => Some(flaw),
+            _ => None,
+        }
+    }
 }
 
 /// Ways to get the record of the rule that decided wrong, in the model or in the finite map.

@@ -1,10 +1,11 @@
-//! Document 01 and requests 1 to 5 written twice in plain Rust, from their text alone: the calls on
+//! Document 01 and requests 1 to 7 written twice in plain Rust, from their text alone: the calls on
 //! bytes (`bytes`), and the finite map (`finite_map`). They share the rules on numbers, registers and
 //! lengths, the parts of an operand, the steps of an access that need no table, and the rule and
 //! detail of a record; hash, search, room, marks and places are written in each on its own.
 
 pub mod arrangement;
 pub mod bytes;
+pub mod cache;
 pub mod call;
 pub mod entry;
 pub mod finite_map;

@@ -1,7 +1,8 @@
 //! The refusals that follow from numbers, register words and lengths alone, in their order.
 
+use crate::cache;
 use crate::call::{Call, Lengths, Page};
-use crate::flaw::Flaw;
+use crate::flaw::{CacheFlaw, Flaw};
 use crate::operand;
 use crate::registers::{sdr1_is_well_formed, table_length, Block, Layout, Registers};
 use crate::words::{bits, ending_at};
@@ -14,7 +15,8 @@ fn order(call: &Call) -> &'static [u32] {
         Call::Clear { .. } => &[2, 1],
         Call::Map { .. } | Call::Protect { .. } => &[6, 2, 1],
         Call::Unmap { .. } | Call::Look { .. } => &[11, 6, 2, 1],
-        Call::Access(_) => &[11, 6, 12, 2, 3, 4, 5, 1],
+        Call::Access(_) | Call::AccessCached(_) => &[11, 6, 12, 2, 3, 4, 5, 1],
+        Call::Invalidate { .. } => &[11, 6],
         Call::Pack(_) => &[11, 6],
         Call::Unpack { .. } => &[11],
     }
@@ -26,6 +28,10 @@ pub fn broken(flaw: Option<Flaw>, call: &Call, registers: &[u8], lengths: Length
     if let Some(Flaw::Swapped(earlier, later)) = flaw {
         swap(&mut numbers, earlier, later);
     }
+    let of_cache = CacheFlaw::of_model(flaw).filter(|_| call.is_lent_cache());
+    if let (Some(CacheFlaw::InvalidateSixFirst), Call::Invalidate { .. }) = (of_cache, call) {
+        swap(&mut numbers, 11, 6);
+    }
     if flaw == Some(Flaw::RealModeUnchecked) && is_untranslated(call) {
         numbers.truncate(3);
     }
@@ -36,7 +42,7 @@ pub fn broken(flaw: Option<Flaw>, call: &Call, registers: &[u8], lengths: Length
     let is_open = || judged.is_some_and(|set| set.is_open());
     let sdr1 = call.sdr1().or(judged.map(|set| set.sdr1()));
     numbers.retain(|&number| match number {
-        11 => length_is_wrong(call, judged.is_some(), lengths),
+        11 => length_is_wrong(flaw, call, judged.is_some(), lengths),
         6 => !arguments_in_range(flaw, call, judged.as_ref()),
         12 => !operand_in_range(flaw, call),
         3..=5 if flaw == Some(Flaw::OpenTaken) && is_open() => false,
@@ -45,6 +51,9 @@ pub fn broken(flaw: Option<Flaw>, call: &Call, registers: &[u8], lengths: Length
         1 => sdr1.is_some_and(|sdr1| lengths.table != table_length(sdr1)),
         _ => judged.is_some_and(|set| breaks_register_rule(flaw, number, call, &set)),
     });
+    if of_cache == Some(CacheFlaw::LengthLast) && lengths.cache != cache::CACHE {
+        numbers.push(11);
+    }
     numbers
 }
 
@@ -56,13 +65,13 @@ fn swap(numbers: &mut [u32], earlier: u32, later: u32) {
 }
 
 fn is_untranslated(call: &Call) -> bool {
-    matches!(call, Call::Access(access) if !access.is_translated())
+    call.access().is_some_and(|access| !access.is_translated())
 }
 
 /// The mistakes by which a call asks for no rule of the register page.
 fn is_unchecked(flaw: Option<Flaw>, call: &Call) -> bool {
     match flaw {
-        Some(Flaw::AccessUnchecked) => matches!(call, Call::Access(_)),
+        Some(Flaw::AccessUnchecked) => call.access().is_some(),
         Some(Flaw::SetUnchecked) => matches!(call, Call::SetRegister { .. }),
         _ => false,
     }
@@ -88,9 +97,10 @@ fn judged_set(flaw: Option<Flaw>, call: &Call, registers: &[u8]) -> Option<Regis
     }
 }
 
-fn length_is_wrong(call: &Call, has_registers: bool, lengths: Lengths) -> bool {
+fn length_is_wrong(flaw: Option<Flaw>, call: &Call, has_registers: bool, lengths: Lengths) -> bool {
     let answer_is_wrong = call.answer_length().is_some_and(|length| lengths.answer != length);
-    answer_is_wrong || call.is_lent_registers() && !has_registers
+    let cache_is_wrong = call.is_lent_cache() && !cache::length_fits(flaw, lengths.cache);
+    answer_is_wrong || cache_is_wrong || call.is_lent_registers() && !has_registers
 }
 
 fn arguments_in_range(flaw: Option<Flaw>, call: &Call, set: Option<&Registers>) -> bool {
@@ -105,7 +115,10 @@ fn arguments_in_range(flaw: Option<Flaw>, call: &Call, set: Option<&Registers>) 
                 rpn < 1 << 20 && wimg < 16 && !has_w_and_i(wimg) && pp < 4
             }
             Call::Protect { pp, .. } => pp < 4,
-            Call::Access(access) => access.mode <= 7 && access.kind <= 2,
+            Call::Access(access) | Call::AccessCached(access) => {
+                access.mode <= 7 && access.kind <= 2
+            }
+            Call::Invalidate { page_index } => cache::page_index_fits(flaw, page_index),
             Call::Pack(fields) if flaw == Some(Flaw::PackRefusesWimg) => {
                 fields.in_range() && !has_w_and_i(fields.wimg)
             }
@@ -116,7 +129,7 @@ fn arguments_in_range(flaw: Option<Flaw>, call: &Call, set: Option<&Registers>) 
 
 /// Whether an access names 1 to 128 bytes.
 fn operand_in_range(flaw: Option<Flaw>, call: &Call) -> bool {
-    let Call::Access(access) = *call else { return true };
+    let Some(access) = call.access() else { return true };
     let longest = match flaw {
         Some(Flaw::LongestRefused) => operand::LONGEST - 1,
         Some(Flaw::OneTooLongTaken) => operand::LONGEST + 1,
@@ -139,8 +152,8 @@ fn breaks_register_rule(flaw: Option<Flaw>, number: u32, call: &Call, set: &Regi
             one.shares_an_address(other)
                 && (one.shares_a_valid_bit(other) || flaw == Some(Flaw::BlocksOfAnyState))
         }),
-        _ => match *call {
-            Call::Access(access) if flaw == Some(Flaw::OneSegmentJudged) => {
+        _ => match call.access() {
+            Some(access) if flaw == Some(Flaw::OneSegmentJudged) => {
                 !set.segment(access.address).is_well_formed()
             }
             _ => !set.segments_are_well_formed(),

@@ -2,6 +2,7 @@
 use borrow.Author.Needs.{needs}
 use borrow.Author.Tests.{lt-ltb}
 use mathlib.Core.Path.{_≡_, sym, ap, ap₂, _∙_}
+use mathlib.Core.Bool.{Bool}
 use mathlib.Core.List.{List}
 use Prim.Native.Nat.{ℕ, _+_, _*_, _^_, _≤_, _<_}
 use native.Mathlib.Omega.{arith}
@@ -24,7 +25,8 @@ use Rattle.calls.proofs.OnBytes.{matches-by-groups}
 use Rattle.calls.proofs.Access.{done-by-first, late-done, marked-done, decision-noted}
 use Rattle.page_calls.proofs.located.AtPage as at-page
 use Rattle.page_calls.proofs.located.AtPage.{located, locatable, inside, searchable, place-is, search-is}
-use Rattle.table_access.specs.Part.{marked, SameMatches}
+use Rattle.table_access.specs.Part.{marked, SameMatches, OfFirst}
+use Rattle.table_access.proofs.Told.{first-noted}
 use Rattle.table_access.proofs.by_page.Statement.{statement}
 use Rattle.table_access.proofs.by_page.Tie as tie
 
@@ -159,7 +161,7 @@ decision-of-requires : tie.Need-decision-of-requires
 decision-of-requires c κs = search needs
 
 returns : tie.Need-returns
-unfolding marked SameMatches
+unfolding marked SameMatches OfFirst
 returns c =
     let at-answer = c .before in
     let at-entry = at-answer .before in
@@ -188,6 +190,9 @@ returns c =
           let first = done-by-first s _ (noted-are at-both) (a .kind) (a .wanted .key) (told .0) (told .1) in
           rw (group-is at-group, at-entry .entry .ensures, lt-ltb (entryOf s) 8 (summary-entry-lt s))
           (sym (marked-done k (a .wanted) u s (noted-are at-both ∙ ap summary (sym same)) (a .kind) (first .found)));
+      first = λ x xs e.
+          let (side, number, word) = first-noted k t (wantedPage (a .wanted)) s (noted-are at-both) x xs e in
+          (group-is at-group ∙ ap (λ (b : Bool). groupNumber (10 + k) b (wantedPage (a .wanted))) side, at-entry .entry .ensures ∙ number, word);
     }
 
 pub by-page-spec : {M : Type 1} → statement M

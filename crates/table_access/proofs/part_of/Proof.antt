@@ -1,6 +1,6 @@
 -- `table_access::part_of` meets its contract: a part decided before the search has no entry to mark, and any other goes by its page.
 use borrow.Author.Needs.{needs}
-use mathlib.Core.Path.{_≡_, sym, ap, subst, _∙_}
+use mathlib.Core.Path.{_≡_, refl, sym, ap, subst, _∙_}
 use mathlib.Core.Bool.{true}
 use Prim.Native.Nat.{ℕ}
 use native.Mathlib.Omega.{arith}
@@ -14,7 +14,7 @@ use Rattle.translation.specs.declared.Early.the-variants.{Search}
 use Rattle.translation.proofs.Steps.{outcome-decided, wanted-in-range}
 use Rattle.calls.specs.OnBytes.{usedBy, searchIn, firstPlaceIn}
 use Rattle.calls.proofs.Access.{unmarked-decided}
-use Rattle.table_access.specs.Part.{marked, ByPart}
+use Rattle.table_access.specs.Part.{marked, OfFirst, ByPart}
 use Rattle.table_access.proofs.part_of.Statement.{statement}
 use Rattle.table_access.proofs.part_of.Tie as tie
 
@@ -50,7 +50,7 @@ by-page-requires c κs =
     (ap sdr1Shape is ∙ start .pre .2, start .pre .3 ∙ sym (ap tableLength is), range .0, range .1)
 
 returns : tie.Need-returns
-unfolding marked tableLength
+unfolding marked tableLength OfFirst
 returns c =
     let at-answer = c .before .before in
     let known = at-answer .before .before in
@@ -66,6 +66,7 @@ returns c =
       decides = c .decision-of .ensures ∙ ap (λ (u : Used). decisionOf u outcome) (c .before .nothing .ensures) ∙ ap (decisionOf _) (sym decided);
       inside = omega arith;
       marks = λ u done same. sym (unmarked-decided _ _ _ _ _);
+      first = refl;
     })
 
 returns-2 : tie.Need-returns-2

@@ -91,7 +91,10 @@ pub fn spoiled(random: &mut Random, call: Call, register_words: usize) -> Call {
             _ => *page = spoiled_page(random, *page),
         },
         Call::Unmap { page, .. } | Call::Look { page, .. } => *page = spoiled_page(random, *page),
-        Call::Access(access) => *access = spoiled_access(random, *access),
+        Call::Access(access) | Call::AccessCached(access) => {
+            *access = spoiled_access(random, *access)
+        }
+        Call::Invalidate { page_index } => *page_index = past(random, 1 << 16),
         Call::Pack(fields) => *fields = spoiled_fields(random, *fields),
         Call::Check | Call::Clear { .. } | Call::Unpack { .. } => {}
     }
@@ -133,12 +136,12 @@ pub fn spoiled_length(random: &mut Random) -> u32 {
 
 /// The call with an operand of wrong length, where it is an access.
 pub fn with_spoiled_length(random: &mut Random, call: Call) -> Call {
-    match call {
-        Call::Access(access) => {
+    match call.access() {
+        Some(access) => {
             let length = spoiled_length(random);
-            Call::Access(Access { length, ..access })
+            call.with_access(Access { length, ..access })
         }
-        _ => call,
+        None => call,
     }
 }
 

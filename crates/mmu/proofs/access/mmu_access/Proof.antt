@@ -7,7 +7,6 @@ use lib.Dec.{eqb}
 use lib.ListN.{length}
 use Rattle.registers.specs.Set.{isPage}
 use Rattle.words.proofs.Tests.{both}
-use Rattle.calls.specs.Answers.{accessAnswer}
 use Rattle.calls.proofs.Access.{access-wrong-length}
 use Rattle.mmu.proofs.access.mmu_access.Statement.{statement}
 use Rattle.mmu.proofs.access.mmu_access.Tie as tie
@@ -33,11 +32,8 @@ returns c =
 translate-requires : tie.Need-translate-requires
 translate-requires c κs = lengths (c .before) .0
 
-slice-aggregate-write-words : tie.Need-slice-aggregate-write-words
-slice-aggregate-write-words c = search needs
-
-write-words-requires : tie.Need-write-words-requires
-write-words-requires c κs = lengths (c .before .before .before .before .before .before .before .before) .1
+write-told-requires : tie.Need-write-told-requires
+write-told-requires c κs = lengths (c .before .before .before .before .before) .1
 
 same-length : tie.Need-same-length
 same-length c = search needs
@@ -46,12 +42,11 @@ same-length-2 : tie.Need-same-length-2
 same-length-2 c = search needs
 
 returns-2 : tie.Need-returns-2
-unfolding accessAnswer
 returns-2 c =
-    let at-translate = c .before .before .before .before .before .before .before .before .before in
+    let at-translate = c .before .before .before .before .before .before in
     let at-else = at-translate .before .before in
     let a = at-else .before .before .before .before .before .args in
-    rw (c .before .before .write-words .ensures) (at-translate .translate .ensures (a .answer .now) (lengths at-else .1))
+    rw (c .before .before .write-told .ensures) (at-translate .translate .ensures (a .answer .now) (lengths at-else .1))
 
 pub mmu-access-spec : {M : Type 1} → statement M
 mmu-access-spec =
@@ -60,8 +55,7 @@ mmu-access-spec =
     is-page-requires
     returns
     translate-requires
-    slice-aggregate-write-words
-    write-words-requires
+    write-told-requires
     same-length
     same-length-2
     returns-2)

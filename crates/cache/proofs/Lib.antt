@@ -1,0 +1,6 @@
+-- Laws of the cache, for the crates above.
+pub mod Cache
+pub mod Hits
+pub mod Steps
+pub mod Computes
+pub mod Tables

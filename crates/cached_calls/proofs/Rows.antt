@@ -1,0 +1,52 @@
+-- Every row of calls with a cache holds: both sides compute to the same.
+use mathlib.Core.Bool.{true≢false}
+use mathlib.Core.Path.{refl}
+use native.Mathlib.Omega.{arith}
+use Rattle.cached_calls.specs.Rows.{CachedRows, RunRows, WaitingRows}
+use Rattle.cached_calls.proofs.Computes.{cached-calls-compute}
+
+pub cached-rows : CachedRows
+unfolding cached-calls-compute
+cached-rows = record {
+  first-loads = record { equal = refl };
+  second-load = record { equal = refl };
+  bytes = record { equal = refl };
+  replacements = record { equal = refl };
+  hits = record { equal = refl };
+  hits-do-not-age = record { equal = refl };
+  stores = record { equal = refl };
+  faults-load-nothing = record { equal = refl };
+  before-the-cache = record { equal = refl };
+  ages = record { equal = refl };
+  empty-places = record { equal = refl };
+  two-pages = record { equal = refl };
+  two-segments = record { equal = refl };
+  two-pages-faults = record { equal = refl };
+  secondary-groups = record { equal = refl };
+  hit-faults = record { equal = refl };
+  hides = record { equal = refl };
+  tests = record { equal = refl };
+  cache-lengths = record { equal = refl };
+  refusals = record { equal = refl };
+  whole-tables = record { equal = refl };
+  invalidates = record { equal = refl };
+}
+
+pub run-rows : RunRows
+unfolding cached-calls-compute
+run-rows = record {
+  after-an-unmap = record { equal = refl };
+  after-a-protect = record { equal = refl };
+  other-runs = record { equal = refl };
+  other-slices = record { equal = refl };
+}
+
+pub waiting-rows : WaitingRows
+unfolding cached-calls-compute
+waiting-rows = record {
+  waiting = record { equal = refl };
+  waiting-ends = record { equal = refl };
+  not-while-the-first-waits = λ quiet. true≢false (quiet 0 (omega arith));
+  not-while-the-last-waits = λ quiet. true≢false (quiet 63 (omega arith));
+  while-none-waits = λ set small. refl;
+}

@@ -1,0 +1,1 @@
+// Accesses with a cache: definitions, statements and proofs only.

@@ -4,7 +4,7 @@ RT ?= rt
 PREFIX ?= /usr/local
 LIBDIR ?= $(PREFIX)/lib
 INCLUDEDIR ?= $(PREFIX)/include
-VERSION := 0.9.0
+VERSION := 0.10.0
 ARCHIVE ?= target/staticlib/libmmu.a
 OUT := target/c
 C_FLAGS := -std=c99 -Wall -Wextra -pedantic -O2 -Iinclude

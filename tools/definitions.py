@@ -30,6 +30,7 @@ START = [
     ("calls", "Demands", ["Demands"]),
     ("cached_calls", "Cached", ["onCached", "invalidateCall"]),
     ("cached_calls", "Demands", ["CachedDemands"]),
+    ("lost_call", "Lost", ["OneLostCall"]),
 ]
 ROWS = {"Tables", "PageRows", "OperandRows", "FourGroups", "Rows", "Cases"}
 STATEMENTS = "Statements"
@@ -44,7 +45,7 @@ ORDER = [
     ("The cache", ["cache/Cache", "cached_calls/Cached", "cached_calls/Discipline"]),
     ("The finite map", ["placement/Lists", "placement/FiniteMap", "placement/Placement", "calls/OnMap", "tables/Runs", "calls/Histories"]),
     (STATEMENTS, ["entry/RoundTrip", "registers/Blocks", "translation/Stated", "calls/AnyTable", "calls/Refusals", "calls/Widened", "calls/Theorem", "calls/Demands", "calls/Represents", "cache/Placed",
-        "cached_calls/AnyCache", "cached_calls/Invisible", "cached_calls/Demands"]),
+        "cached_calls/AnyCache", "cached_calls/Invisible", "cached_calls/Demands", "lost_call/Lost"]),
 ]
 
 WORD = re.compile(r"[^\s(){},;.]+")

@@ -121,7 +121,7 @@ module _ (c : AccessCall (List ℕ)) (t cache : List ℕ) where
   abbrev number : ℕ
   number = cachedRefusal c (length t) (length cache)
 
-  by-refusal : (P : Ended (List ℕ × List ℕ) → Type 0) → (number ≡ 0 → P (cachedDoes k c (t, cache)))
+  pub by-refusal : (P : Ended (List ℕ × List ℕ) → Type 0) → (number ≡ 0 → P (cachedDoes k c (t, cache)))
       → ((number ≡ 0 → ⊥) → P (ended number (t, cache) (answerRefused (λ answer. answer) (access c) number))) → P (onCached c (t, cache))
   by-refusal P does refuses =
       by-test (eqb number 0)

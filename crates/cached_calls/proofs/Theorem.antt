@@ -25,7 +25,7 @@ use Rattle.cached_calls.specs.Invisible.{mapCached, cachedStep, UnderCac
 use Rattle.cached_calls.proofs.Invisible.{Sound, Goes, goes, all-alike, zeros-sound}
 
 -- a call on the table, as a step of a history
-step-is : (c : Call) (t : List ℕ) → (compared (onTable c t .number) (onTable c t .answer), onTable c t .state) ≡ bytesStep c t
+pub step-is : (c : Call) (t : List ℕ) → (compared (onTable c t .number) (onTable c t .answer), onTable c t .state) ≡ bytesStep c t
 unfolding bytesStep
 step-is c t = go (c .lent) refl
   where

@@ -205,7 +205,7 @@ module _ (k : ℕ) (t : List ℕ) (m : Map) (r : represents k t m) where
       (decisions-agree (usedBy (firstPlaceIn k t) early) (usedBy unplaced early) (same-key (firstPlaceIn k t) unplaced early) (outcomeOf (c .kind) onMapSearch early))
 
   -- and it is marked on both, or on neither
-  part-marks : (c : AccessCall (List ℕ)) (second : Bool) (result : ℕ)
+  pub part-marks : (c : AccessCall (List ℕ)) (second : Bool) (result : ℕ)
       → represents k (markedBy k (c .kind) (earlyOf c second) result t) (mapMarked (c .kind) (earlyOf c second) result m)
   unfolding markedBy mapMarked
   part-marks c second result =

@@ -118,9 +118,19 @@ impl<'a> Bench<'a> {
 
     /// The call on the table, with the model or without it.
     pub fn judge(&mut self, call: &Call, judges: Judges) -> Result<u32, Difference> {
+        self.judge_lent(call, Lending::Table, judges)
+    }
+
+    /// The call on what is lent as the table, with the model or without it.
+    pub fn judge_lent(
+        &mut self,
+        call: &Call,
+        lending: Lending,
+        judges: Judges,
+    ) -> Result<u32, Difference> {
         match judges {
-            Judges::ModelAndStatement => self.compare(call, Lending::Table),
-            Judges::StatementAlone => Ok(self.perform(call, Lending::Table)),
+            Judges::ModelAndStatement => self.compare(call, lending),
+            Judges::StatementAlone => Ok(self.perform(call, lending)),
         }
     }
 

@@ -278,7 +278,7 @@ impl Stage<'_> {
         let hits = self.hits(&call, lending);
         let old_cache = self.cached.cache.subject_bytes().to_vec();
         let before = Before { registers: registers.clone(), places: Vec::new(), sets: Vec::new() };
-        let number = one(&mut self.cached, &call, lending, self.judges)?;
+        let number = self.cached.judge_lent(&call, lending, self.judges)?;
         let expected = self.without_cache(&call, lending)?;
         if number == 11 && old_cache != self.cached.cache.subject_bytes() {
             return Err(self.cached.difference(&call, lending, &before, "the cache changed at 11"));
@@ -321,9 +321,9 @@ impl Stage<'_> {
             Call::AccessCached(_) | Call::Invalidate { .. } if !fits => Ok(11),
             Call::Invalidate { page_index } => Ok(if page_index < 65_536 { 0 } else { 6 }),
             Call::AccessCached(access) => {
-                one(&mut self.plain, &Call::Access(access), lending, self.judges)
+                self.plain.judge_lent(&Call::Access(access), lending, self.judges)
             }
-            _ => one(&mut self.plain, call, lending, self.judges),
+            _ => self.plain.judge_lent(call, lending, self.judges),
         }
     }
 
@@ -341,18 +341,6 @@ impl Stage<'_> {
         let ends = model.ends(&set, access, table, Some(&cache));
         let outcomes: Vec<Outcome> = ends.iter().map(|end| end.outcome).collect();
         record::speaking(None, &outcomes).is_some_and(|part| ends[part].hit.is_some())
-    }
-}
-
-fn one(
-    bench: &mut Bench,
-    call: &Call,
-    lending: Lending,
-    judges: Judges,
-) -> Result<u32, Difference> {
-    match judges {
-        Judges::ModelAndStatement => bench.compare(call, lending),
-        Judges::StatementAlone => Ok(bench.perform(call, lending)),
     }
 }
 

@@ -7,8 +7,8 @@ use crate::bench::{self, Difference};
 use crate::lists::{self, Judges};
 use crate::tally::Tally;
 use crate::{
-    cached, cached_limits, cached_runs, edges, exhaustive, lengths, packing, quick, singles,
-    turned, widened, Section,
+    cached, cached_limits, cached_runs, edges, exhaustive, lengths, lost, lost_limits, packing,
+    quick, singles, turned, widened, Section,
 };
 
 /// The comparisons a wrong model goes through, as the library does, until one finds it.
@@ -31,6 +31,8 @@ pub struct Found {
     pub of_cache: usize,
     /// Those of them that a run without a cache shows, with no other judge.
     pub by_runs: usize,
+    /// Those that two runs show of which one lacks a call, with no other judge.
+    pub by_lost_call: usize,
     pub maps: usize,
     /// Those that the finite map, which knows no place, rightly lets pass.
     pub left_to_table: usize,
@@ -59,6 +61,7 @@ pub fn run(factor: u32) -> Result<Found, Difference> {
     at_the_quick_test(&mut found)?;
     of_the_cache(&mut found, factor)?;
     by_a_run_without_cache(&mut found, factor)?;
+    by_a_lost_call(&mut found, factor)?;
     of_the_map(&mut found, factor)?;
     left_to_the_table(&mut found, factor)?;
     Ok(found)
@@ -163,6 +166,19 @@ fn by_a_run_without_cache(found: &mut Found, factor: u32) -> Result<(), Differen
         let outcome = cached_runs::run_with(&Model::with(Flaw::Cache(flaw)), factor, alone);
         found.calls(outcome, &format!("{flaw:?} by a run without a cache"))?;
         found.by_runs += 1;
+    }
+    Ok(())
+}
+
+/// Two runs of which one lacks a call, held to each other without the model; the right one passes.
+fn by_a_lost_call(found: &mut Found, factor: u32) -> Result<(), Difference> {
+    let alone = bench::Judges::StatementAlone;
+    lost_limits::run(&Model::default(), factor)?;
+    lost::run_with(&Model::default(), factor, alone)?;
+    for flaw in Flaw::IN_LOST_RUNS {
+        let outcome = lost::run_with(&Model::with(flaw), factor, alone);
+        found.calls(outcome, &format!("{flaw:?} by a lost call"))?;
+        found.by_lost_call += 1;
     }
     Ok(())
 }

@@ -352,13 +352,13 @@ impl Stage<'_> {
     }
 }
 
-fn put_vsid(words: &mut registers::Words, segment: usize, vsid: u32) {
+pub fn put_vsid(words: &mut registers::Words, segment: usize, vsid: u32) {
     let word = &mut words[1 + segment];
     *word = *word & 0xFF00_0000 | vsid;
 }
 
 /// A page whose hash ends in the given group number: the VSID's bits past a page index follow it.
-fn page_of_group(random: &mut Random, vsid: u32, group: u32, n: u32) -> Page {
+pub fn page_of_group(random: &mut Random, vsid: u32, group: u32, n: u32) -> Page {
     let number_bits = (1u32 << n) - 1;
     let past_index = number_bits & !0xFFFF;
     let vsid = vsid & !past_index | group & past_index;
@@ -368,7 +368,7 @@ fn page_of_group(random: &mut Random, vsid: u32, group: u32, n: u32) -> Page {
 }
 
 /// The pages that a table's used entries stand for; none where one is astray or comes twice.
-fn contents(table: &[u8], n: u32) -> Option<BTreeMap<Page, Fields>> {
+pub fn contents(table: &[u8], n: u32) -> Option<BTreeMap<Page, Fields>> {
     let number_bits = (1u32 << n) - 1;
     let mut pages = BTreeMap::new();
     for at in (0..table.len()).step_by(8).filter(|&at| table[at] & 0x80 != 0) {

@@ -18,6 +18,8 @@ mod guarded;
 mod hits;
 mod lengths;
 mod lists;
+mod lost;
+mod lost_limits;
 mod machine;
 mod operands;
 mod packing;
@@ -47,7 +49,7 @@ use tally::Tally;
 /// A comparison of some machine with the model, its random part so many times as long.
 type Section = fn(&dyn Machine, u32) -> Result<Tally, Difference>;
 
-const SECTIONS: [(&str, Empty, Section); 14] = [
+const SECTIONS: [(&str, Empty, Section); 16] = [
     ("recorded accesses", Empty::Null, vectors::run),
     ("packing", Empty::Null, packing::run),
     ("complete tables", Empty::Null, exhaustive::run),
@@ -62,6 +64,8 @@ const SECTIONS: [(&str, Empty, Section); 14] = [
     ("caches of any bytes", Empty::Null, cached::run),
     ("runs with a cache", Empty::Null, cached_runs::run),
     ("limits of the promise", Empty::Null, cached_limits::run),
+    ("runs with a lost call", Empty::Null, lost::run),
+    ("limits of a lost call", Empty::Null, lost_limits::run),
 ];
 
 /// The argument that makes the program read a byte it must not, to show that the guard works.
@@ -116,7 +120,7 @@ fn test_the_tests(factor: u32) -> Result<(), Difference> {
     let found = flaws::run(factor)?;
     println!(
         "wrong models found: {}, {} of them by the finite map alone, {} at page edges alone, \
-         {} by a widened page alone, {} at the edges of the quick test alone; \
+         {} by a widened page alone, {} at the edges of the quick test alone, {} by a lost call alone; \
          {} more by a bit turned at a place, {} more at the edges of the quick test; \
          of the cache {}, {} of them by a run without a cache alone; \
          wrong maps found: {}; none took more than {} calls; {} wrong models only the table shows",
@@ -125,6 +129,7 @@ fn test_the_tests(factor: u32) -> Result<(), Difference> {
         found.by_edges,
         found.by_widening,
         found.by_quick_edges,
+        found.by_lost_call,
         found.by_turned_bit,
         found.of_quick_test,
         found.of_cache,
@@ -173,4 +178,15 @@ fn print_results(total: &Tally) {
     let [hits, loads] = total.hits.counts();
     println!("accesses with a cache: {hits} parts hit, {loads} loaded a new page");
     println!("maps that took a place in front of used entries: {}", total.gaps.in_front);
+    let lost = &total.lost;
+    println!(
+        "after calls later than a lost one, by {} looks: mapped pages differ {}, each has one {}; \
+         other words of a common page {}, two pages by number of calls {}; of two lost, two pages {}",
+        lost.looks,
+        lost.of_one(lost::DIFFER),
+        lost.of_one(lost::ONE_EACH),
+        lost.of_one(lost::OTHER_WORDS),
+        lost.of_one(lost::BY_NUMBER),
+        lost.of_two(lost::TWO_PAGES)
+    );
 }

@@ -13,6 +13,7 @@ use crate::decisions::Decisions;
 use crate::duplicates::Duplicates;
 use crate::gaps::Gaps;
 use crate::hits::Hits;
+use crate::lost;
 use crate::operands::Operands;
 use crate::pages::Pages;
 
@@ -34,6 +35,7 @@ pub struct Tally {
     pub gaps: Gaps,
     pub pages: Pages,
     pub hits: Hits,
+    pub lost: lost::Counts,
 }
 
 impl Tally {
@@ -57,6 +59,7 @@ impl Tally {
         self.duplicates.add(&other.duplicates);
         self.gaps.add(&other.gaps);
         self.hits.add(&other.hits);
+        self.lost.add(&other.lost);
     }
 
     /// Notes the state a call comes upon.

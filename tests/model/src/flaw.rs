@@ -604,6 +604,15 @@ impl Flaw {
         Flaw::NeverMatches, Flaw::OneFrame, Flaw::RefusesAll,
     ];
 
+    /// Those by which one lost call leaves more than one page of a kind behind. A wrong room or a wrong 9 does not: it
+    /// is wrong in both runs alike.
+    #[rustfmt::skip]
+    pub const IN_LOST_RUNS: [Flaw; 9] = [
+        Flaw::UnmapPrimaryOnly, Flaw::HForgotten, Flaw::VsidForgotten, Flaw::ApiForgotten,
+        Flaw::PrimaryWordInBoth, Flaw::MatchUpToFree, Flaw::GroupEndsAtFree,
+        Flaw::SearchEndsAtFree, Flaw::FreeEndsInPrimary,
+    ];
+
     /// Those about entries with V = 0: matches behind them, and which of them map takes. A map that
     /// fills one though the page is mapped behind it is `MatchUpToFree`.
     #[rustfmt::skip]

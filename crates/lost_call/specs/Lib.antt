@@ -1,0 +1,3 @@
+-- Two runs of which one lacks a call.
+pub mod Lost
+pub mod Rows

@@ -71,8 +71,8 @@ abbrev pub pages : ℕ → ℕ → List ℕ
 pages second other = bytesOf ((0x86380E00 ∷ second ∷ replicate 14 0) ++ (0x86380E00 ∷ other ∷ replicate 14 0))
 
 -- two entries for page 0x001C
-abbrev pub twins : ℕ → ℕ → List ℕ
-twins second other = bytesOf ((0x86380E00 ∷ second ∷ 0x86380E00 ∷ other ∷ []) ++ replicate 12 0)
+abbrev pub twoEntries : ℕ → ℕ → List ℕ
+twoEntries second other = bytesOf ((0x86380E00 ∷ second ∷ 0x86380E00 ∷ other ∷ []) ++ replicate 12 0)
 
 -- ---- caches
 
@@ -231,7 +231,7 @@ abbrev pub allBut35 : List Bool
 allBut35 = true ∷ true ∷ false ∷ true ∷ true ∷ []
 
 pub record CachedRows : Type 0 where
-  -- a first load goes into place 0: the entry's words once marked, ignored bits as they stand, the page index, and 1; of twins the first is loaded
+  -- a first load goes into place 0: the entry's words once marked, ignored bits as they stand, the page index, and 1; of twoEntries the first is loaded
   -- (R48, R50)
   pub first-loads : Hold ((
     does (load 0x0001C123) (fresh, zeroCache),
@@ -246,8 +246,8 @@ pub record CachedRows : Type 0 where
         ended done (four 0x12345012 0x54321E16 0x6789A112 0xABCDE012, set28 (page₂ 0x6789A112 1) empty) (oneByte 0x6789A123 2 0x0081C123 (rule 6 2 0 2)),
       )
       ∷ (
-        does (load 0x0001C123) (twins 0x12345E16 0x12345192, zeroCache),
-        ended done (twins 0x12345F16 0x12345192, set28 (page₀ 0x12345F16 1) empty) (oneByte 0x12345123 2 0x0001C123 (rule 6 2 0 0)),
+        does (load 0x0001C123) (twoEntries 0x12345E16 0x12345192, zeroCache),
+        ended done (twoEntries 0x12345F16 0x12345192, set28 (page₀ 0x12345F16 1) empty) (oneByte 0x12345123 2 0x0001C123 (rule 6 2 0 0)),
       )
       ∷ []
       )
@@ -342,7 +342,7 @@ pub record CachedRows : Type 0 where
         does (fetch 0x0001C123) (four 0x1234501A 0 0 0, zeroCache),
         ended instructionStorageFault (four 0x1234501A 0 0 0, zeroCache) (stop instructionStorageFault 0x10000000 0x400 0x0001C123 (rule 4 0 0 0)),
       )
-      ∷ (does (load 0x0001C123) (twins 0x12345012 0x12345013, zeroCache), refusedWith refusedContradiction (twins 0x12345012 0x12345013, zeroCache))
+      ∷ (does (load 0x0001C123) (twoEntries 0x12345012 0x12345013, zeroCache), refusedWith refusedContradiction (twoEntries 0x12345012 0x12345013, zeroCache))
       ∷ []
       )
   -- real mode, a block and a segment's N come before the cache: a page that it has is not asked for, and nothing is loaded (R40, R47)
@@ -440,8 +440,8 @@ pub record CachedRows : Type 0 where
             (stop dataStorageFault 0x0A000000 0x300 0x0001CFFE (rule 5 3 0 8)),
       )
       ∷ (
-        does (toCached registers 1 1 0x0001BFFE 4) (twins 0x12345012 0x12345013, replicate 864 0 ++ bytesOf (place 0x86380E00 0x54321112 0x001B 1) ++ replicate 1168 0),
-        refusedWith refusedContradiction (twins 0x12345012 0x12345013, replicate 864 0 ++ bytesOf (place 0x86380E00 0x54321112 0x001B 1) ++ replicate 1168 0),
+        does (toCached registers 1 1 0x0001BFFE 4) (twoEntries 0x12345012 0x12345013, replicate 864 0 ++ bytesOf (place 0x86380E00 0x54321112 0x001B 1) ++ replicate 1168 0),
+        refusedWith refusedContradiction (twoEntries 0x12345012 0x12345013, replicate 864 0 ++ bytesOf (place 0x86380E00 0x54321112 0x001B 1) ++ replicate 1168 0),
       )
       ∷ []
       )
@@ -503,8 +503,8 @@ pub record CachedRows : Type 0 where
         ended done (fresh, set28 empty (page₀ 0x7777712B 0)) (oneByte 0x77777123 5 0x0001C123 (rule 6 3 0 8)),
       )
       ∷ (
-        does (store 0x0001C123) (twins 0x12345012 0x12345013, set28 (page₀ 0x77777192 1) empty),
-        ended done (twins 0x12345012 0x12345013, set28 (page₀ 0x77777192 1) empty) (oneByte 0x77777123 2 0x0001C123 (rule 6 2 0 8)),
+        does (store 0x0001C123) (twoEntries 0x12345012 0x12345013, set28 (page₀ 0x77777192 1) empty),
+        ended done (twoEntries 0x12345012 0x12345013, set28 (page₀ 0x77777192 1) empty) (oneByte 0x77777123 2 0x0001C123 (rule 6 2 0 8)),
       )
       ∷ (
         does (load 0x0001C123) ([], set28 (page₀ 0x77777112 0) (page₀ 0x12345112 1)),

@@ -1,4 +1,4 @@
--- Proofs of how far two runs drift of which one lacks a call.
+-- Proofs of how far two runs can differ of which one lacks a call.
 pub mod Domain
 pub mod Lost
 pub mod Rows

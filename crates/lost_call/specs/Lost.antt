@@ -1,4 +1,4 @@
--- Request 8: two runs whose calls differ in one map or unmap that one of them lacks never drift: after each later call, each has at most one mapped page
+-- Request 8: two runs whose calls differ in one map or unmap that one of them lacks stay near: after each later call, each has at most one mapped page
 -- that the other lacks.
 use Prim.Native.Nat.{ℕ}
 use mathlib.Core.List.{List, [], _∷_, _++_}

@@ -1,1 +1,1 @@
-// No code: the crate says how far two runs drift of which one lacks a call.
+// No code: the crate says how far two runs can differ of which one lacks a call.

@@ -2,7 +2,7 @@
 use mathlib.Core.Bool.{true≢false}
 use mathlib.Core.Path.{refl}
 use native.Mathlib.Omega.{arith}
-use Rattle.cached_calls.specs.Rows.{CachedRows, RunRows, WaitingRows}
+use Rattle.cached_calls.specs.Rows.{CachedRows, SliceRows, WaitingRows}
 use Rattle.cached_calls.proofs.Computes.{cached-calls-compute}
 
 pub cached-rows : CachedRows
@@ -32,12 +32,9 @@ cached-rows = record {
   invalidates = record { equal = refl };
 }
 
-pub run-rows : RunRows
+pub slice-rows : SliceRows
 unfolding cached-calls-compute
-run-rows = record {
-  after-an-unmap = record { equal = refl };
-  after-a-protect = record { equal = refl };
-  other-runs = record { equal = refl };
+slice-rows = record {
   other-slices = record { equal = refl };
 }
 

@@ -576,31 +576,8 @@ pub record CachedRows : Type 0 where
       ∷ []
       )
 
--- Runs with a cache beside the same runs without, by their result numbers: where an invalidate is missing, they differ (P7).
-pub record RunRows : Type 0 where
-  -- from a clear and zeros: an invalidate before the unmap with an access between (P7 e), and after it one of another set and one that is refused
-  -- (P7 c): the page is done with the cache and a fault without. One of an index that is equal mod 64 makes the runs alike
-  pub after-an-unmap : Hold ((
-    numbers (
-        clearAll ∷ mapIt ∷ invalidateSetOf 0x01E3 ∷ loadIt ∷ unmapIt ∷ invalidateSetOf 0x01E4 ∷ invalidateSetOf 0x000101E3 ∷ loadIt
-        ∷ invalidateSetOf 0x0223 ∷ loadIt ∷ []
-        ) (replicate 65536 255, zeroCache),
-    (0 ∷ 0 ∷ 0 ∷ 0 ∷ 0 ∷ 0 ∷ 6 ∷ 0 ∷ 0 ∷ 64 ∷ [], 0 ∷ 0 ∷ 0 ∷ 0 ∷ 0 ∷ 0 ∷ 6 ∷ 64 ∷ 0 ∷ 64 ∷ []),
-  )
-      ∷ []
-      )
-  -- from a page that a store loaded: after a protect to read-only a store hits by the entry as loaded, and is done with the cache alone, until the
-  -- invalidate
-  pub after-a-protect : Hold (
-      (numbers (protectIt ∷ storeIt ∷ invalidateSetOf 0x01E3 ∷ storeIt ∷ []) stored, (0 ∷ 0 ∷ 0 ∷ 64 ∷ [], 0 ∷ 64 ∷ 0 ∷ 64 ∷ []))
-      ∷ []
-      )
-  -- after a clear with no invalidate; and a cache that was not zeros (P7 f)
-  pub other-runs : Hold (
-      (numbers (clearAll ∷ loadIt ∷ []) stored, (0 ∷ 0 ∷ [], 0 ∷ 64 ∷ []))
-      ∷ (numbers (loadIt ∷ []) (unmapped, stored .1), (0 ∷ [], 64 ∷ []))
-      ∷ []
-      )
+-- Runs with a cache beside the same runs without, by their result numbers, of calls that are lent another slice.
+pub record SliceRows : Type 0 where
   -- a slice in the place of the cache, or of the table: its length is refused in both runs (P7 a), and the own cache stays
   pub other-slices : Hold ((
     numbers (cached (load 0x001E3123) none (some []) ∷ cached (load 0x001E3123) (some []) none ∷ invalidate 0x01E3 (some []) ∷ loadIt ∷ []) stored,

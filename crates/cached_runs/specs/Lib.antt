@@ -1,0 +1,2 @@
+-- Runs with a cache that break the discipline.
+pub mod Rows

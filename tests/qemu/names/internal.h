@@ -1,0 +1,1 @@
+/* Nothing of QEMU's file of this name is used by name. */

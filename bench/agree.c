@@ -11,11 +11,12 @@
 #include <stdlib.h>
 #include <string.h>
 
-enum { CHECK, SET_REGISTER, CLEAR, MAP, UNMAP, PROTECT, LOOK, ACCESS, ACCESS_CACHED, INVALIDATE, PACK, UNPACK, CALLS };
+enum { CHECK, SET_REGISTER, CLEAR, MAP, UNMAP, PROTECT, LOOK, ACCESS, ACCESS_CACHED, RIGHTS, INVALIDATE, PACK, UNPACK,
+       CALLS };
 enum { LARGEST_TABLE = 1 << 19, ROUND = 400, VSIDS = 8, PAGES = 6 };
 
 static const char *const names[CALLS] = { "check", "set_register", "clear", "map", "unmap", "protect", "look",
-                                          "access", "access_cached", "invalidate", "pack", "unpack" };
+                                          "access", "access_cached", "rights", "invalidate", "pack", "unpack" };
 
 /* The results that each call can give; a 255 ends a list. */
 static const uint8_t possible[CALLS][13] = {
@@ -28,6 +29,7 @@ static const uint8_t possible[CALLS][13] = {
     { 0, 1, 2, 6, 8, 10, 11, 255 },
     { 0, 1, 2, 3, 4, 5, 6, 10, 11, 12, 64, 65, 255 },
     { 0, 1, 2, 3, 4, 5, 6, 10, 11, 12, 64, 65, 255 },
+    { 0, 1, 2, 3, 4, 5, 6, 11, 255 },
     { 0, 6, 11, 255 },
     { 0, 6, 11, 255 },
     { 0, 11, 255 },
@@ -36,7 +38,7 @@ static const uint8_t possible[CALLS][13] = {
 /* What is lent, one byte longer than any call takes, so that a length can be one too many. */
 struct lent {
     uint8_t registers[MMU_REGISTERS_SIZE_LONG + 1];
-    uint8_t answer[MMU_ACCESS_ANSWER_SIZE + 1];
+    uint8_t answer[MMU_RIGHTS_SIZE + 1];
     uint8_t cache[MMU_CACHE_SIZE + 1];
     uint8_t table[LARGEST_TABLE + 1];
 };
@@ -68,6 +70,9 @@ static unsigned long rules[MMU_RULE_DONE + 1];
 
 /* Accesses with a cache: hits by the rule shown, and those that went to the table. */
 static unsigned long hits[MMU_RULE_DONE + 1], misses;
+
+/* Accesses that rights told, by the marks that they would newly set: none, C, R, both. */
+static unsigned long told[4];
 
 /* Looks at a page whose matches are not equal: how many were done, and how many refused as contradicting. */
 static unsigned long unequal_done, unequal_refused;
@@ -277,6 +282,8 @@ static size_t answer_size(int call)
     case ACCESS:
     case ACCESS_CACHED:
         return MMU_ACCESS_ANSWER_SIZE;
+    case RIGHTS:
+        return MMU_RIGHTS_SIZE;
     case PACK:
         return MMU_ENTRY_SIZE;
     case UNPACK:
@@ -374,6 +381,9 @@ static uint32_t perform(const struct calls *calls, struct lent *l, const struct 
     case ACCESS_CACHED:
         return calls->access_cached(registers, q->registers_len, q->mode, q->kind, q->address, q->length, table,
                                     q->table_len, cache, q->cache_len, answer, q->answer_len);
+    case RIGHTS:
+        return calls->rights(registers, q->registers_len, q->mode, q->address, table, q->table_len, answer,
+                             q->answer_len);
     case INVALIDATE:
         return calls->invalidate(q->page_index, cache, q->cache_len);
     case PACK:
@@ -417,6 +427,15 @@ static void note_hit(uint32_t number)
         misses += answer.rule >= MMU_RULE_GUARDED;
 }
 
+/* Counts what rights told of each kind that would be done. */
+static void note_rights(void)
+{
+    uint32_t kind;
+    for (kind = MMU_FETCH; kind <= MMU_STORE; kind++)
+        if (mmu_get_word(lent[0].answer, MMU_RIGHTS_ANSWER(kind)) == MMU_DONE)
+            told[mmu_get_word(lent[0].answer, MMU_RIGHTS_MARKS(kind)) >> 7]++;
+}
+
 static void step(uint32_t sdr1)
 {
     struct request q = random_request(sdr1);
@@ -440,6 +459,8 @@ static void step(uint32_t sdr1)
         note_answer(&q, numbers[0]);
     if (q.call == ACCESS_CACHED)
         note_hit(numbers[0]);
+    if (q.call == RIGHTS && numbers[0] == MMU_DONE)
+        note_rights();
     if (q.call == LOOK && numbers[0] == MMU_DONE)
         unequal_done += unequal(q.sdr1, q.vsid, q.page_index);
     if (q.call == LOOK && numbers[0] == MMU_REFUSED_CONTRADICTION)
@@ -502,6 +523,8 @@ static int report(int small)
     printf("accesses with a cache: hits by rule 4:%lu 5:%lu 6:%lu, by the table %lu\n", hits[4], hits[5], hits[6],
            misses);
     missed += (hits[4] == 0) + (hits[5] == 0) + (hits[6] == 0) + (misses == 0);
+    printf("told by rights, by new marks: none %lu, C %lu, R %lu, both %lu\n", told[0], told[1], told[2], told[3]);
+    missed += (told[0] == 0) + (told[1] == 0) + (told[2] == 0) + (told[3] == 0);
     printf("by rule:");
     for (i = 0; i <= (int)MMU_RULE_DONE; i++) {
         printf(" %d:%lu", i, rules[i]);

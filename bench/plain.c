@@ -1,5 +1,5 @@
 /*
- * The twelve calls of docs/RULES.md in portable C, written for speed: the contender of the benchmarks.
+ * The thirteen calls of docs/RULES.md in portable C, written for speed: the contender of the benchmarks.
  * It makes the library's checks in the library's order and shares no code with it.
  */
 #include "plain.h"
@@ -874,6 +874,125 @@ uint32_t PLAIN(access_cached)(const uint8_t *registers, size_t registers_len, ui
     if (registers_len == SHORT_PAGE)
         return access_with(&of_short, address, length);
     return registers_len == LONG_PAGE ? access_with(&of_long, address, length) : 11;
+}
+
+/* ---- Rights ----------------------------------------------------------------------------------- */
+
+/*
+ * What stands at an address: the block of each side, or the count of pairs; the segment, and what the search found. Of
+ * several matches it is the first, or NULL where they contradict.
+ */
+struct standing {
+    uint32_t address, blocks[2], segment;
+    struct match match;
+    enum found found;
+};
+
+INLINE uint32_t refuse_rights(uint8_t *answer, uint32_t number)
+{
+    refuse_access(answer, number);
+    refuse_access(answer + 48, number);
+    refuse_access(answer + 96, number);
+    memset(answer + 144, 0, 12);
+    return number;
+}
+
+INLINE const uint8_t *pairs_of(const struct access *access, int data)
+{
+    return access->registers + PAIRS + (data ? 8 * access->count : 0);
+}
+
+/* The block of a side that holds the address. */
+INLINE uint32_t block_of(struct access *access, uint32_t address, uint64_t begins, int data)
+{
+    access->pairs = pairs_of(access, data);
+    return begins >> (address >> 28) * 4 & 15 ? find_block(access, address) : access->count;
+}
+
+/* The search of the address's page, made once for all kinds that come to it. */
+INLINE void search(const struct access *access, struct standing *at)
+{
+    struct groups groups = groups_of(at->segment & 0xFFFFFF, at->address >> 12 & 0xFFFF, access->table,
+                                     access->table_len);
+    at->found = find(&at->match, groups);
+    if (at->found == SEVERAL)
+        at->match = first_match(access, groups);
+}
+
+/* What a kind that goes by the page comes to; a done one names the entry that it would mark. */
+INLINE uint32_t right_by_page(const struct access *access, struct part *part, const struct standing *at)
+{
+    uint32_t result;
+    if (access->kind == FETCH && at->segment & 0x10000000) {
+        show(access, RULE_NO_EXECUTE, 0, 0, 0);
+        return fault(access, part, NO_EXECUTE);
+    }
+    if (at->found == NONE) {
+        show(access, RULE_NO_MATCH, 0, 0, 0);
+        return fault(access, part, NO_MATCH);
+    }
+    if (at->match.entry == NULL)
+        return refuse_access(access->answer, 10);
+    result = by_entry(access, part, word_at(at->match.entry + 4), at->match, at->segment);
+    part->entry = result == 0 ? at->match.entry : NULL;
+    return result;
+}
+
+/* One kind: its answer, and the marks that it would newly set. */
+INLINE void right_of(struct access *access, const struct standing *at, uint32_t kind, uint8_t *answer)
+{
+    struct part part = { 0, at->address, NULL, 0 };
+    int data = kind != FETCH;
+    uint32_t result, marks = kind == STORE ? 0x180 : 0x100;
+    access->kind = kind;
+    access->answer = answer + 48 * kind;
+    access->pairs = pairs_of(access, data);
+    if (!(access->mode & (data ? 1 : 2)))
+        result = real(access->answer, at->address, 1, 1);
+    else if (at->blocks[data] < access->count)
+        result = by_block(access, &part, at->blocks[data]);
+    else
+        result = right_by_page(access, &part, at);
+    no_second(access->answer, result, 1);
+    put_word(answer + 144 + 4 * kind, part.entry == NULL ? 0 : marks & ~word_at(part.entry + 4));
+}
+
+/* Rights whose page and answer have a right length: the register page is checked once for all kinds. */
+INLINE uint32_t rights_with(struct access *access, uint32_t address, uint8_t *answer)
+{
+    struct standing at = { address, { 0, 0 }, 0, { NULL, 0, 0 }, NONE };
+    uint64_t begins[2];
+    if (access->mode > 7)
+        return refuse_rights(answer, 6);
+    if (!quick_page(access->registers, access->count, begins)) {
+        uint32_t result = access->count == 4 ? exact_short(access->registers) : exact_long(access->registers);
+        if (result != 0)
+            return refuse_rights(answer, result);
+        begins[0] = begins[1] = EVERYWHERE;
+    }
+    if (access->table_len != table_size(word_at(access->registers)))
+        return refuse_rights(answer, 1);
+    at.blocks[0] = block_of(access, address, begins[0], 0);
+    at.blocks[1] = block_of(access, address, begins[1], 1);
+    at.segment = word_at(access->registers + SEGMENTS + 4 * (address >> 28));
+    if ((access->mode & 2 && at.blocks[0] == access->count) || (access->mode & 1 && at.blocks[1] == access->count))
+        search(access, &at);
+    right_of(access, &at, FETCH, answer);
+    right_of(access, &at, LOAD, answer);
+    right_of(access, &at, STORE, answer);
+    return 0;
+}
+
+uint32_t PLAIN(rights)(const uint8_t *registers, size_t registers_len, uint32_t mode, uint32_t address,
+                       const uint8_t *table, size_t table_len, uint8_t *answer, size_t answer_len)
+{
+    struct access of_short = { registers, NULL, 4, mode, FETCH, 0, (uint8_t *)table, table_len, answer, NULL };
+    struct access of_long = { registers, NULL, 8, mode, FETCH, 0, (uint8_t *)table, table_len, answer, NULL };
+    if (answer_len != 156)
+        return 11;
+    if (registers_len == SHORT_PAGE)
+        return rights_with(&of_short, address, answer);
+    return registers_len == LONG_PAGE ? rights_with(&of_long, address, answer) : 11;
 }
 
 uint32_t PLAIN(invalidate)(uint32_t page_index, uint8_t *cache, size_t cache_len)

@@ -1,4 +1,4 @@
-/* The twelve calls in plain C, with the parameters of mmu.h: the contender of the benchmarks. */
+/* The thirteen calls in plain C, with the parameters of mmu.h: the contender of the benchmarks. */
 #ifndef PLAIN_H
 #define PLAIN_H
 
@@ -25,6 +25,8 @@ uint32_t PLAIN(access)(const uint8_t *registers, size_t registers_len, uint32_t 
 uint32_t PLAIN(access_cached)(const uint8_t *registers, size_t registers_len, uint32_t mode, uint32_t kind,
                               uint32_t address, uint32_t length, uint8_t *table, size_t table_len, uint8_t *cache,
                               size_t cache_len, uint8_t *answer, size_t answer_len);
+uint32_t PLAIN(rights)(const uint8_t *registers, size_t registers_len, uint32_t mode, uint32_t address,
+                       const uint8_t *table, size_t table_len, uint8_t *answer, size_t answer_len);
 uint32_t PLAIN(invalidate)(uint32_t page_index, uint8_t *cache, size_t cache_len);
 uint32_t PLAIN(pack)(uint32_t v, uint32_t vsid, uint32_t h, uint32_t api, uint32_t rpn, uint32_t r, uint32_t c,
                      uint32_t wimg, uint32_t pp, uint8_t *entry, size_t entry_len);

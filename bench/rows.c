@@ -32,6 +32,7 @@ struct bench {
     size_t registers_len;
     uint8_t answer[MMU_ANSWER_SIZE];
     uint8_t access_answer[MMU_ACCESS_ANSWER_SIZE];
+    uint8_t rights[MMU_RIGHTS_SIZE];
     uint8_t fields[MMU_FIELDS_SIZE];
     uint8_t packed[MMU_ENTRY_SIZE];
     uint8_t cache[MMU_CACHE_SIZE];
@@ -252,6 +253,19 @@ static void block_hit(struct bench *bench)
                 && mmu_get_word(bench->access_answer, MMU_ANSWER_DETAIL) == 3, "the fourth block is not hit");
 }
 
+/* Rights are asked with IR and DR on, so that every kind is translated. */
+static void rights_page(struct bench *bench)
+{
+    page_at(bench, 0);
+    bench->mode = MMU_MODE_IR | MMU_MODE_DR;
+}
+
+static void rights_block(struct bench *bench)
+{
+    block_hit(bench);
+    bench->mode = MMU_MODE_IR | MMU_MODE_DR;
+}
+
 /* The page is at its first place and in the cache, so that each access by the cache hits. */
 static void load_cache(struct bench *bench)
 {
@@ -403,6 +417,15 @@ static uint32_t run_cached_miss(struct bench *bench, const struct calls *calls, 
     return sum;
 }
 
+static uint32_t run_rights(struct bench *bench, const struct calls *calls, uint32_t count)
+{
+    uint32_t sum = 0;
+    while (count-- > 0)
+        sum += calls->rights(bench->registers, bench->registers_len, bench->mode, bench->address, bench->table,
+                             bench->table_len, bench->rights, MMU_RIGHTS_SIZE);
+    return sum;
+}
+
 static uint32_t run_invalidate(struct bench *bench, const struct calls *calls, uint32_t count)
 {
     uint32_t sum = 0;
@@ -507,6 +530,8 @@ static const struct row rows[] = {
     { "access with a cache, hit, blocks off", cache_hit_blocks_off, run_cached, MMU_DONE, 16 },
     { "access with a cache, miss", primary_0, run_cached_miss, MMU_DONE, 16 },
     { "access with a cache, miss, blocks off", blocks_off, run_cached_miss, MMU_DONE, 16 },
+    { "rights, page hit, primary entry 0", rights_page, run_rights, MMU_DONE, 16 },
+    { "rights, block hit in the fourth pairs", rights_block, run_rights, MMU_DONE, 16 },
     { "invalidate", cache_hit, run_invalidate, MMU_DONE, 16 },
     { "map and unmap, empty groups", empty_groups, run_map_unmap, MMU_DONE, 16 },
     { "map and unmap, only secondary entry 7 free", last_place_free, run_map_unmap, MMU_DONE, 16 },

@@ -1,7 +1,7 @@
 /*
  * mmu.h - address translation of a 32-bit PowerPC: register set (SDR1, segment registers, BATs), hashed page
  * table, access check, translation cache. A core calls mmu_access or mmu_access_cached for each load, store and fetch
- * and takes the DSI or ISI it tells.
+ * and takes the DSI or ISI it tells. mmu_rights tells what an access would come to and marks nothing.
  *
  * Link with libmmu.a. docs/C-GUIDE.md tells how to use the calls; README.md has the manual's words beside ours.
  *
@@ -21,7 +21,7 @@ extern "C" {
 
 /* The version; CHANGELOG.md says what a caller must change from one to the next. */
 #define MMU_VERSION_MAJOR 0
-#define MMU_VERSION_MINOR 10
+#define MMU_VERSION_MINOR 11
 
 /* ---- Results ---------------------------------------------------------------------------------- */
 
@@ -222,7 +222,18 @@ extern "C" {
 #define MMU_CACHE_PLACE_SIZE 16u /* Length of a place in bytes. */
 #define MMU_HIT_ENTRY 8u        /* The entry number in the answer where the cache answered: no entry was looked for. */
 
-/* ---- The twelve calls ------------------------------------------------------------------------- */
+/* ---- Rights: three answers of an access and three words ------------------------------------------ */
+
+/*
+ * The answer of mmu_rights: the answers of a fetch, a load and a store of one byte, then for each the marks that it
+ * would newly set in its entry, the sum of MMU_SECOND_R and MMU_SECOND_C: 0 where the access would leave every byte of
+ * the table, as after each of the kind that was done before, and where it is not done or no page did it.
+ */
+#define MMU_RIGHTS_SIZE 156u                        /* Length of the answer of mmu_rights in bytes. */
+#define MMU_RIGHTS_ANSWER(kind) (48u * (kind))      /* Byte offset of a kind's answer; mmu_read_answer reads it. */
+#define MMU_RIGHTS_MARKS(kind) (144u + 4u * (kind)) /* Byte offset of the marks that this kind would newly set. */
+
+/* ---- The thirteen calls ----------------------------------------------------------------------- */
 
 /* Each returns MMU_DONE, a refusal or, an access alone, a fault. Of several refusals that hold, the first is told. */
 
@@ -317,6 +328,23 @@ uint32_t mmu_look(uint32_t sdr1, uint32_t vsid, uint32_t page_index, const uint8
  */
 uint32_t mmu_access(const uint8_t *registers, size_t registers_len, uint32_t mode, uint32_t kind, uint32_t address,
                     uint32_t length, uint8_t *table, size_t table_len, uint8_t *answer, size_t answer_len);
+
+/*
+ * Rights: tells what a fetch, a load and a store of one byte at an address would come to, and marks nothing. For each
+ * kind the answer has the bytes that mmu_access of that kind with length 1 would write now, on the table as it is lent,
+ * and the marks that it would newly set: what a TLB may keep, and what a debugger shows. A fault and contradicting
+ * matches are told in the answer of their kind, and the call is done all the same.
+ *   registers  the register page, MMU_REGISTERS_SIZE_SHORT or MMU_REGISTERS_SIZE_LONG bytes
+ *   mode       sum of MMU_MODE_PR, MMU_MODE_IR, MMU_MODE_DR
+ *   address    the effective address
+ *   table      the table, MMU_TABLE_SIZE(SDR1 of the page) bytes, in real mode too; only read
+ *   answer     MMU_RIGHTS_SIZE bytes, written; mmu_read_answer reads what is at MMU_RIGHTS_ANSWER(kind)
+ * Refusals, those that the three accesses share; each of the three answers is then the refused access's, all marks 0:
+ *   MMU_REFUSED_LENT_LENGTH (nothing is written), MMU_REFUSED_ARGUMENT (mode), MMU_REFUSED_SDR1, MMU_REFUSED_BLOCK,
+ *   MMU_REFUSED_BLOCKS_SHARE, MMU_REFUSED_SEGMENT, MMU_REFUSED_TABLE_LENGTH.
+ */
+uint32_t mmu_rights(const uint8_t *registers, size_t registers_len, uint32_t mode, uint32_t address,
+                    const uint8_t *table, size_t table_len, uint8_t *answer, size_t answer_len);
 
 /*
  * Access with a translation cache: the access of mmu_access, but a page that the cache holds (V, VSID and page index,

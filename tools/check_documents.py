@@ -13,7 +13,8 @@ from pathlib import Path
 
 ROOT = Path(__file__).resolve().parent.parent
 DOCUMENTS = ["README.md", "CHANGELOG.md", "docs/C-GUIDE.md", "docs/PROOFS.md", "docs/CASES.md", "docs/RULES.md",
-             "docs/EVIDENCE.md", "docs/DECISIONS.md", "docs/REQUESTS.md", "tests/README.md", "tests/vectors/README.md"]
+             "docs/EVIDENCE.md", "docs/DUMPS.md", "docs/DECISIONS.md", "docs/QEMU.md", "docs/REQUESTS.md",
+             "docs/RUNNER.md", "tests/README.md", "tests/vectors/README.md"]
 WIDTH = 120
 LINK = re.compile(r"\]\(([^)\s]+)\)")
 

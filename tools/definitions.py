@@ -28,6 +28,8 @@ START = [
     ("calls", "OnBytes", ["ended", "onBytes"]),
     ("calls", "WithoutTable", ["checkCall", "setRegisterCall", "packCall", "unpackCall"]),
     ("calls", "Demands", ["Demands"]),
+    ("access_rights", "Rights", ["rightsCall"]),
+    ("access_rights", "Stated", ["RightsStated"]),
     ("cached_calls", "Cached", ["onCached", "invalidateCall"]),
     ("cached_calls", "Demands", ["CachedDemands"]),
     ("lost_call", "Lost", ["OneLostCall"]),
@@ -41,10 +43,10 @@ ORDER = [
     ("Registers", ["register_words/Sdr1", "register_words/Segment", "register_words/Block", "registers/Rules", "registers/Set"]),
     ("Access", ["protection/Access", "protection/Protection", "protection/Fault", "translation/Steps", "translation/Decision", "translation/Operand"]),
     ("Groups and matches", ["groups/Page", "groups/Hash", "groups/Group", "tables/Matches", "tables/Layout", "matches/Search"]),
-    ("Calls on bytes", ["calls/Request", "calls/Rules", "calls/Answers", "calls/OnBytes", "calls/Lent", "calls/WithoutTable"]),
+    ("Calls on bytes", ["calls/Request", "calls/Rules", "calls/Answers", "calls/OnBytes", "calls/Lent", "calls/WithoutTable", "access_rights/Rights"]),
     ("The cache", ["cache/Cache", "cached_calls/Cached", "cached_calls/Discipline"]),
     ("The finite map", ["placement/Lists", "placement/FiniteMap", "placement/Placement", "calls/OnMap", "tables/Runs", "calls/Histories"]),
-    (STATEMENTS, ["entry/RoundTrip", "registers/Blocks", "translation/Stated", "calls/AnyTable", "calls/Refusals", "calls/Widened", "calls/Theorem", "calls/Demands", "calls/Represents", "cache/Placed",
+    (STATEMENTS, ["entry/RoundTrip", "registers/Blocks", "translation/Stated", "calls/AnyTable", "calls/Refusals", "calls/Widened", "calls/Theorem", "calls/Demands", "calls/Represents", "access_rights/Stated", "cache/Placed",
         "cached_calls/AnyCache", "cached_calls/Invisible", "cached_calls/Demands", "lost_call/Lost"]),
 ]
 

@@ -75,11 +75,12 @@ static void give_back(struct slice *slice)
 }
 
 /*
- * Register page, table, cache and two answers, one of unmap and look and one of an access, of the given lengths: SDR1
- * and segment 0 are those of the twelve cases, all blocks off, the cache empty.
+ * Register page, table, cache and three answers, one of unmap and look, one of an access and one of rights; all but the
+ * cache and the last of the given lengths: SDR1 and segment 0 are those of the twelve cases, all blocks off, the cache
+ * empty.
  */
 struct lent {
-    struct slice registers, table, cache, answer, access_answer;
+    struct slice registers, table, cache, answer, access_answer, rights;
 };
 
 /* The two lengths of a register page. */
@@ -98,6 +99,7 @@ static struct lent lend_all(size_t registers_len, size_t table_len, size_t answe
     lent.cache = lend(MMU_CACHE_SIZE, 0);
     lent.answer = lend(answer_len, 0xA5);
     lent.access_answer = lend(access_answer_len, 0xA5);
+    lent.rights = lend(MMU_RIGHTS_SIZE, 0xA5);
     if (is_page(registers_len)) {
         mmu_put_word(lent.registers.bytes, MMU_REGISTER_OFFSET(MMU_REGISTER_SDR1), SDR1);
         mmu_put_word(lent.registers.bytes, MMU_REGISTER_OFFSET(MMU_REGISTER_SEGMENT(0)), VSID);
@@ -123,6 +125,7 @@ static void give_back_all(struct lent *lent)
     give_back(&lent->cache);
     give_back(&lent->answer);
     give_back(&lent->access_answer);
+    give_back(&lent->rights);
 }
 
 static int answer_is(const struct slice *answer, uint32_t first, uint32_t second, uint32_t third, uint32_t fourth)
@@ -180,6 +183,18 @@ static int access_refused(const struct lent *lent, uint32_t got, uint32_t number
     return left(lent, got, number) && fault_is(lent, number, 0, 0, 0) && rule_is(lent, 0, 0, 0, 0);
 }
 
+/* The same of rights: three times an access's refusal, and no marks. */
+static int rights_refused(const struct lent *lent, uint32_t got, uint32_t number)
+{
+    size_t i;
+    if (number == MMU_REFUSED_LENT_LENGTH)
+        return left(lent, got, number) && unchanged(&lent->rights);
+    for (i = 0; i < MMU_RIGHTS_SIZE; i += 4)
+        if (mmu_get_word(lent->rights.bytes, i) != (i < 144 && i % 48 == 0 ? number : 0))
+            return 0;
+    return left(lent, got, number);
+}
+
 /* ---- The calls on what is lent ----------------------------------------------------------------- */
 
 static uint32_t unmap(struct lent *l, uint32_t sdr1, uint32_t vsid, uint32_t page)
@@ -227,6 +242,12 @@ static uint32_t cached_at(struct lent *l, uint32_t mode, uint32_t kind, uint32_t
 static uint32_t invalidate(struct lent *l, uint32_t page)
 {
     return mmu_invalidate(page, l->cache.bytes, l->cache.len);
+}
+
+static uint32_t rights_at(struct lent *l, uint32_t mode, uint32_t address)
+{
+    return mmu_rights(l->registers.bytes, l->registers.len, mode, address, l->table.bytes, l->table.len,
+                      l->rights.bytes, l->rights.len);
 }
 
 /* ---- Lengths ---------------------------------------------------------------------------------- */
@@ -422,6 +443,64 @@ static void test_guarded_cache(void)
     give_back(&table);
     munmap(page_end - GUARD, 2 * GUARD);
     munmap(cache_end - GUARD, 2 * GUARD);
+    munmap(answer_end - GUARD, 2 * GUARD);
+}
+
+/* Every length of the slices of rights, 0 as NULL: 11 before 6, and nothing is written; another table length 1. */
+static void test_rights_lengths(void)
+{
+    static const size_t lengths[] = { 0, 1, 64, 65535, 65537, 131072 };
+    size_t len;
+    for (len = 0; len <= LONGEST_PAGE; len++) {
+        struct lent l = lend_page(len);
+        expect(rights_refused(&l, rights_at(&l, 8, ADDRESS), is_page(len) ? 6 : 11), "rights by the page's length", 11);
+        if (!is_page(len))
+            expect(rights_refused(&l, rights_at(&l, 0, ADDRESS), 11), "rights by the page's length alone", 11);
+        give_back_all(&l);
+    }
+    for (len = 0; len <= 2 * MMU_RIGHTS_SIZE; len++) {
+        struct lent l = lend_page(pages[len % 2]);
+        give_back(&l.rights);
+        l.rights = lend(len, 0xA5);
+        if (len == MMU_RIGHTS_SIZE) {
+            expect(rights_at(&l, 0, ADDRESS) == 0 && left(&l, 0, 0), "rights in real mode", 0);
+        } else {
+            expect(rights_refused(&l, rights_at(&l, 8, ADDRESS), 11), "rights, another length before 6", (uint32_t)len);
+            expect(rights_refused(&l, rights_at(&l, 3, ADDRESS), 11), "rights, another length alone", (uint32_t)len);
+        }
+        give_back_all(&l);
+    }
+    for (len = 0; len < sizeof lengths / sizeof lengths[0]; len++) {
+        struct lent l = lend_all(pages[len % 2], lengths[len], MMU_ANSWER_SIZE, MMU_ACCESS_ANSWER_SIZE);
+        expect(rights_refused(&l, rights_at(&l, 0, ADDRESS), 1), "rights in real mode, another table length", 1);
+        expect(rights_refused(&l, rights_at(&l, 3, ADDRESS), 1), "rights, another table length", 1);
+        give_back_all(&l);
+    }
+}
+
+/* Rights of a table that cannot be written, every slice in front of an unreadable page. */
+static void test_guarded_rights(void)
+{
+    uint8_t *page_end = guarded(), *answer_end = guarded(), *answer = answer_end - MMU_RIGHTS_SIZE;
+    uint8_t *table = mmap(NULL, TABLE + GUARD, PROT_READ | PROT_WRITE, MAP_PRIVATE | MAP_ANONYMOUS, -1, 0);
+    uint32_t i;
+    expect(table != MAP_FAILED, "memory for a table", 0);
+    for (i = 0; i < 16; i++)
+        expect(mmu_map(SDR1, VSID, 0x3E0 + i, i, 2, 2, table, TABLE) == 0, "map", i);
+    expect(mprotect(table, TABLE, PROT_READ) == 0 && mprotect(table + TABLE, GUARD, PROT_NONE) == 0, "protect", 0);
+    for (i = 0; i < 64; i++) {
+        size_t len = pages[i % 2];
+        uint8_t *registers = page_end - len;
+        memset(registers, 0, len);
+        mmu_put_word(registers, 0, SDR1);
+        mmu_put_word(registers, 4, VSID);
+        expect(mmu_rights(registers, len, i % 8, (0x3E0 + i / 4) << 12, table, TABLE, answer, MMU_RIGHTS_SIZE) == 0,
+               "rights before unreadable pages", i);
+        expect(mmu_get_word(answer, MMU_RIGHTS_MARKS(MMU_STORE)) == (i % 2 ? 0x180u : 0), "marks of a store", i);
+        expect(mmu_get_word(answer, MMU_RIGHTS_MARKS(MMU_FETCH)) == (i & 2 ? 0x100u : 0), "marks of a fetch", i);
+    }
+    munmap(table, TABLE + GUARD);
+    munmap(page_end - GUARD, 2 * GUARD);
     munmap(answer_end - GUARD, 2 * GUARD);
 }
 
@@ -1086,6 +1165,84 @@ static void test_rules(void)
     give_back_all(&l);
 }
 
+/* What rights must tell of a fetch, a load and a store: result, rule and new marks of each. */
+struct rights_case {
+    uint32_t mode, address, told[3][3];
+};
+
+static const struct rights_case rights_cases[] = {
+    { 3, 0x00FFA01Bu, { { 0, 6, 0x100 }, { 0, 6, 0x100 }, { 0, 6, 0x180 } } },
+    { 7, 0x00FFA01Bu, { { 0, 6, 0x100 }, { 0, 6, 0x100 }, { 64, 5, 0 } } },
+    { 3, 0x00FFB000u, { { 65, 4, 0 }, { 0, 6, 0x100 }, { 0, 6, 0x180 } } },
+    { 7, 0x00FFC000u, { { 65, 5, 0 }, { 64, 5, 0 }, { 64, 5, 0 } } },
+    { 3, 0x00FFCFFFu, { { 0, 6, 0x100 }, { 0, 6, 0x100 }, { 0, 6, 0x180 } } },
+    { 3, 0x00FFE000u, { { 10, 0, 0 }, { 10, 0, 0 }, { 10, 0, 0 } } },
+    { 3, 0x10FFE000u, { { 65, 2, 0 }, { 10, 0, 0 }, { 10, 0, 0 } } },
+    { 3, 0x00FFD000u, { { 65, 3, 0 }, { 64, 3, 0 }, { 64, 3, 0 } } },
+    { 4, 0x00FFE000u, { { 0, 0, 0 }, { 0, 0, 0 }, { 0, 0, 0 } } },
+    { 1, 0x00FFA01Bu, { { 0, 0, 0 }, { 0, 6, 0x100 }, { 0, 6, 0x180 } } },
+    { 6, 0x00FFA01Bu, { { 0, 6, 0x100 }, { 0, 0, 0 }, { 0, 0, 0 } } },
+    { 3, 0xA0000000u, { { 65, 1, 0 }, { 64, 3, 0 }, { 64, 3, 0 } } },
+    { 3, 0xA003FFFFu, { { 0, 1, 0 }, { 64, 3, 0 }, { 64, 3, 0 } } },
+    { 3, 0xB0000000u, { { 65, 3, 0 }, { 0, 1, 0 }, { 64, 1, 0 } } },
+    { 7, 0xB0000000u, { { 65, 3, 0 }, { 64, 1, 0 }, { 64, 1, 0 } } },
+    { 7, 0xB0020000u, { { 65, 3, 0 }, { 0, 1, 0 }, { 0, 1, 0 } } },
+};
+
+static int told_is(const struct lent *l, uint32_t kind, const uint32_t told[3])
+{
+    const uint8_t *answer = l->rights.bytes;
+    size_t at = MMU_RIGHTS_ANSWER(kind);
+    return mmu_get_word(answer, at + MMU_ANSWER_RESULT) == told[0]
+        && mmu_get_word(answer, at + MMU_ANSWER_RULE) == told[1]
+        && mmu_get_word(answer, MMU_RIGHTS_MARKS(kind)) == told[2];
+}
+
+/* By the rules; and each answer is that of the access on the same table, which is then unmarked again. */
+static void test_rights(void)
+{
+    struct lent l = lend_rules();
+    uint32_t i, kind;
+    remember(&l.table);
+    for (i = 0; i < sizeof rights_cases / sizeof rights_cases[0]; i++) {
+        const struct rights_case *c = &rights_cases[i];
+        memset(l.rights.bytes, 0xA5, l.rights.len);
+        expect(rights_at(&l, c->mode, c->address) == 0 && left(&l, 0, 0), "rights are done and leave the table", i);
+        for (kind = 0; kind < 3; kind++) {
+            expect(told_is(&l, kind, c->told[kind]), "what rights tell", 10 * i + kind);
+            access_at(&l, c->mode, kind, c->address);
+            expect(memcmp(l.access_answer.bytes, l.rights.bytes + MMU_RIGHTS_ANSWER(kind), MMU_ACCESS_ANSWER_SIZE) == 0,
+                   "the access's own answer", 10 * i + kind);
+            expect(unchanged(&l.table) == (c->told[kind][2] == 0), "no marks where nothing changes", 10 * i + kind);
+            memcpy(l.table.bytes, l.table.before, l.table.len);
+        }
+    }
+    give_back_all(&l);
+}
+
+/* The marks of one page as it is loaded from, stored to, and cleared of R and of C. */
+static void test_rights_marks(void)
+{
+    static const uint32_t marks[6][4] = {
+        { 0x000, 0x100, 0x100, 0x180 }, { 0x100, 0, 0, 0x080 }, { 0x180, 0, 0, 0 },
+        { 0x080, 0x100, 0x100, 0x100 }, { 0xF84, 0, 0, 0 },     { 0xE04, 0x100, 0x100, 0x180 },
+    };
+    struct lent l = lend_rules();
+    uint32_t i, kind;
+    for (i = 0; i < 6; i++) {
+        put_entry(&l, 0x3E6, 5, 0x86380E03u, 0x12345011u | marks[i][0]);
+        expect(rights_at(&l, 3, ADDRESS) == 0, "rights", i);
+        for (kind = 0; kind < 3; kind++)
+            expect(mmu_get_word(l.rights.bytes, MMU_RIGHTS_MARKS(kind)) == marks[i][1 + kind], "new marks", i);
+    }
+    for (i = 0; i < 4; i++) {
+        uint32_t mode = beyond(8, (int)i);
+        remember(&l.table);
+        expect(rights_refused(&l, rights_at(&l, mode, ADDRESS), 6), "rights in a mode that is none", mode);
+    }
+    give_back_all(&l);
+}
+
 /* A store of two bytes before a page edge and six after it: both pages are marked, or none where one of them faults. */
 static void test_page_edge(void)
 {
@@ -1230,8 +1387,10 @@ static uint32_t random_call(struct lent *l, uint32_t call, uint32_t sdr1)
         return access_operand(l, some(8), some(3), any() | (any() % 2 ? 0xFF0u : 0), some(MMU_LONGEST_OPERAND + 1));
     case 8:
         return cached_operand(l, some(8), some(3), any() | (any() % 2 ? 0xFF0u : 0), some(MMU_LONGEST_OPERAND + 1));
-    default:
+    case 9:
         return invalidate(l, some(1u << 16));
+    default:
+        return rights_at(l, some(8), any());
     }
 }
 
@@ -1241,7 +1400,7 @@ static void test_random_numbers(long count, size_t page)
     struct lent l = lend_page(page);
     size_t i;
     while (count-- > 0) {
-        uint32_t call = any() % 10, got;
+        uint32_t call = any() % 11, got;
         if (any() % 8 == 0)
             mmu_put_word(l.registers.bytes, 4 * (any() % (page / 4)), any() % 3 ? 0 : any());
         for (i = 0; i < 8; i++)
@@ -1255,6 +1414,7 @@ static void test_random_numbers(long count, size_t page)
         remember(&l.cache);
         memset(l.answer.bytes, 0xA5, l.answer.len);
         memset(l.access_answer.bytes, 0xA5, l.access_answer.len);
+        memset(l.rights.bytes, 0xA5, l.rights.len);
         got = random_call(&l, call, any() % 2 ? SDR1 : any());
         expect(got <= 11 || ((got == 12 || got == 64 || got == 65) && (call == 7 || call == 8)), "a result", got);
         if (got != 0)
@@ -1263,6 +1423,8 @@ static void test_random_numbers(long count, size_t page)
             expect(answer_is(&l.answer, got, 0, 0, 0), "a refusal's answer", got);
         if ((call == 7 || call == 8) && got >= 1 && got <= 12 && got != 11)
             expect(fault_is(&l, got, 0, 0, 0) && rule_is(&l, 0, 0, 0, 0), "an access's refusal", got);
+        if (call == 10)
+            expect(got == 0 ? left(&l, got, 0) : rights_refused(&l, got, got), "rights leave the table", got);
     }
     give_back_all(&l);
 }
@@ -1277,6 +1439,8 @@ int main(int argc, char **argv)
     test_cache_lengths();
     test_lengths_with_cache();
     test_guarded_cache();
+    test_rights_lengths();
+    test_guarded_rights();
     test_wrong_entry_lengths();
     test_page_numbers();
     test_invalidate_numbers();
@@ -1295,6 +1459,8 @@ int main(int argc, char **argv)
     test_cache_of_segments();
     test_slices_side_by_side();
     test_rules();
+    test_rights();
+    test_rights_marks();
     test_page_edge();
     test_full_groups();
     test_duplicates();

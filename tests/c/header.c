@@ -338,6 +338,33 @@ static void test_access_cached(void)
     expect(mmu_invalidate(0x10000, cache, sizeof cache) == MMU_REFUSED_ARGUMENT, "invalidate of no page index", 6);
 }
 
+/* The names of rights beside a page of PP 2 that was loaded from: a store would still set C. */
+static void test_rights(void)
+{
+    static const uint32_t marks[3] = { 0, 0, MMU_SECOND_C };
+    static uint8_t table[65536];
+    uint8_t registers[MMU_REGISTERS_SIZE], bytes[MMU_ACCESS_ANSWER_SIZE], rights[MMU_RIGHTS_SIZE];
+    uint32_t kind;
+    memset(registers, 0, sizeof registers);
+    mmu_put_word(registers, MMU_REGISTER_OFFSET(MMU_REGISTER_SDR1), 0x0F980000u);
+    mmu_put_word(registers, MMU_REGISTER_OFFSET(MMU_REGISTER_SEGMENT(0u)), 0x0C701Cu);
+    expect(mmu_map(0x0F980000u, 0x0C701Cu, 0x0FFA, 0x12345, 2, 2, table, sizeof table) == MMU_DONE, "map", 0);
+    expect(mmu_access(registers, sizeof registers, MMU_MODE_DR, MMU_LOAD, 0x00FFA01Bu, 1, table, sizeof table, bytes,
+                      sizeof bytes) == MMU_DONE, "access", 0);
+    expect(mmu_rights(registers, sizeof registers, MMU_MODE_IR | MMU_MODE_DR, 0x00FFA01Bu, table, sizeof table, rights,
+                      sizeof rights) == MMU_DONE, "rights", 0);
+    for (kind = MMU_FETCH; kind <= MMU_STORE; kind++) {
+        struct mmu_answer a = mmu_read_answer(rights + MMU_RIGHTS_ANSWER(kind));
+        expect(a.result == MMU_DONE && a.physical == 0x1234501Bu && a.bytes == 1, "a kind that would be done", kind);
+        expect(rule_is(&a, MMU_RULE_DONE, 2, 0x3E6, 0), "its rule", kind);
+        expect(mmu_get_word(rights, MMU_RIGHTS_MARKS(kind)) == marks[kind], "its marks", kind);
+    }
+    expect(MMU_RIGHTS_ANSWER(3u) == MMU_RIGHTS_MARKS(0u), "the marks follow the answers", 0);
+    expect(MMU_RIGHTS_MARKS(3u) == MMU_RIGHTS_SIZE, "the marks end the answer", 0);
+    expect(mmu_rights(registers, sizeof registers, 8, 0, table, sizeof table, rights, sizeof rights)
+               == MMU_REFUSED_ARGUMENT, "rights of no mode", 6);
+}
+
 int main(void)
 {
     uint8_t fields[MMU_FIELDS_SIZE];
@@ -357,5 +384,6 @@ int main(void)
     test_long_page();
     test_access_by_page();
     test_access_cached();
+    test_rights();
     return failures ? 1 : 0;
 }

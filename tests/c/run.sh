@@ -57,7 +57,7 @@ build bad_input "-g -O1" tests/c/bad_input.c
 quiet "bad input, AddressSanitizer" "$out/bad_input_asan" 5000
 quiet "bad input, valgrind" "${memcheck[@]}" "$out/bad_input" 500
 
-for example in frame_reuse core cached; do
+for example in frame_reuse core cached tlb; do
     build "${example}_asan" "$sanitize" "examples/$example.c"
     build "$example" "-g -O1" "examples/$example.c"
     quiet "examples/$example.c, AddressSanitizer" "$out/${example}_asan"

@@ -1,5 +1,6 @@
 #!/usr/bin/env bash
-# make install and uninstall in temporary folders; the installed library used by pkg-config and by a CMake project.
+# make install and uninstall in temporary folders; the installed library used by pkg-config and by a CMake project,
+# mmu-dump and its manual page.
 #
 #   tests/install/run.sh [ARCHIVE]
 set -euo pipefail
@@ -11,7 +12,7 @@ if [ ! -f "$archive" ]; then
     exit 1
 fi
 # What a make above this, or the environment, says of folders is not meant for the makes below.
-unset MAKEFLAGS PREFIX LIBDIR INCLUDEDIR DESTDIR
+unset MAKEFLAGS PREFIX LIBDIR INCLUDEDIR BINDIR MANDIR DESTDIR
 
 work=$(mktemp -d)
 trap 'rm -rf "$work"' EXIT
@@ -65,14 +66,16 @@ folders=(PREFIX=/usr LIBDIR=/usr/lib/x86_64-linux-gnu "DESTDIR=$work/stage" "ARC
 # Installed below DESTDIR, with another LIBDIR: which files, and what they name.
 staged_install() {
     run "make install" make install "${folders[@]}"
-    wanted=$(printf '%s\n' ./usr/include/mmu.h "$lib/cmake/mmu/mmuConfig.cmake" "$lib/cmake/mmu/mmuConfigVersion.cmake" \
-        "$lib/libmmu.a" "$lib/pkgconfig/mmu.pc")
+    wanted=$(printf '%s\n' ./usr/bin/mmu-dump ./usr/include/mmu.h "$lib/cmake/mmu/mmuConfig.cmake" "$lib/cmake/mmu/mmuConfigVersion.cmake" \
+        "$lib/libmmu.a" "$lib/pkgconfig/mmu.pc" ./usr/share/man/man1/mmu-dump.1)
     [ "$(files_of "$work/stage")" = "$wanted" ] || fail "other files than these: $wanted"
     run "same archive" cmp "$archive" "$work/stage/$lib/libmmu.a"
     run "same header" cmp include/mmu.h "$work/stage/usr/include/mmu.h"
     refused "a file names DESTDIR" grep -r --include='*.pc' --include='*.cmake' "$work" "$work/stage"
     refused "a file with a word that was not filled in" grep -rE --include='*.pc' --include='*.cmake' '@[A-Z_]+@' "$work/stage"
     run "pkg-config file names LIBDIR" grep -x 'libdir=/usr/lib/x86_64-linux-gnu' "$work/stage/$lib/pkgconfig/mmu.pc"
+    [ "$("$work/stage/usr/bin/mmu-dump" --version)" = "mmu-dump $minor" ] || fail "version of mmu-dump"
+    run "same manual page" cmp dump/mmu-dump.1 "$work/stage/usr/share/man/man1/mmu-dump.1"
     echo "ok   make install with DESTDIR and LIBDIR"
 }
 

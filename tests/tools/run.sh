@@ -50,12 +50,12 @@ missing_rt() {
 }
 
 prover_lines() {
-    make RT="$work/rt" > "$work/said" 2>&1 || fail "make: $(cat "$work/said")"
+    make archive RT="$work/rt" > "$work/said" 2>&1 || fail "make: $(cat "$work/said")"
     ! grep -q 'a line of the prover' "$work/said" || fail "make shows the prover's lines"
     grep -q 'a line of the prover' target/staticlib.log || fail "the log lacks the prover's lines"
     rm -r target
     touch "$work/fail"
-    if make RT="$work/rt" > "$work/said" 2>&1; then fail "make hides a failing rt"; fi
+    if make archive RT="$work/rt" > "$work/said" 2>&1; then fail "make hides a failing rt"; fi
     grep -q 'a line of the prover' "$work/said" || fail "make does not show why rt failed"
     rm -r "$work/fail" target
     echo "ok   the prover's lines go to a log, and are shown where it fails"
@@ -63,13 +63,13 @@ prover_lines() {
 
 two_at_once() {
     : > "$work/order"
-    make RT="$work/rt" > "$work/first" 2>&1 &
-    make RT="$work/rt" > "$work/second" 2>&1
+    make archive RT="$work/rt" > "$work/first" 2>&1 &
+    make archive RT="$work/rt" > "$work/second" 2>&1
     wait
     [ "$(cut -d ' ' -f 1 "$work/order" | tr '\n' ' ')" = "begin end begin end " ] || fail "two at once: $(cat "$work/order")"
     grep -q 'waiting until it has ended' "$work/first" "$work/second" || fail "who waits does not say so"
     : > "$work/order"
-    tools/locked.sh make RT="$work/rt" -B > "$work/said" 2>&1 || fail "make under the lock: $(cat "$work/said")"
+    tools/locked.sh make archive RT="$work/rt" -B > "$work/said" 2>&1 || fail "make under the lock: $(cat "$work/said")"
     ! grep -q 'waiting' "$work/said" || fail "who has the lock waits for itself"
     echo "ok   two makes wait for each other and say so"
 }

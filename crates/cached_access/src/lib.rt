@@ -39,7 +39,7 @@ pub struct Asked {
 }
 
 // The page that a translated part at an address wants: it is searched for where no block covers the address and it is no fetch with N = 1.
-fn asked_at(registers: &[u8], begins: u32, mode: u32, kind: u32, address: u32) -> Asked
+fn asked_at(registers: &[u8], begins: u64, mode: u32, kind: u32, address: u32) -> Asked
     requires { ⌜ (isPage (length (now registers)) ≡ true) × TellsBlocks (setWords (now registers)) begins × (relocated mode kind ≡ true) ⌝ }
     ensures { λ r. ⌜ Asks (beforeSearch (blockPairs true) (blWidth true) (setWords (now (registers .entry))) mode kind address) r ⌝ }
 {
@@ -122,7 +122,7 @@ fn part_of(
     table: &[u8],
     cache: &[u8],
     registers: &[u8],
-    begins: u32,
+    begins: u64,
     mode: u32,
     kind: u32,
     address: u32,
@@ -168,7 +168,7 @@ fn take(table: &mut [u8], cache: &mut [u8], kind: u32, address: u32, part: Part)
 // A translated operand over a page edge: both parts by the cache as it was lent, and both taken where both are done.
 fn over_edge(
     registers: &[u8],
-    begins: u32,
+    begins: u64,
     access: Access,
     bytes: u32,
     table: &mut [u8],
@@ -240,7 +240,7 @@ fn in_page(
 // A translated operand whose arguments are not refused.
 fn by_parts(
     registers: &[u8],
-    begins: u32,
+    begins: u64,
     access: Access,
     table: &mut [u8],
     cache: &mut [u8],
@@ -296,7 +296,7 @@ pub fn translate(
           answer = answer;
         }) (now (table .entry), now (cache .entry))) ⌝ }
 {
-    let begins = register_pages::quick_page(registers);
+    let begins = register_pages::quick_cached(registers);
     let number = table_access::refusal(registers, begins, asked, table.len());
     if number != numbers::DONE {
         let outcome = translation::Outcome::Refused(number);

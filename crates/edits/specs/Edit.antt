@@ -5,7 +5,7 @@ use mathlib.Core.List.{List, foldl}
 use Rattle.entry.specs.Entry.{withPP}
 use Rattle.tables.specs.Matches.{Match}
 use Rattle.groups.specs.Group.{putEntry, putAt}
-use Rattle.matches.specs.Search.{groupMatches}
+use Rattle.matches.specs.Search.{groupMatches, merged}
 use Rattle.edits.specs.declared.Edit.{Edit}
 use Rattle.edits.specs.declared.Edit.the-variants.{Clear, Protect}
 
@@ -18,6 +18,11 @@ EditFits (Protect pp) = pp < 2 ^ 2
 abbrev pub editedWords : Edit → ℕ → ℕ → ℕ × ℕ
 editedWords Clear first second = (0, 0)
 editedWords (Protect pp) first second = (first, withPP pp second)
+
+-- the word that an edit of a page's matches answers: of a clear the first one's second word, with R and C each set if any had it; else 0
+abbrev pub editAnswer : Edit → Match → List Match → ℕ
+editAnswer Clear m ms = merged m ms
+editAnswer (Protect pp) m ms = 0
 
 unfoldable pub edited : Edit → Match → ℕ × ℕ
 edited edit m = editedWords edit (m .first) (m .second)

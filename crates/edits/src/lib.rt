@@ -1,12 +1,14 @@
 // Edits of every match of a page: eight zero bytes, or another PP.
 ghost use mathlib.Core.Path.{_≡_};
 ghost use mathlib.Core.Bool.{true, false};
+ghost use mathlib.Core.List.{List, _∷_};
 ghost use Prim.Native.Nat.{_+_, _*_, _<_, _≤_, _^_};
 ghost use lib.ListN.{length};
 ghost use Rattle.numbers.specs.Numbers.{groupSize};
+ghost use Rattle.tables.specs.Matches.{Match};
 ghost use Rattle.groups.specs.Group.{groupOf, onGroup};
 ghost use Rattle.matches.specs.Search.{pairMatches, onlyPlace};
-ghost use Rattle.edits.specs.Edit.{EditFits, editedWords, editMatches};
+ghost use Rattle.edits.specs.Edit.{EditFits, editedWords, editAnswer, editMatches};
 
 // What is done to each match: eight zero bytes, or another PP.
 pub enum Edit {
@@ -37,7 +39,8 @@ pub fn edit_group(group: &mut [u8], secondary: bool, vsid: u32, api: u32, edit: 
     ensures { λ _. ⌜ now (group .exit) ≡ editMatches edit secondary vsid api (now (group .entry)) ⌝ }
 {
     let wanted = entry::match_word(vsid, secondary as u32, api);
-    for i in 0..numbers::GROUP_ENTRIES {
+    let mut i = 0;
+    while numbers::ENTRY_SIZE * i < group.len() {
         if words::is_word(group, numbers::ENTRY_SIZE * i, wanted) {
             let first = words::read_word(group, numbers::ENTRY_SIZE * i);
             let made = edited_words(
@@ -47,10 +50,12 @@ pub fn edit_group(group: &mut [u8], secondary: bool, vsid: u32, api: u32, edit: 
             );
             groups::write_entry(group, i, made.first, made.second);
         }
+        i += 1;
     }
 }
 
-// Edits each match of the primary group, then of the secondary.
+// Edits each match of the primary group, then of the secondary. A clear answers the second word of the first match as it was, with the marks of
+// all; another PP answers 0.
 pub fn edit_both(
     table: &mut [u8],
     primary: usize,
@@ -58,20 +63,28 @@ pub fn edit_both(
     vsid: u32,
     api: u32,
     edit: Edit,
-)
+) -> u32
     requires { ⌜ (EditFits edit) × (groupSize * primary + groupSize ≤ length (now table)) × (groupSize * secondary + groupSize ≤ length (now table))
         × (vsid < 2 ^ 24) × (api < 2 ^ 6) ⌝ }
-    ensures { λ _. ⌜ now (table .exit) ≡ onGroup (onGroup (now (table .entry)) primary (editMatches edit false vsid api)) secondary (editMatches edit true vsid api) ⌝ }
+    ensures { λ r. ⌜ (now (table .exit) ≡ onGroup (onGroup (now (table .entry)) primary (editMatches edit false vsid api)) secondary (editMatches edit true vsid api))
+        × ((m : Match) (ms : List Match) → pairMatches vsid api (groupOf (now (table .entry)) primary) (groupOf (now (table .entry)) secondary) ≡ m ∷ ms
+        → r ≡ editAnswer edit m ms) ⌝ }
 {
+    let word = match edit {
+        Edit::Clear => matches::merged_word(table, primary, secondary, vsid, api),
+        Edit::Protect(_) => 0,
+    };
     let from = primary * numbers::GROUP_SIZE;
     let to = from + numbers::GROUP_SIZE;
     edit_group(&mut table[from..to], false, vsid, api, edit);
     let next = secondary * numbers::GROUP_SIZE;
     let end = next + numbers::GROUP_SIZE;
     edit_group(&mut table[next..end], true, vsid, api, edit);
+    word
 }
 
-// Edits each match of a page by what the quick search of its groups answered: the one match at its place, or, where there are several, both groups.
+// Edits a page's only match, at the place that the quick search of its groups editAnswer. It does to the table what the edit of both groups does, and
+// answers the same.
 pub fn edit_place(
     table: &mut [u8],
     primary: usize,
@@ -80,23 +93,25 @@ pub fn edit_place(
     api: u32,
     place: usize,
     edit: Edit,
-)
+) -> u32
     requires { ⌜ (EditFits edit) × (groupSize * primary + groupSize ≤ length (now table)) × (groupSize * secondary + groupSize ≤ length (now table))
-        × (vsid < 2 ^ 24) × (api < 2 ^ 6) × (primary ≡ secondary → ⊥) × (place ≡ 0 → ⊥)
+        × (vsid < 2 ^ 24) × (api < 2 ^ 6) × (primary ≡ secondary → ⊥) × (place ≡ 0 → ⊥) × (place ≡ 1 → ⊥)
         × (place ≡ onlyPlace (pairMatches vsid api (groupOf (now table) primary) (groupOf (now table) secondary))) ⌝ }
-    ensures { λ _. ⌜ now (table .exit) ≡ onGroup (onGroup (now (table .entry)) primary (editMatches edit false vsid api)) secondary (editMatches edit true vsid api) ⌝ }
+    ensures { λ r. ⌜ (now (table .exit) ≡ onGroup (onGroup (now (table .entry)) primary (editMatches edit false vsid api)) secondary (editMatches edit true vsid api))
+        × ((m : Match) (ms : List Match) → pairMatches vsid api (groupOf (now (table .entry)) primary) (groupOf (now (table .entry)) secondary) ≡ m ∷ ms
+        → r ≡ editAnswer edit m ms) ⌝ }
 {
-    if place == matches::SEVERAL {
-        edit_both(table, primary, secondary, vsid, api, edit);
-        return;
-    }
     let group = matches::group_at(place, primary, secondary);
     let entry = place % 8;
+    let second = groups::second_of(table, group, entry);
     match edit {
-        Edit::Clear => groups::put_entry(table, group, entry, 0, 0),
+        Edit::Clear => {
+            groups::put_entry(table, group, entry, 0, 0);
+            second
+        }
         Edit::Protect(pp) => {
-            let second = groups::second_of(table, group, entry);
             groups::put_second(table, group, entry, entry::with_pp(second, pp));
+            0
         }
     }
 }

@@ -1,6 +1,7 @@
 // A page table entry: its two words packed and unpacked, the match test, the marks R and C, PP, and the physical address that it gives.
 ghost use mathlib.Core.Path.{_≡_};
-ghost use Prim.Native.Nat.{_<_, _^_};
+ghost use mathlib.Core.Bool.{cond};
+ghost use Prim.Native.Nat.{ℕ, _<_, _^_};
 ghost use Rattle.words.specs.Words.{swapped};
 ghost use Rattle.entry.specs.Entry.{firstWord, secondWord, withinWidths, packed, unpacked, free};
 ghost use Rattle.entry.specs.Entry.{referenced, changed, withMarks, withPP, physicalAddress, pageIndex, apiOf};
@@ -105,6 +106,26 @@ pub fn match_word(vsid: u32, h: u32, api: u32) -> u32
     ensures { λ r. ⌜ r ≡ swapped (firstWord 1 vsid h api) ⌝ }
 {
     words::swapped(first_word(1, vsid, h, api))
+}
+
+// The word that matches in the secondary group, by the one that matches in the primary: with H set too, which is bit 25. In reverse order the
+// last byte stands first.
+pub fn secondary_word(primary: u32) -> u32
+    ensures { λ r. ⌜ ((vsid api : ℕ) → vsid < 2 ^ 24 → api < 2 ^ 6 → primary ≡ swapped (firstWord 1 vsid 0 api) → r ≡ swapped (firstWord 1 vsid 1 api)) ⌝ }
+{
+    primary | 0x40000000
+}
+
+// The first word of a page's entry in its primary (false) or secondary group (true), by the word that matches in the primary.
+pub fn first_in(secondary: bool, primary: u32) -> u32
+    ensures { λ r. ⌜ ((vsid api : ℕ) → vsid < 2 ^ 24 → api < 2 ^ 6 → primary ≡ swapped (firstWord 1 vsid 0 api) → r ≡ firstWord 1 vsid (cond secondary 1 0) api) ⌝ }
+{
+    let wanted = if secondary {
+        secondary_word(primary)
+    } else {
+        primary
+    };
+    words::swapped(wanted)
 }
 
 // Whether the entry of a first word is free: V is 0.

@@ -1,7 +1,6 @@
 // Hash, groups and entries in groups: a page's two groups, the free entry, the entry writer, and the clear of a table.
 ghost use mathlib.Core.Path.{_≡_};
 ghost use mathlib.Core.Bool.{true};
-ghost use mathlib.Core.List.{List};
 ghost use Prim.Native.Nat.{ℕ, _+_, _-_, _*_, _<_, _≤_, _^_};
 ghost use lib.ListN.{length, replicate};
 ghost use Rattle.numbers.specs.Numbers.{groupSize, groupEntries};
@@ -62,15 +61,17 @@ pub fn first_free(group: &[u8]) -> usize
     numbers::GROUP_ENTRIES
 }
 
-// The first free entry in search order, by the first of each group (8 where there is none).
-pub fn free_place(primary: usize, secondary: usize) -> Place
-    ensures { λ r. ⌜ ((p s : List ℕ) → primary ≡ firstFree p → secondary ≡ firstFree s → r ≡ firstFreePlace p s) ⌝ }
+// The first free entry in search order, in the bytes of a page's two groups.
+pub fn free_place<'a>(primary: &'a [u8], secondary: &'a [u8]) -> Place
+    requires { ⌜ (length (now primary) ≡ groupSize) × (length (now secondary) ≡ groupSize) ⌝ }
+    ensures { λ r. ⌜ r ≡ firstFreePlace (now (primary .entry)) (now (secondary .entry)) ⌝ }
 {
     let mut found = Place::Full;
     'search: for h in 0..2u32 {
-        let free = if h == 0 { primary } else { secondary };
+        let group = if h == 0 { primary } else { secondary };
         for entry in 0..numbers::GROUP_ENTRIES {
-            if entry == free {
+            let first = words::read_word(group, numbers::ENTRY_SIZE * entry);
+            if entry::is_free(first) {
                 found = Place::Entry(h == 1, entry);
                 break 'search;
             }

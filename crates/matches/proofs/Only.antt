@@ -1,5 +1,5 @@
 -- What the place that the quick search answers tells where it is neither 0 nor SEVERAL: the page's only match, its group, its entry and its two words.
-use mathlib.Core.Path.{_≡_, refl, sym, ap, _∙_, subst}
+use mathlib.Core.Path.{_≡_, refl, sym, ap, ap₂, _∙_, subst}
 use mathlib.Core.Bool.{Bool, true, false, cond}
 use mathlib.Core.List.{List, [], _∷_, List·Memᴰ, List·Memᴰ·head}
 use Prim.Native.Nat.{ℕ, _+_, _*_, _%_, _≤_, _<_}
@@ -8,9 +8,10 @@ use lib.Dec.{leb}
 use borrow.Author.Tests.{le-leb, lt-leb}
 use Rattle.tables.specs.Matches.{Match}
 use Rattle.groups.specs.Group.{groupOf, firstAt, secondAt, firstOf, secondOf}
-use Rattle.matches.specs.Search.{pairMatches, placeOf, onlyPlace}
+use Rattle.matches.specs.Search.{pairMatches, placeOf, onlyPlace, summary}
+use Rattle.matches.specs.declared.Summary.{Summary}
 use Rattle.matches.proofs.Matches.{match-entry}
-use Rattle.matches.proofs.Summaries.{place-number}
+use Rattle.matches.proofs.Summaries.{place-number, summary-one}
 
 -- a place tells its group
 pub place-group : (m : Match) → m .entry < 8 → leb 24 (placeOf m) ≡ m .secondary
@@ -64,3 +65,16 @@ module _ (vsid api primary secondary : ℕ) (t : List ℕ) where
             first-is = first (m .secondary) (m .entry) ∙ sym (ap (λ (x : Match). x .first) own);
             second-is = second (m .secondary) (m .entry) ∙ sym (ap (λ (x : Match). x .second) own);
           }
+
+  module _ (place : ℕ) (one : OnlyMatch place) where
+    -- the word that is read at the place is the match's
+    pub only-second : (group word : ℕ) → group ≡ cond (leb 24 place) secondary primary → word ≡ secondOf t group (place % 8) → word ≡ one .match .second
+    only-second group word g w = w ∙ ap₂ (secondOf t) (g ∙ one .group-is) (one .entry-is) ∙ one .second-is
+
+    -- and what the search of both groups tells
+    pub only-searched : (word : ℕ) → word ≡ one .match .second
+        → record { place = place; second = word; several = false; differs = false } ≡ summary (pairMatches vsid api (groupOf t primary) (groupOf t secondary))
+    only-searched word e = ap₂ told (one .at-place) e ∙ sym (summary-one (one .match)) ∙ ap summary (sym (one .are))
+      where
+        told : ℕ → ℕ → Summary
+        told p w = record { place = p; second = w; several = false; differs = false }

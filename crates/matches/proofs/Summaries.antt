@@ -40,7 +40,7 @@ abbrev isChanged : Match → Bool
 isChanged m = changed (m .second)
 
 -- a test of two lists, one after the other
-any-append : (test : Match → Bool) (ms ns : List Match) → anyMatch test (ms ++ ns) ≡ (anyMatch test ms || anyMatch test ns)
+pub any-append : (test : Match → Bool) (ms ns : List Match) → anyMatch test (ms ++ ns) ≡ (anyMatch test ms || anyMatch test ns)
 any-append test [] ns = refl
 any-append test (m ∷ ms) ns = ap (λ (b : Bool). test m || b) (any-append test ms ns) ∙ sym (or-assoc (test m) (anyMatch test ms) (anyMatch test ns))
 
@@ -189,6 +189,13 @@ pub merged-one : (m : Match) → merged m [] ≡ m .second
 unfolding merged
 merged-one m = ap₂ (λ (r c : Bool). withMarks r c (m .second)) (or-false (isReferenced m)) (or-false (isChanged m)) ∙ marks-own (m .second)
 
+pub merged-alone : (x m : Match) (ms : List Match) → x ∷ [] ≡ m ∷ ms → x .second ≡ merged m ms
+merged-alone x m ms e = sym (merged-one x) ∙ ap mergedOf e
+  where
+    mergedOf : List Match → ℕ
+    mergedOf [] = 0
+    mergedOf (n ∷ ns) = merged n ns
+
 pub summary-one : (m : Match) → summary (m ∷ []) ≡ record { place = placeOf m; second = m .second; several = false; differs = false }
 unfolding summary contradict
 summary-one m = refl
@@ -271,6 +278,11 @@ found-none (m ∷ ms) e = absurd (true≢false (sym (place-found (summary (m ∷
 pub found-some : (ms : List Match) → found (summary ms) ≡ true → (m : Match) × ((rest : List Match) × (ms ≡ m ∷ rest))
 found-some [] e = absurd (true≢false (sym e ∙ summary-none))
 found-some (m ∷ ms) e = (m, (ms, refl))
+
+-- which is to say that some entry matches
+pub found-any : (ms : List Match) → found (summary ms) ≡ anyMatch each ms
+found-any [] = summary-none
+found-any (m ∷ ms) = place-found (summary (m ∷ ms)) m (summarised m ms .place)
 
 -- the same by the place of the only match
 pub only-missing : (ms : List Match) → onlyPlace ms ≡ 0 → found (summary ms) ≡ false

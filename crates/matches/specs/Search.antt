@@ -11,7 +11,6 @@ use Rattle.tables.specs.Matches.{Match, matchesBelow}
 use Rattle.groups.specs.Group.{firstAt, secondAt, firstFree}
 use Rattle.matches.specs.declared.Summary.{Summary}
 use Rattle.matches.specs.declared.GroupSearch.{GroupSearch}
-use Rattle.matches.specs.declared.PairSearch.{PairSearch}
 
 -- H of an entry: 0 in the primary group (false), 1 in the secondary (true)
 abbrev pub hOf : Bool → ℕ
@@ -69,11 +68,6 @@ summary (m ∷ ms) = record { place = placeOf m; second = m .second; several = a
 -- what the search of one group tells, for any 64 bytes, H, VSID and API: the matches, and the first entry with V = 0, or 8 where none has
 unfoldable pub groupSearch : Bool → ℕ → ℕ → List ℕ → GroupSearch
 groupSearch secondary vsid api group = record { matches = summary (groupMatches secondary vsid api group); free = firstFree group }
-
--- what the search of both groups tells: the matches in search order, and the first entry with V = 0 of each
-unfoldable pub pairSearch : ℕ → ℕ → List ℕ → List ℕ → PairSearch
-pairSearch vsid api primary secondary =
-    record { matches = summary (pairMatches vsid api primary secondary); primary = firstFree primary; secondary = firstFree secondary }
 
 -- the place of the only match of a list: 0 where there is none, and 1, which is no place, where there are several
 abbrev pub onlyPlace : List Match → ℕ

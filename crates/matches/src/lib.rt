@@ -1,6 +1,6 @@
 // The matches of a page in its two groups: the search of one group, which tells all that a call asks of it, and what two of them come to.
 ghost use mathlib.Core.Path.{_≡_};
-ghost use mathlib.Core.Bool.{true, false, cond};
+ghost use mathlib.Core.Bool.{Bool, true, false, cond};
 ghost use mathlib.Core.List.{List, [], _∷_, _++_};
 ghost use Prim.Native.Nat.{ℕ, _+_, _*_, _<_, _≤_, _^_};
 ghost use lib.Dec.{leb};
@@ -8,7 +8,7 @@ ghost use lib.ListN.{length};
 ghost use Rattle.numbers.specs.Numbers.{groupSize};
 ghost use Rattle.tables.specs.Matches.{Match};
 ghost use Rattle.groups.specs.Group.{groupOf};
-ghost use Rattle.matches.specs.Search.{WantedWord, groupMatches, pairMatches, agree, marksOf, merged, firstPlace, placeOf, onlyPlace, summary, groupSearch, pairSearch, found, inSecondary, entryOf};
+ghost use Rattle.matches.specs.Search.{WantedWord, groupMatches, pairMatches, agree, anyMatch, marksOf, merged, each, firstPlace, placeOf, onlyPlace, summary, groupSearch, found, inSecondary, entryOf};
 
 // Whether the second words of two matches agree: RPN, WIMG and PP are equal. R, C and the ignored bits may differ.
 pub fn words_agree(second: u32, other: u32) -> bool
@@ -137,11 +137,38 @@ pub fn find(primary: &[u8], secondary: &[u8], vsid: u32, api: u32) -> usize
     requires { ⌜ (length (now primary) ≡ groupSize) × (length (now secondary) ≡ groupSize) × (vsid < 2 ^ 24) × (api < 2 ^ 6) ⌝ }
     ensures { λ r. ⌜ r ≡ onlyPlace (pairMatches vsid api (now (primary .entry)) (now (secondary .entry))) ⌝ }
 {
-    let place = only_place(primary, false, entry::match_word(vsid, 0, api), 0);
+    let wanted = entry::match_word(vsid, 0, api);
+    let place = only_place(primary, false, wanted, 0);
     if place == SEVERAL {
         return SEVERAL;
     }
-    only_place(secondary, true, entry::match_word(vsid, 1, api), place)
+    only_place(secondary, true, entry::secondary_word(wanted), place)
+}
+
+// Whether a group has a match: an entry with this first word, which is given with its bytes in reverse order. It answers at the first.
+fn group_has(group: &[u8], wanted: u32) -> bool
+    requires { ⌜ length (now group) ≡ groupSize ⌝ }
+    ensures { λ r. ⌜ ((secondary : Bool) (vsid api : ℕ) → WantedWord secondary vsid api wanted → r ≡ anyMatch each (groupMatches secondary vsid api (now (group .entry)))) ⌝ }
+{
+    let mut entry = 0;
+    while numbers::ENTRY_SIZE * entry < group.len() {
+        if words::is_word(group, numbers::ENTRY_SIZE * entry, wanted) {
+            return true;
+        }
+        entry += 1;
+    }
+    false
+}
+
+// Whether a page has a match in its two groups, whose bytes are lent, by the word that matches in the primary. It does not tell which or how many.
+pub fn any_match(primary: &[u8], secondary: &[u8], wanted: u32) -> bool
+    requires { ⌜ (length (now primary) ≡ groupSize) × (length (now secondary) ≡ groupSize) ⌝ }
+    ensures { λ r. ⌜ ((vsid api : ℕ) → WantedWord false vsid api wanted → r ≡ anyMatch each (pairMatches vsid api (now (primary .entry)) (now (secondary .entry)))) ⌝ }
+{
+    if group_has(primary, wanted) {
+        return true;
+    }
+    group_has(secondary, entry::secondary_word(wanted))
 }
 
 // The number of the group that a place is in, by the numbers of a page's two groups.
@@ -247,56 +274,12 @@ pub fn search_at(
     Summary::one(place, second)
 }
 
-// What the search of both groups tells that looks for a free entry too: the matches, and the first entry with V = 0 of each group.
-pub struct PairSearch {
-    pub matches: Summary,
-    pub primary: usize,
-    pub secondary: usize,
-}
-
-// The matches of both groups, in search order, and the first free entry of each.
-pub fn search_places(
-    table: &[u8],
-    primary: usize,
-    secondary: usize,
-    vsid: u32,
-    api: u32,
-) -> PairSearch
+// The second word of a page's first match, with R and C each set if any match has it.
+pub fn merged_word(table: &[u8], primary: usize, secondary: usize, vsid: u32, api: u32) -> u32
     requires { ⌜ (groupSize * primary + groupSize ≤ length (now table)) × (groupSize * secondary + groupSize ≤ length (now table)) × (vsid < 2 ^ 24) × (api < 2 ^ 6) ⌝ }
-    ensures { λ r. ⌜ r ≡ pairSearch vsid api (groupOf (now (table .entry)) primary) (groupOf (now (table .entry)) secondary) ⌝ }
-{
-    let from = primary * numbers::GROUP_SIZE;
-    let to = from + numbers::GROUP_SIZE;
-    let own = search_group(&table[from..to], false, entry::match_word(vsid, 0, api));
-    let next = secondary * numbers::GROUP_SIZE;
-    let end = next + numbers::GROUP_SIZE;
-    let rest = search_group(&table[next..end], true, entry::match_word(vsid, 1, api));
-    let further = rest.matches;
-    let matches = own.matches;
-    PairSearch {
-        matches: matches.then(further),
-        primary: own.free,
-        secondary: rest.free,
-    }
-}
-
-// The second word of a page's first match, with R and C each set if any match has it, by what the quick search answered.
-pub fn merged_word(
-    table: &[u8],
-    primary: usize,
-    secondary: usize,
-    vsid: u32,
-    api: u32,
-    place: usize,
-) -> u32
-    requires { ⌜ (groupSize * primary + groupSize ≤ length (now table)) × (groupSize * secondary + groupSize ≤ length (now table)) × (vsid < 2 ^ 24) × (api < 2 ^ 6)
-        × (place ≡ onlyPlace (pairMatches vsid api (groupOf (now table) primary) (groupOf (now table) secondary))) ⌝ }
     ensures { λ r. ⌜ ((m : Match) (ms : List Match) → pairMatches vsid api (groupOf (now (table .entry)) primary) (groupOf (now (table .entry)) secondary) ≡ m ∷ ms
         → r ≡ merged m ms) ⌝ }
 {
-    if place != SEVERAL {
-        return groups::second_of(table, group_at(place, primary, secondary), place % 8);
-    }
     let search = search_both(table, primary, secondary, vsid, api);
     let from = primary * numbers::GROUP_SIZE;
     let to = from + numbers::GROUP_SIZE;

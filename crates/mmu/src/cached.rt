@@ -1,5 +1,4 @@
 // The exported access with a cache, and the exported invalidate of a page index.
-use crate::access::write_told;
 ghost use mathlib.Core.Path.{_≡_};
 ghost use Rattle.calls.specs.OnBytes.{ended};
 ghost use Rattle.cached_calls.specs.Cached.{onCached, invalidateCall};
@@ -36,8 +35,7 @@ pub extern "C" fn mmu_access_cached(
         length,
     };
     let told = cached_access::translate(registers, asked, table, cache);
-    write_told(answer, told);
-    told.part.result
+    table_access::tell(answer, told)
 }
 
 // Zeroes the set of a page index in the cache.

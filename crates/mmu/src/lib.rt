@@ -2,6 +2,7 @@
 mod access;
 mod cached;
 mod pages;
+mod rights;
 
 pub use access::mmu_access;
 pub use cached::mmu_access_cached;
@@ -11,6 +12,7 @@ pub use pages::mmu_look;
 pub use pages::mmu_map;
 pub use pages::mmu_protect;
 pub use pages::mmu_unmap;
+pub use rights::mmu_rights;
 ghost use mathlib.Core.Path.{_≡_};
 ghost use mathlib.Core.List.{[], _∷_};
 ghost use lib.ListN.{length};

@@ -32,7 +32,7 @@ pub fn page_in_range(vsid: u32, index: u32) -> bool
 pub fn map_in_range(vsid: u32, index: u32, rpn: u32, wimg: u32, pp: u32) -> bool
     ensures { λ r. ⌜ ((sdr1 : ℕ) → r ≡ mapInRange (record { sdr1 = sdr1; page = record { vsid = vsid; index = index }; rpn = rpn; wimg = wimg; pp = pp })) ⌝ }
 {
-    page_in_range(vsid, index) & (rpn < 0x100000) & (wimg < 16) & (pp < 4) & (wimg >> 2 != 3)
+    page_in_range(vsid, index) & (rpn < 0x100000) & (wimg < 12) & (pp < 4)
 }
 
 // The refusal by the arguments' ranges, by SDR1 and by the table's length, in this order, or 0.
@@ -80,14 +80,18 @@ pub fn map_page(
         ≡ bytesDo (maskOnes sdr1) (mapPage (record { sdr1 = sdr1; page = record { vsid = vsid; index = index }; rpn = rpn; wimg = wimg; pp = pp })) (now (table .entry)) ⌝ }
 {
     let at = locate(table.len(), vsid, index);
-    let search = matches::search_places(table, at.primary, at.secondary, vsid, at.api);
-    let matches = search.matches;
-    if matches.found() {
+    let from = at.primary * numbers::GROUP_SIZE;
+    let to = from + numbers::GROUP_SIZE;
+    let next = at.secondary * numbers::GROUP_SIZE;
+    let end = next + numbers::GROUP_SIZE;
+    let wanted = entry::match_word(vsid, 0, at.api);
+    let free = groups::free_place(&table[from..to], &table[next..end]);
+    if matches::any_match(&table[from..to], &table[next..end], wanted) {
         return numbers::REFUSED_MAPPED;
     }
-    match groups::free_place(search.primary, search.secondary) {
+    match free {
         groups::Place::Entry(secondary, entry) => {
-            let first = entry::first_word(1, vsid, secondary as u32, at.api);
+            let first = entry::first_in(secondary, wanted);
             let second = entry::second_word(rpn, 0, 0, wimg, pp);
             groups::put_entry(table, at.group(secondary), entry, first, second);
             numbers::DONE
@@ -114,16 +118,12 @@ pub fn unmap_page(sdr1: u32, vsid: u32, index: u32, table: &mut [u8]) -> WordAns
             word: 0,
         };
     }
-    let word = matches::merged_word(table, at.primary, at.secondary, vsid, at.api, place);
-    edits::edit_place(
-        table,
-        at.primary,
-        at.secondary,
-        vsid,
-        at.api,
-        place,
-        edits::Edit::Clear,
-    );
+    let edit = edits::Edit::Clear;
+    let word = if place == matches::SEVERAL {
+        edits::edit_both(table, at.primary, at.secondary, vsid, at.api, edit)
+    } else {
+        edits::edit_place(table, at.primary, at.secondary, vsid, at.api, place, edit)
+    };
     WordAnswer {
         result: numbers::DONE,
         word,
@@ -145,15 +145,12 @@ pub fn protect_page(sdr1: u32, vsid: u32, index: u32, pp: u32, table: &mut [u8])
     if place == 0 {
         return numbers::REFUSED_NO_MATCH;
     }
-    edits::edit_place(
-        table,
-        at.primary,
-        at.secondary,
-        vsid,
-        at.api,
-        place,
-        edits::Edit::Protect(pp),
-    );
+    let edit = edits::Edit::Protect(pp);
+    if place == matches::SEVERAL {
+        edits::edit_both(table, at.primary, at.secondary, vsid, at.api, edit);
+    } else {
+        edits::edit_place(table, at.primary, at.secondary, vsid, at.api, place, edit);
+    }
     numbers::DONE
 }
 
@@ -169,13 +166,20 @@ pub fn look_page(sdr1: u32, vsid: u32, index: u32, table: &[u8]) -> WordAnswer
     let next = at.secondary * numbers::GROUP_SIZE;
     let end = next + numbers::GROUP_SIZE;
     let place = matches::find(&table[from..to], &table[next..end], vsid, at.api);
-    let search = matches::search_at(table, at.primary, at.secondary, vsid, at.api, place);
-    if !search.found() {
+    if place == 0 {
         return WordAnswer {
             result: numbers::REFUSED_NO_MATCH,
             word: 0,
         };
     }
+    if place != matches::SEVERAL {
+        let group = matches::group_at(place, at.primary, at.secondary);
+        return WordAnswer {
+            result: numbers::DONE,
+            word: groups::second_of(table, group, place % 8),
+        };
+    }
+    let search = matches::search_both(table, at.primary, at.secondary, vsid, at.api);
     if search.differs {
         return WordAnswer {
             result: numbers::REFUSED_CONTRADICTION,

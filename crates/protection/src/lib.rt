@@ -52,15 +52,14 @@ pub fn page_allows(key: bool, pp: u32, kind: u32) -> bool
     }
 }
 
-// Whether a block's PP allows the access.
+// Whether a block's PP allows the access: 10 allows all, 00 nothing.
 pub fn block_allows(pp: u32, kind: u32) -> bool
     ensures { λ r. ⌜ r ≡ blockAllows pp kind ⌝ }
 {
-    if kind == numbers::STORE {
-        pp == 2
-    } else {
-        pp != 0
+    if pp == 2 {
+        return true;
     }
+    (pp != 0) & (kind != numbers::STORE)
 }
 
 // A fault by its three words.

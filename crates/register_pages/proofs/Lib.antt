@@ -1,5 +1,6 @@
 -- What callers' proofs cite of a register page's bytes.
 pub mod Or
+pub mod Digits
 pub mod Quick
 pub mod Page
 pub mod Passed

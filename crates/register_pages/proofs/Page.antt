@@ -3,14 +3,14 @@
 use mathlib.Core.Path.{_≡_, refl, sym, ap, _∙_}
 use mathlib.Core.Bool.{Bool, true, false, cond, true≢false}
 use mathlib.Core.List.{List}
-use Prim.Native.Nat.{ℕ, _+_, _*_, _≤_, _<_}
+use Prim.Native.Nat.{ℕ, _+_, _-_, _*_, _/_, _≤_, _<_}
 use native.Mathlib.Omega.{arith}
 use lib.Dec.{ltb, lit≤}
 use lib.ListN.{length, getD}
 use borrow.Author.Tests.{eqb-true, eqb-false, ltb-true, ltb-false}
 use Rattle.words.specs.Words.{wordAt}
 use Rattle.words.proofs.Words.{getD-wordsAt, length-wordsAt}
-use Rattle.words.proofs.Below.{first-passes}
+use Rattle.words.proofs.Below.{first-passes, first-none}
 use Rattle.words.proofs.Tests.{by-test}
 use Rattle.register_words.specs.Block.{off}
 use Rattle.register_words.proofs.Blocks.{off-covers}
@@ -138,3 +138,19 @@ module _ (registers : List ℕ) where
         let k = coveringPair 8 15 (setWords registers) side user address in
         by-test (ltb k (blockPairs long)) (λ e. ltb-true k (blockPairs long) e)
         (λ e. absurd (true≢false (sym (first-passes (pairCovers 8 15 (setWords registers) side user address) 8 l) ∙ none-behind k (ltb-false k (blockPairs long) e) l)))
+
+-- how many pairs a side of the page has, by its length
+pub own-pairs : {size : ℕ} {long : Bool} → PageSize size long → (size - 68) / 16 ≡ blockPairs long
+own-pairs short-size = refl
+own-pairs long-size = refl
+
+module _ (page : List ℕ) (side user : Bool) (address : ℕ) where
+  -- where none of the page's own pairs covers the address, none of the set's does
+  pub none-covers : (i : ℕ) → blockPairs (isLong (length page)) ≤ i → ((k : ℕ) → k < i → pairCovers 8 15 (setWords page) side user address k ≡ false)
+      → coveringPair 8 15 (setWords page) side user address ≡ 8
+  unfolding coveringPair
+  none-covers i g own = first-none _ 8 (λ k l. go k l (ltb k i) refl)
+    where
+      go : (k : ℕ) → k < 8 → (t : Bool) → ltb k i ≡ t → pairCovers 8 15 (setWords page) side user address k ≡ false
+      go k l true e = own k (ltb-true k i e)
+      go k l false e = none-behind page side user address k (omega (arith, g, ltb-false k i e)) l

@@ -68,7 +68,7 @@ module _ (registers : List ℕ) where
     side-apart = every-all _ 8 (λ j h. every-all _ j (λ i l. ap not (apart j h i l)))
 
     -- where the map has no block's top four bits, none covers the address
-    pub side-tells : (user : Bool) (address : ℕ) → field (bits 0 3 address) 1 begins ≡ 0 → coveringPair 8 15 (setWords registers) side user address ≡ 8
+    pub side-tells : (user : Bool) (address : ℕ) → field (4 * bits 0 3 address) 1 begins ≡ 0 → coveringPair 8 15 (setWords registers) side user address ≡ 8
     unfolding coveringPair pairCovers
     side-tells user address clear = first-none _ 8 (λ i l. sym (covers-same user (upper side i) address (all-narrow i l)) ∙ none i l)
       where
@@ -81,7 +81,7 @@ module _ (registers : List ℕ) where
             let e = upper-at registers side i own in
             let one = seen .seen i own (ap off (sym e) ∙ o) in
             let top : bits 0 3 address ≡ bits 0 3 (wordAt registers (sideByte long side + 8 * i)) = covers-top user (upper side i) address c ∙ ap (bits 0 3) e in
-            let zero-one : _≡_ {A = ℕ} 0 1 = sym clear ∙ ap (λ (t : ℕ). field t 1 begins) top ∙ one in
+            let zero-one : _≡_ {A = ℕ} 0 1 = sym clear ∙ ap (λ (t : ℕ). field (4 * t) 1 begins) top ∙ one in
             omega arith
             )))
             (λ o. off-covers 11 (upper side i) o user address))
@@ -118,36 +118,47 @@ module _ (registers : List ℕ) where
           go true = sym (check-same 8 (setWords registers) own-narrow) ∙ by-eleven
           go false = by-eleven
 
-    pub tells : TellsBlocks (setWords registers) (bitOr instruction (data-map * 2 ^ 16))
-    unfolding TellsBlocks
-    tells true user address l clear =
+    tells-none : (side user : Bool) (address : ℕ) → address < 2 ^ 32 → field (4 * bits 0 3 address + cond side 1 0) 1 (bitOr instruction (data-map * 2 ^ 1)) ≡ 0
+        → coveringPair 8 15 (setWords registers) side user address ≡ 8
+    tells-none true user address l clear =
         side-tells true data-map second user address
-        (let t = bits 0 3 address in
-        let moved : field (t + 16) 1 (data-map * 2 ^ 16) ≡ 0 = has-own instruction (data-map * 2 ^ 16) (t + 16) 1 clear in
-        let swap : t + 16 ≡ 16 + t = omega arith in
-        let back : data-map * 2 ^ 16 / 2 ^ (t + 16) ≡ data-map / 2 ^ t =
-        ap (λ (n : ℕ). data-map * 2 ^ 16 / 2 ^ n) swap ∙ sym (shr-shr (data-map * 2 ^ 16) 16 t) ∙ ap (λ (n : ℕ). n / 2 ^ t) (shl-shr data-map 16) in
+        (let t = 4 * bits 0 3 address in
+        let moved : field (t + 1) 1 (data-map * 2 ^ 1) ≡ 0 = has-own instruction (data-map * 2 ^ 1) (t + 1) 1 clear in
+        let swap : t + 1 ≡ 1 + t = omega arith in
+        let back : data-map * 2 ^ 1 / 2 ^ (t + 1) ≡ data-map / 2 ^ t =
+        ap (λ (n : ℕ). data-map * 2 ^ 1 / 2 ^ n) swap ∙ sym (shr-shr (data-map * 2 ^ 1) 1 t) ∙ ap (λ (n : ℕ). n / 2 ^ t) (shl-shr data-map 1) in
         sym (ap (λ (n : ℕ). n % 2 ^ 1) back) ∙ moved)
-    tells false user address l clear =
+    tells-none false user address l clear =
         side-tells false instruction first user address
-        (has-more instruction (data-map * 2 ^ 16) instruction (λ k w e. e) (bits 0 3 address) 1
-        (ap (λ (t : ℕ). field t 1 (bitOr instruction (data-map * 2 ^ 16))) (sym (add-zero (bits 0 3 address))) ∙ clear))
+        (has-more instruction (data-map * 2 ^ 1) instruction (λ k w e. e) (4 * bits 0 3 address) 1
+        (ap (λ (t : ℕ). field t 1 (bitOr instruction (data-map * 2 ^ 1))) (sym (add-zero (4 * bits 0 3 address))) ∙ clear))
+
+    -- a block is within 256 MB, so it begins with the top four bits of an address that it covers
+    tells-near : (side user : Bool) (address i : ℕ) → i < 8 → pairCovers 8 15 (setWords registers) side user address i ≡ true
+        → bits 0 3 address ≡ bits 0 3 (upper side i)
+    unfolding pairCovers
+    tells-near side user address i l c = covers-top user (upper side i) address (covers-same user (upper side i) address (own-narrow side i l) ∙ c)
+
+    pub tells : TellsBlocks (setWords registers) (bitOr instruction (data-map * 2 ^ 1))
+    tells = record { none = tells-none; near = λ other. tells-near }
 
 -- each bit of the answer that decides nothing is one
 pub tells-nothing : (words : List ℕ) → TellsBlocks words everywhere
-unfolding TellsBlocks
-tells-nothing words side user address l clear = absurd (bit (bits 0 3 address + cond side 16 0) (place side) clear)
+tells-nothing words = record {
+  none = λ side user address l clear. absurd (bit (4 * bits 0 3 address + cond side 1 0) (place address side) clear);
+  near = λ other. absurd (other refl);
+}
   where
-    place : (s : Bool) → bits 0 3 address + cond s 16 0 < 32
-    place true = omega arith
-    place false = omega arith
+    place : (address : ℕ) (s : Bool) → 4 * bits 0 3 address + cond s 1 0 < 64
+    place address true = omega arith
+    place address false = omega arith
 
-    bit : (k : ℕ) → k < 32 → field k 1 (2 ^ 32 - 1) ≡ 0 → ⊥
+    bit : (k : ℕ) → k < 64 → field k 1 (2 ^ 64 - 1) ≡ 0 → ⊥
     bit k h z =
-        let j = 31 - k in
-        let width : (j + 1) + k ≡ 32 = omega arith in
+        let j = 63 - k in
+        let width : (j + 1) + k ≡ 64 = omega arith in
         let top : (2 ^ ((j + 1) + k) - 1) / 2 ^ k ≡ 2 ^ (j + 1) - 1 = ap (λ (n : ℕ). n / 2 ^ k) (ones-split (j + 1) k) ∙ high (2 ^ (j + 1) - 1) k (ones-lt k) in
-        let here : (2 ^ 32 - 1) / 2 ^ k ≡ 2 ^ (j + 1) - 1 = ap (λ (n : ℕ). (2 ^ n - 1) / 2 ^ k) (sym width) ∙ top in
+        let here : (2 ^ 64 - 1) / 2 ^ k ≡ 2 ^ (j + 1) - 1 = ap (λ (n : ℕ). (2 ^ n - 1) / 2 ^ k) (sym width) ∙ top in
         let zero-one : (2 ^ (j + 1) - 1) % 2 ≡ 0 = sym (ap (λ (n : ℕ). n % 2 ^ 1) here) ∙ z in
         odd j zero-one
       where
@@ -162,9 +173,9 @@ Promised registers r =
 pub promised : (registers : List ℕ) (kept : Bool) → isLong (length registers) ≡ kept → sdr1Shape (wordAt registers 0) ≡ true
     → ((i : ℕ) → i < 16 → segmentShape (wordAt registers (4 + 4 * i)) ≡ true) → (instruction data-map : ℕ)
     → SideSeen false registers (sideByte kept false) (blockPairs kept) instruction → SideSeen true registers (sideByte kept true) (blockPairs kept) data-map
-    → Promised registers (bitOr instruction (data-map * 2 ^ 16 % 2 ^ 32))
+    → Promised registers (bitOr instruction (data-map * 2 ^ 1 % 2 ^ 64))
 promised registers kept e sdr1 segments instruction data-map first second =
-    let fits : data-map * 2 ^ 16 ≡ data-map * 2 ^ 16 % 2 ^ 32 = let l = second .fits in omega arith in (
+    let fits : data-map * 2 ^ 1 ≡ data-map * 2 ^ 1 % 2 ^ 64 = let l = second .fits in omega arith in (
       λ other. passes registers instruction data-map (own false instruction first) (own true data-map second) sdr1 segments,
       subst (λ (n : ℕ). TellsBlocks (setWords registers) (bitOr instruction n)) fits (tells registers instruction data-map (own false instruction first) (own true data-map second)),
     )

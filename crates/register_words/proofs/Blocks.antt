@@ -29,7 +29,7 @@ pub bl-same : (upper : ℕ) → bits 15 18 upper ≡ 0 → blOf 11 upper ≡ blO
 bl-same upper z = omega (arith, z)
 
 -- bits 15 to 18 by one mask
-high-masked : (upper : ℕ) → bitAnd upper 0x1E000 ≡ bits 15 18 upper * 2 ^ 13
+pub high-masked : (upper : ℕ) → bitAnd upper 0x1E000 ≡ bits 15 18 upper * 2 ^ 13
 high-masked upper = and-high upper 4 13
 
 -- the shape of a block's upper word, with BL of 15 bits and a mask for bits 15 to 18

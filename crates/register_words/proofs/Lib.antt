@@ -2,5 +2,6 @@
 pub mod Sdr1
 pub mod Blocks
 pub mod Quick
+pub mod Asked
 pub mod Computes
 pub mod Tables

@@ -1,10 +1,14 @@
 // One register word: SDR1, a segment register, and a block pair's upper and lower word; their shapes and what a block covers.
 ghost use mathlib.Core.Path.{_≡_};
-ghost use mathlib.Core.Bool.{true};
+ghost use mathlib.Core.Bool.{true, cond, _&&_};
 ghost use Prim.Native.Nat.{_-_, _/_, _%_, _^_};
+ghost use lib.Bits.{bitAnd};
+ghost use lib.Dec.{eqb};
+ghost use Rattle.words.specs.Bits.{bits};
+ghost use Rattle.words.specs.Ones.{lowOnes};
 ghost use Rattle.register_words.specs.Sdr1.{sdr1Shape, tableLength, hashBits};
 ghost use Rattle.register_words.specs.Segment.{segmentShape};
-ghost use Rattle.register_words.specs.Block.{blWidth, blockShape, lengthGood, clash, covers, inBlock, blockPhysical};
+ghost use Rattle.register_words.specs.Block.{blWidth, blOf, bepiOf, brpnOf, blockShape, lengthGood, clash, covers, inBlock, blockPhysical};
 
 // Whether SDR1 has its shape.
 pub fn sdr1_shape(sdr1: u32) -> bool
@@ -40,6 +44,25 @@ pub fn segment_shape(word: u32) -> bool
     (word >> 31 == 0) & ((word >> 24) & 0xF == 0)
 }
 
+// Whether a block of a short or a long page is right in its length: BL is ones only at its low end, with zeros of BEPI and BRPN under them, and on a
+// short page it has no more than 11 bits.
+fn length_shape(long: bool, upper: u32, lower: u32) -> bool
+    ensures { λ r. ⌜ r ≡ (lowOnes (blOf 15 upper) && eqb (bitAnd upper (cond long 0 0x1E000)) 0 && eqb (bitAnd (bepiOf upper) (blOf 15 upper)) 0
+        && eqb (bitAnd (brpnOf lower) (blOf 15 upper)) 0) ⌝ }
+{
+    let bl = (upper >> 2) & 0x7FFF;
+    // The least block, of 128 KB, needs no further test.
+    if bl == 0 {
+        return true;
+    }
+    if !words::low_ones(bl) {
+        return false;
+    }
+    // Bits 15 to 18, which a block of a short page has zero.
+    let short_zeros = if long { 0 } else { 0x1E000 };
+    (upper & short_zeros == 0) & ((upper >> 17) & bl == 0) & ((lower >> 17) & bl == 0)
+}
+
 // Whether a block pair of a short or a long page has the shape of its side; a pair that is off may hold anything.
 pub fn block_shape(long: bool, side: bool, upper: u32, lower: u32) -> bool
     ensures { λ r. ⌜ r ≡ blockShape (blWidth long) side upper lower ⌝ }
@@ -47,40 +70,38 @@ pub fn block_shape(long: bool, side: bool, upper: u32, lower: u32) -> bool
     if upper & 3 == 0 {
         return true;
     }
-    let bl = (upper >> 2) & 0x7FFF;
-    if !words::low_ones(bl) {
+    if !length_shape(long, upper, lower) {
         return false;
     }
-    // W and G, which are zero in an instruction block; a mask by the side, since one mask serves all blocks of a side.
-    let side_zeros = if side { 0 } else { 0x48 };
-    // Bits 15 to 18, which a block of a short page has zero.
-    let short_zeros = if long { 0 } else { 0x1E000 };
-    let upper_good = (upper & short_zeros == 0) & ((upper >> 17) & bl == 0);
-    let lower_good = ((lower >> 17) & bl == 0)
-        & ((lower >> 7) & 0x3FF == 0)
-        & ((lower >> 2) & 1 == 0)
-        & ((lower >> 5) & 3 != 3)
-        & (lower & side_zeros == 0);
-    upper_good & lower_good
+    let zeros = ((lower >> 7) & 0x3FF == 0) & ((lower >> 2) & 1 == 0) & ((lower >> 5) & 3 != 3);
+    // An instruction block has W and G zero.
+    if side {
+        zeros
+    } else {
+        zeros & (((lower >> 6) & 1 == 0) & ((lower >> 3) & 1 == 0))
+    }
 }
 
-// Whether BL of a pair, its upper word in the high half, is ones only at its low end with zeros of BEPI and BRPN under them.
-pub fn length_good(pair: u64) -> bool
-    ensures { λ r. ⌜ r ≡ lengthGood (blWidth true) (pair / 2 ^ 32) (pair % 2 ^ 32) ⌝ }
+// What a quick test asks of a pair, its upper word in the high half: its low 17 bits as they are, and above them zeros, only where BL has at most 11
+// bits and is ones at its low end with zeros of BEPI and BRPN under them. As many ones as BL has bits stand in BEPI's, BL's and BRPN's places at once;
+// BL's bits are turned, so that its ones are zeros too.
+pub fn asked_bits(pair: u64) -> u64
+    ensures { λ r. ⌜ (r % 2 ^ 17 ≡ pair % 2 ^ 17)
+        × (r / 2 ^ 17 ≡ 0 → (lengthGood (blWidth true) (pair / 2 ^ 32) (pair % 2 ^ 32) ≡ true) × (bits 15 18 (pair / 2 ^ 32) ≡ 0)) ⌝ }
 {
-    let bl = (pair >> 34) & 0x7FFF;
-    if bl == 0 {
-        return true;
-    }
-    words::low_ones(bl as u32) && pair & (bl * 0x2000000020000) == 0
+    // BL from bit 17 on, with a one below it.
+    let field = (((pair >> 17) % 0x100000000) as u32) | 0x10000;
+    let ones = std::num::wrapping_sub_u64(0x200040002 << words::highest(field), 0x2000400000001);
+    (pair ^ 0x1FFC00000000) & ones
 }
 
 // Whether two blocks have a V bit in common and share an effective address. Here and below BL has 15 bits, of which a short page's blocks use 11.
 pub fn blocks_clash(first: u32, second: u32) -> bool
     ensures { λ r. ⌜ r ≡ clash (blWidth true) first second ⌝ }
 {
-    let either = ((first >> 2) & 0x7FFF) | ((second >> 2) & 0x7FFF);
-    ((first & 3) & (second & 3) != 0) & (either | (first >> 17) == either | (second >> 17))
+    // The BL bits of either in the places of BEPI, with ones below: what is left are the bits in which the two starts must agree.
+    let either = (first << 15) | ((second << 15) | 0x1FFFF);
+    (first & second & 3 != 0) & (first | either == second | either)
 }
 
 // Whether the address with the block's BL bits and the low 17 removed is the block's start.

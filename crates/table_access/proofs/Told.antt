@@ -21,11 +21,12 @@ use Rattle.translation.specs.declared.operand.OperandAnswer.{OperandAnswer}
 use Rattle.translation.specs.declared.Early.{Early}
 use Rattle.translation.specs.declared.Early.the-variants.{Decided, Search}
 use Rattle.translation.proofs.Parts.{first-stops, one-done, second-stops, both-done}
+use Rattle.calls.specs.Answers.{accessAnswer}
 use Rattle.calls.specs.OnBytes.{layout, markedBy}
 use Rattle.calls.specs.Represents.{GoodTable}
 use Rattle.calls.proofs.Access.{unmarked}
 use Rattle.calls.proofs.TwoMarks.{second-kept}
-use Rattle.table_access.specs.Part.{SameMatches, partEarly, partTold, partDecided, wholeTold, tableLeft}
+use Rattle.table_access.specs.Part.{SameMatches, partEarly, partTold, partDecided, wholeTold, tableLeft, EndsAs}
 use Rattle.table_access.specs.declared.Access.{Access}
 
 module _ (words : List ℕ) (access : Access) (k : ℕ) (t : List ℕ) where
@@ -57,6 +58,11 @@ module _ (words : List ℕ) (access : Access) (k : ℕ) (t : List ℕ) where
       go : (over : Bool) → t ≡ cond over t t
       go true = refl
       go false = refl
+
+  -- what is written of it is what the operand tells
+  pub tells : (told : OperandAnswer) (u : List ℕ) → Comes told u → (r : ℕ) (answer : List ℕ) → (r ≡ told .part .result) × (answer ≡ accessAnswer told)
+      → EndsAs words access k t r u answer
+  tells told u (e, l) r answer (result, written) = (result ∙ ap (λ (x : OperandAnswer). x .part .result) e, l, written ∙ ap accessAnswer e)
 
   pub first-stopped : (parts false .result ≡ 0 → ⊥) → Comes (stopped (parts false) (shown false)) t
   first-stopped n = comes (stopped (parts false) (shown false)) t (first-stops (access .address) (access .length) parts shown n) (not-marked (parts false .result) n)

@@ -14,7 +14,7 @@ use Rattle.groups.specs.Group.{firstOf, putAt}
 use Rattle.tables.specs.Matches.{Match}
 use Rattle.tables.specs.Layout.{matchesOf}
 use Rattle.protection.specs.Access.{storing}
-use Rattle.translation.specs.Steps.{beforeSearch, outcomeOf, answerOf}
+use Rattle.translation.specs.Steps.{beforeSearch, afterSearch, outcomeOf, answerOf}
 use Rattle.translation.specs.Decision.{decisionOf}
 use Rattle.translation.specs.Operand.{overEdge, partStart, operandAnswer}
 use Rattle.translation.specs.declared.Answer.{Answer}
@@ -22,9 +22,25 @@ use Rattle.translation.specs.declared.decision.Decision.{Decision}
 use Rattle.translation.specs.declared.operand.OperandAnswer.{OperandAnswer}
 use Rattle.translation.specs.declared.Early.{Early}
 use Rattle.translation.specs.declared.Early.the-variants.{Decided, Search}
+use Rattle.translation.specs.declared.Searched.the-variants.{At}
+use Rattle.calls.specs.Answers.{accessAnswer}
 use Rattle.calls.specs.OnBytes.{layout, usedBy, wantedPage, searchIn, firstPlaceIn, markedBy}
 use Rattle.table_access.specs.declared.Access.{Access}
 use Rattle.table_access.specs.declared.Part.{Part}
+
+-- a part that no entry decides
+abbrev pub withoutEntry : Answer → Decision → Part
+withoutEntry answer decision = record { answer = answer; decision = decision; group = 0; entry = groupEntries; second = 0 }
+
+-- a part by an entry: its group, its number and its second word
+abbrev pub withEntry : ℕ → ℕ → Bool → ℕ → ℕ → ℕ → Part
+withEntry kind address key group entry second = record {
+  answer = answerOf kind address (afterSearch kind key (At second));
+  decision = decisionOf (record { key = key; group = group; entry = entry }) (afterSearch kind key (At second));
+  group = group;
+  entry = entry;
+  second = second;
+}
 
 -- the table with the entry of a part marked, where it has one
 unfoldable pub marked : ℕ → Part → List ℕ → List ℕ
@@ -79,3 +95,7 @@ module _ (words : List ℕ) (access : Access) where
     tableLeft =
         let mark : Bool → List ℕ → List ℕ = λ second u. markedBy k (access .kind) (partEarly second) (wholeTold .part .result) u in
         cond (overEdge (access .address) (access .length)) (mark true (mark false t)) (mark false t)
+
+    -- the result, the table and the answer that the operand ends with
+    abbrev pub EndsAs : ℕ → List ℕ → List ℕ → Type 0
+    EndsAs result left answer = (result ≡ wholeTold .part .result) × (left ≡ tableLeft) × (answer ≡ accessAnswer wholeTold)

@@ -1,5 +1,8 @@
 // One access on a lent table: the rules of its arguments in order, the parts of its operand, each by the steps and the search of its page's two
-// groups, and the marks.
+// groups, the marks and the answer.
+mod first;
+mod second;
+
 use page_calls::located::locate;
 ghost use mathlib.Core.Path.{_≡_};
 ghost use mathlib.Core.Bool.{Bool, true, false, not, _&&_};
@@ -16,14 +19,15 @@ ghost use Rattle.register_pages.specs.Quick.{everywhere, TellsBlocks};
 ghost use Rattle.matches.specs.Search.{summary};
 ghost use Rattle.tables.specs.Matches.{Match};
 ghost use Rattle.protection.specs.Access.{relocated};
-ghost use Rattle.translation.specs.Steps.{beforeSearch};
+ghost use Rattle.translation.specs.Steps.{blockOutcome, beforeSearch, answerOf};
+ghost use Rattle.translation.specs.Decision.{decided, decisionOf};
 ghost use Rattle.translation.specs.Operand.{firstBytes, partStart};
 ghost use Rattle.translation.specs.declared.Early.the-variants.{Search};
 ghost use Rattle.calls.specs.Request.{access};
 ghost use Rattle.calls.specs.Rules.{operandInRange};
 ghost use Rattle.calls.specs.Answers.{accessAnswer};
 ghost use Rattle.calls.specs.OnBytes.{ended, searched, onBytes};
-ghost use Rattle.table_access.specs.Part.{marked, ByPart, partEarly, wholeTold, tableLeft};
+ghost use Rattle.table_access.specs.Part.{marked, withoutEntry, withEntry, ByPart, partEarly, wholeTold, tableLeft, EndsAs};
 
 // What an access asks for.
 pub struct Access {
@@ -45,7 +49,7 @@ pub struct Part {
 
 // The first broken rule after the lent lengths, or 0: the arguments' ranges, then the register page, then the table's length. `begins` is what the
 // quick test of the page answered; where it did not decide, the exact check does.
-pub fn refusal(registers: &[u8], begins: u32, access: Access, lent: usize) -> u32
+pub fn refusal(registers: &[u8], begins: u64, access: Access, lent: usize) -> u32
     requires { ⌜ (isPage (length (now registers)) ≡ true)
         × ((begins ≡ everywhere → ⊥) → checkWords (blockPairs true) (blWidth (isLong (length (now registers)))) (setWords (now registers)) ≡ 0) ⌝ }
     ensures { λ r. ⌜ r ≡ firstBroken ((not (ltb (access .mode) 8 && ltb (access .kind) 3), refusedArgument)
@@ -117,7 +121,7 @@ fn by_page(table: &[u8], sdr1: u32, kind: u32, address: u32, wanted: translation
 pub fn part_of(
     table: &[u8],
     registers: &[u8],
-    begins: u32,
+    begins: u64,
     mode: u32,
     kind: u32,
     address: u32,
@@ -148,6 +152,101 @@ pub fn part_of(
     }
 }
 
+// A part that no entry decides.
+pub fn without_entry(answer: translation::Answer, rule: u32, detail: u32) -> Part
+    ensures { λ r. ⌜ r ≡ withoutEntry answer (decided rule detail) ⌝ }
+{
+    Part {
+        answer,
+        decision: translation::decision::decided(rule, detail),
+        group: 0,
+        entry: numbers::GROUP_ENTRIES,
+        second: 0,
+    }
+}
+
+// Step 2 of a part, by the block of a pair that covers its address.
+pub fn by_block(registers: &[u8], kind: u32, address: u32, pair: usize) -> Part
+    requires { ⌜ (isPage (length (now registers)) ≡ true) × (pair < blockPairs (isLong (length (now registers)))) ⌝ }
+    ensures { λ r. ⌜ r ≡ withoutEntry (answerOf kind address (blockOutcome (blockPairs true) (blWidth true) (setWords (now (registers .entry))) kind address pair))
+        (decisionOf (record { key = false; group = 0; entry = 0 })
+        (blockOutcome (blockPairs true) (blWidth true) (setWords (now (registers .entry))) kind address pair)) ⌝ }
+{
+    let upper = register_pages::upper(registers, kind != numbers::FETCH, pair);
+    let lower = register_pages::lower(registers, kind != numbers::FETCH, pair);
+    if !protection::block_allows(lower & 3, kind) {
+        let fault = translation::fault_answer(protection::PROTECTION, kind, address);
+        return without_entry(fault, numbers::RULE_BLOCK, pair as u32);
+    }
+    let physical = register_words::block_physical(upper, lower, address);
+    let done = translation::done_answer(physical, (lower >> 3) & 0xF, address);
+    without_entry(done, numbers::RULE_BLOCK, pair as u32)
+}
+
+// Steps 5 and 6 of a part, by the entry that its page's search found.
+pub fn by_entry(kind: u32, address: u32, key: bool, group: usize, entry: usize, second: u32) -> Part
+    requires { ⌜ (group < 2 ^ 32) × (entry < groupEntries) ⌝ }
+    ensures { λ r. ⌜ r ≡ withEntry kind address key group entry second ⌝ }
+{
+    let used = translation::decision::Used {
+        key,
+        group: group as u32,
+        entry: entry as u32,
+    };
+    if (kind == numbers::FETCH) & ((second >> 3) & 1 == 1) {
+        return Part {
+            answer: translation::fault_answer(protection::NO_FETCH, kind, address),
+            decision: translation::decision::by_entry(numbers::RULE_GUARDED, 0, used),
+            group,
+            entry,
+            second,
+        };
+    }
+    let detail = translation::decision::key_and_pp(key, second);
+    if !protection::page_allows(key, second & 3, kind) {
+        return Part {
+            answer: translation::fault_answer(protection::PROTECTION, kind, address),
+            decision: translation::decision::by_entry(numbers::RULE_PROTECTION, detail, used),
+            group,
+            entry,
+            second,
+        };
+    }
+    let physical = entry::physical_address(second, address);
+    Part {
+        answer: translation::done_answer(physical, (second >> 3) & 0xF, address),
+        decision: translation::decision::by_entry(numbers::RULE_DONE, detail, used),
+        group,
+        entry,
+        second,
+    }
+}
+
+// Writes the twelve words of what an operand answers, and hands its result back.
+pub fn tell(answer: &mut [u8], told: translation::operand::OperandAnswer) -> u32
+    requires { ⌜ length (now answer) ≡ accessAnswerSize ⌝ }
+    ensures { λ r. ⌜ (r ≡ told .part .result) × (now (answer .exit) ≡ accessAnswer told) ⌝ }
+{
+    let part = told.part;
+    let decision = told.decision;
+    let twelve = [
+        part.result,
+        part.address,
+        part.attributes,
+        part.effective,
+        told.address,
+        told.attributes,
+        told.bytes,
+        told.rest,
+        decision.rule,
+        decision.detail,
+        decision.group,
+        decision.entry,
+    ];
+    words::write_words(answer, &twelve);
+    part.result
+}
+
 // Step 7 of a part of a done operand: R, and C on a store, in the entry that did it.
 pub fn mark(table: &mut [u8], kind: u32, part: Part)
     requires { ⌜ 64 * part .group + 64 ≤ length (now table) ⌝ }
@@ -162,45 +261,57 @@ pub fn mark(table: &mut [u8], kind: u32, part: Part)
 // An operand over a page edge whose first part is done: the second part by itself, and both marks when it is done too.
 fn over_edge(
     registers: &[u8],
-    begins: u32,
+    begins: u64,
     access: Access,
     first: Part,
     bytes: u32,
     table: &mut [u8],
-) -> translation::operand::OperandAnswer
-    requires { ⌜ (isPage (length (now registers)) ≡ true) × TellsBlocks (setWords (now registers)) begins
+    answer: &mut [u8],
+) -> u32
+    requires { ⌜ (isPage (length (now registers)) ≡ true) × TellsBlocks (setWords (now registers)) begins × (relocated (access .mode) (access .kind) ≡ true)
         × (sdr1Shape (sdr1Of (setWords (now registers))) ≡ true) × (length (now table) ≡ tableLength (sdr1Of (setWords (now registers))))
         × (bytes ≡ firstBytes (access .address) (access .length)) × (bytes < access .length)
         × ByPart (maskOnes (sdr1Of (setWords (now registers)))) (now table) (access .kind) (partStart (access .address) (access .length) false)
         (partEarly (setWords (now registers)) access false) first
-        × (first .answer .result ≡ done) ⌝ }
-    ensures { λ r. ⌜ (r ≡ wholeTold (setWords (now (registers .entry))) access (maskOnes (sdr1Of (setWords (now (registers .entry))))) (now (table .entry)))
-        × (now (table .exit) ≡ tableLeft (setWords (now (registers .entry))) access (maskOnes (sdr1Of (setWords (now (registers .entry))))) (now (table .entry))) ⌝ }
+        × (first .answer .result ≡ done) × (length (now answer) ≡ accessAnswerSize) ⌝ }
+    ensures { λ r. ⌜ EndsAs (setWords (now (registers .entry))) access (maskOnes (sdr1Of (setWords (now (registers .entry))))) (now (table .entry))
+        r (now (table .exit)) (now (answer .exit)) ⌝ }
 {
     let start = translation::operand::next_start(access.address, bytes);
-    let second = part_of(table, registers, begins, access.mode, access.kind, start);
+    let second = second::second_part(table, registers, begins, access.mode, access.kind, start);
     let further = second.answer;
     if further.result != numbers::DONE {
-        return translation::operand::stopped(further, second.decision);
+        let stopped = translation::operand::stopped(further, second.decision);
+        return tell(answer, stopped);
     }
     mark(table, access.kind, first);
     mark(table, access.kind, second);
-    translation::operand::across_edge(first.answer, first.decision, further, bytes, access.length)
+    let own = first.answer;
+    let both = translation::operand::across_edge(
+        own,
+        first.decision,
+        further,
+        bytes,
+        access.length,
+    );
+    tell(answer, both)
 }
 
-// The parts of an operand whose arguments are not refused.
+// The parts of a translated operand whose arguments are not refused.
 fn by_parts(
     registers: &[u8],
-    begins: u32,
+    begins: u64,
     access: Access,
     table: &mut [u8],
-) -> translation::operand::OperandAnswer
-    requires { ⌜ (isPage (length (now registers)) ≡ true) × TellsBlocks (setWords (now registers)) begins
-        × (sdr1Shape (sdr1Of (setWords (now registers))) ≡ true) × (length (now table) ≡ tableLength (sdr1Of (setWords (now registers)))) ⌝ }
-    ensures { λ r. ⌜ (r ≡ wholeTold (setWords (now (registers .entry))) access (maskOnes (sdr1Of (setWords (now (registers .entry))))) (now (table .entry)))
-        × (now (table .exit) ≡ tableLeft (setWords (now (registers .entry))) access (maskOnes (sdr1Of (setWords (now (registers .entry))))) (now (table .entry))) ⌝ }
+    answer: &mut [u8],
+) -> u32
+    requires { ⌜ (isPage (length (now registers)) ≡ true) × TellsBlocks (setWords (now registers)) begins × (relocated (access .mode) (access .kind) ≡ true)
+        × (sdr1Shape (sdr1Of (setWords (now registers))) ≡ true) × (length (now table) ≡ tableLength (sdr1Of (setWords (now registers))))
+        × (length (now answer) ≡ accessAnswerSize) ⌝ }
+    ensures { λ r. ⌜ EndsAs (setWords (now (registers .entry))) access (maskOnes (sdr1Of (setWords (now (registers .entry))))) (now (table .entry))
+        r (now (table .exit)) (now (answer .exit)) ⌝ }
 {
-    let first = part_of(
+    let first = first::first_part(
         table,
         registers,
         begins,
@@ -208,16 +319,18 @@ fn by_parts(
         access.kind,
         access.address,
     );
-    let answer = first.answer;
-    if answer.result != numbers::DONE {
-        return translation::operand::stopped(answer, first.decision);
+    let own = first.answer;
+    if own.result != numbers::DONE {
+        let stopped = translation::operand::stopped(own, first.decision);
+        return tell(answer, stopped);
     }
     let bytes = translation::operand::first_bytes(access.address, access.length);
     if bytes < access.length {
-        return over_edge(registers, begins, access, first, bytes, table);
+        return over_edge(registers, begins, access, first, bytes, table, answer);
     }
     mark(table, access.kind, first);
-    translation::operand::within(answer, first.decision, access.length)
+    let within = translation::operand::within(own, first.decision, access.length);
+    tell(answer, within)
 }
 
 // An operand that is not translated: each part's address is its own, and nothing is marked.
@@ -237,37 +350,30 @@ pub fn untranslated(access: Access) -> translation::operand::OperandAnswer
     translation::operand::within(first, none, access.length)
 }
 
-// One access whose lent lengths are right: what it answers, with the marks made. The quick test reads the register page once.
-pub fn translate(
-    registers: &[u8],
-    asked: Access,
-    table: &mut [u8],
-) -> translation::operand::OperandAnswer
-    requires { ⌜ isPage (length (now registers)) ≡ true ⌝ }
-    ensures { λ r. ⌜ ((answer : List ℕ) → length answer ≡ accessAnswerSize
-        → ended (r .part .result) (now (table .exit)) (accessAnswer r)
+// One access whose lent lengths are right: its answer is written and the marks are made. The quick test reads the register page once.
+pub fn translate(registers: &[u8], asked: Access, table: &mut [u8], answer: &mut [u8]) -> u32
+    requires { ⌜ (isPage (length (now registers)) ≡ true) × (length (now answer) ≡ accessAnswerSize) ⌝ }
+    ensures { λ r. ⌜ ended r (now (table .exit)) (now (answer .exit))
         ≡ onBytes (access (record {
           registers = now (registers .entry);
           mode = asked .mode;
           kind = asked .kind;
           address = asked .address;
           length = asked .length;
-          answer = answer;
-        })) (now (table .entry))) ⌝ }
+          answer = now (answer .entry);
+        })) (now (table .entry)) ⌝ }
 {
     let begins = register_pages::quick_page(registers);
     let number = refusal(registers, begins, asked, table.len());
     if number != numbers::DONE {
-        let outcome = translation::Outcome::Refused(number);
-        let answer = translation::answer_of(asked.kind, asked.address, outcome);
-        let none = translation::decision::decision_of(
-            translation::decision::Used::nothing(),
-            outcome,
-        );
-        return translation::operand::stopped(answer, none);
+        let refused = translation::refused_answer(number);
+        let none = translation::decision::decided(0, 0);
+        let stopped = translation::operand::stopped(refused, none);
+        return tell(answer, stopped);
     }
     if !protection::is_relocated(asked.mode, asked.kind) {
-        return untranslated(asked);
+        let real = untranslated(asked);
+        return tell(answer, real);
     }
-    by_parts(registers, begins, asked, table)
+    by_parts(registers, begins, asked, table, answer)
 }

@@ -33,7 +33,7 @@ impl Used {
 }
 
 // A decision in which no entry plays a part.
-fn decided(rule: u32, detail: u32) -> Decision
+pub fn decided(rule: u32, detail: u32) -> Decision
     ensures { λ r. ⌜ r ≡ decided rule detail ⌝ }
 {
     Decision {
@@ -45,7 +45,7 @@ fn decided(rule: u32, detail: u32) -> Decision
 }
 
 // A decision by the first match.
-fn by_entry(rule: u32, detail: u32, used: Used) -> Decision
+pub fn by_entry(rule: u32, detail: u32, used: Used) -> Decision
     ensures { λ r. ⌜ r ≡ byEntry rule detail used ⌝ }
 {
     Decision {
@@ -57,7 +57,7 @@ fn by_entry(rule: u32, detail: u32, used: Used) -> Decision
 }
 
 // Key × 4 + PP, by the second word of an entry.
-fn key_and_pp(key: bool, second: u32) -> u32
+pub fn key_and_pp(key: bool, second: u32) -> u32
     ensures { λ r. ⌜ r ≡ keyAndPP key second ⌝ }
 {
     let pp = second % 4;

@@ -89,7 +89,7 @@ pub fn wanted_of(user: bool, segment: u32, address: u32) -> Wanted
 }
 
 // Steps 1 to 3, by the register page and a map of where its blocks begin: real mode, a block, a fetch with N = 1, or else the page to search for.
-pub fn before_search(registers: &[u8], begins: u32, mode: u32, kind: u32, address: u32) -> Early
+pub fn before_search(registers: &[u8], begins: u64, mode: u32, kind: u32, address: u32) -> Early
     requires { ⌜ (isPage (length (now registers)) ≡ true) × TellsBlocks (setWords (now registers)) begins ⌝ }
     ensures { λ r. ⌜ r ≡ beforeSearch (blockPairs true) (blWidth true) (setWords (now (registers .entry))) mode kind address ⌝ }
 {
@@ -140,7 +140,7 @@ pub fn after_search(kind: u32, key: bool, searched: Searched) -> Outcome
 }
 
 // The answer of a done access.
-fn done_answer(physical: u32, attributes: u32, effective: u32) -> Answer
+pub fn done_answer(physical: u32, attributes: u32, effective: u32) -> Answer
     ensures { λ r. ⌜ r ≡ doneAnswer physical attributes effective ⌝ }
 {
     Answer {
@@ -152,7 +152,7 @@ fn done_answer(physical: u32, attributes: u32, effective: u32) -> Answer
 }
 
 // The answer of a fault: its words and the effective address.
-fn fault_answer(cause: u32, kind: u32, effective: u32) -> Answer
+pub fn fault_answer(cause: u32, kind: u32, effective: u32) -> Answer
     ensures { λ r. ⌜ r ≡ faultAnswer (faultOf cause kind) effective ⌝ }
 {
     let fault = protection::fault_of(cause, kind);
@@ -165,7 +165,7 @@ fn fault_answer(cause: u32, kind: u32, effective: u32) -> Answer
 }
 
 // The answer of a refusal: its number and three zero words.
-fn refused_answer(number: u32) -> Answer
+pub fn refused_answer(number: u32) -> Answer
     ensures { λ r. ⌜ r ≡ refusedAnswer number ⌝ }
 {
     Answer {

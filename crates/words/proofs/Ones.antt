@@ -21,6 +21,9 @@ module _ (f : ℕ) where
       (λ r. ⊎-elim (λ e. e) (λ g. let x = size-reaches f n g in absurd (omega arith)) r)
       (three (size f) n)
 
+pub size-zero : size 0 ≡ 0
+size-zero = size-is 0 0 (omega arith) (λ m l. absurd (omega arith))
+
 pub size-step : (f : ℕ) → (f ≡ 0 → ⊥) → size f ≡ suc (size (f / 2))
 size-step f h = size-is f (suc (size (f / 2))) (omega (arith, size-lt (f / 2), pow-suc 2 (size (f / 2)))) reaches
   where

@@ -26,6 +26,26 @@ pub fn low_ones(field: u32) -> bool
     low_ones_of(field, field, 32)
 }
 
+// The place of the highest one of a field, counted from the low end, where n is 32 without the field's bits that are gone: the field without its
+// lowest bit is asked again.
+fn highest_of(field: u32, n: u32) -> u32
+    requires { ⌜ (size field ≤ n) × (n ≤ 32) × (n < 32 + size field) ⌝ }
+    ensures { λ r. ⌜ r ≡ 31 - (n - size field) ⌝ }
+{
+    if field == 0 {
+        return 31 - n;
+    }
+    highest_of(field >> 1, n - 1)
+}
+
+// The place of the highest one of a field that is not 0, counted from the low end.
+pub fn highest(field: u32) -> u32
+    requires { ⌜ 0 < field ⌝ }
+    ensures { λ r. ⌜ (r + 1 ≡ size field) × (r < 32) ⌝ }
+{
+    highest_of(field, 32)
+}
+
 // The word of four bytes, the most significant first.
 pub fn word_of(a: u8, b: u8, c: u8, d: u8) -> u32
     ensures { λ r. ⌜ r ≡ wordOf a b c d ⌝ }

@@ -4,6 +4,7 @@
  * of what a core does is left out. Registers change, and nothing of the cache goes.
  */
 #include "expect.h"
+#include "random.h"
 
 #include "core.inc"
 #include "access.inc"
@@ -18,28 +19,8 @@ static const uint32_t sdr1s[2] = { 0x00000000u, 0x00010000u };
 static uint8_t memories[2][SIZE];
 static struct core cores[2];
 static uint8_t cache[MMU_CACHE_SIZE];
-static uint32_t state, now; /* Which table is in use. */
+static uint32_t now; /* Which table is in use. */
 static unsigned long hits, hit_faults, over_edge;
-
-static uint32_t below(uint32_t bound)
-{
-    state ^= state << 13;
-    state ^= state >> 17;
-    state ^= state << 5;
-    return state % bound;
-}
-
-/* Few pages, so that they are met again: page indices that share a set of the cache and some that do not. */
-static uint32_t some_page(void)
-{
-    static const uint32_t pages[6] = { 0x0000, 0x0100, 0x0001, 0x0FFA, 0xFFFF, 0x10FA };
-    return pages[below(6)];
-}
-
-static uint32_t some_vsid(void)
-{
-    return 0x100 + below(3);
-}
 
 /* Registers of both cores: a segment's VSID, keys and N, or a data block on and off. The cache stays as it is. */
 static void change_registers(void)

@@ -1,9 +1,11 @@
-/* A debugger's look answers what an access would and leaves every byte of memory. */
+/* A debugger's look answers what an access would, also over a page edge, and leaves every byte of memory. */
 #include "expect.h"
 
 #include "core.inc"
 #include "access.inc"
 #include "debugger.inc"
+
+#include <string.h>
 
 static uint8_t memory[0x40000], before[0x40000];
 

@@ -4,6 +4,7 @@
  * store is answered by what a load left.
  */
 #include "expect.h"
+#include "random.h"
 
 #include "core.inc"
 #include "access.inc"
@@ -17,28 +18,7 @@ enum left_out { NOTHING, UNMAP, PROTECT, CLEAR, REGISTERS, KIND, FLAWS };
 static uint8_t memories[2][SIZE];
 static struct core cores[2];
 static struct tlb tlb;
-static uint32_t state;
 static unsigned long over_edge; /* Accesses that were done in two parts. */
-
-static uint32_t below(uint32_t bound)
-{
-    state ^= state << 13;
-    state ^= state >> 17;
-    state ^= state << 5;
-    return state % bound;
-}
-
-/* Few pages, so that they are met again: page indices that share an entry of the TLB and some that do not. */
-static uint32_t some_page(void)
-{
-    static const uint32_t pages[6] = { 0x0000, 0x0100, 0x0001, 0x0FFA, 0xFFFF, 0x10FA };
-    return pages[below(6)];
-}
-
-static uint32_t some_vsid(void)
-{
-    return 0x100 + below(3);
-}
 
 /* Registers of both cores: a segment's VSID, keys and N, or a data block on and off. */
 static void change_registers(enum left_out flaw)

@@ -71,7 +71,7 @@ const SECOND: u32 = 0x1234_5012;
 /// Second words of another match: equal, with marks and ignored bits, and of another frame.
 const SOME_WORDS: [u32; 3] = [SECOND, SECOND | 0xF84, SECOND ^ 0x1000];
 
-/// Two matches at every two places that differ in each bit by itself: looked at, loaded from, unmapped.
+/// Two matches at every two places that differ in each bit by itself: looked at, loaded from, unmapped, asked for rights.
 fn duplicates(bench: &mut Bench) -> Result<(), Difference> {
     let every_bit: Vec<u32> = (0..32).map(|bit| SECOND ^ 1 << bit).collect();
     let page = Page::of_address(VSID, ADDRESS);
@@ -80,6 +80,7 @@ fn duplicates(bench: &mut Bench) -> Result<(), Difference> {
         Call::Look { sdr1: SDR1, page },
         Call::Access(load),
         Call::Access(Access { kind: 2, ..load }),
+        Call::Rights { mode: 3, address: ADDRESS },
         Call::Unmap { sdr1: SDR1, page },
         Call::Protect { sdr1: SDR1, page, pp: 3 },
     ] {
@@ -117,6 +118,7 @@ fn one_free_entry(bench: &mut Bench) -> Result<(), Difference> {
         Call::Look { sdr1: SDR1, page },
         Call::Access(load),
         Call::Access(Access { kind: 2, ..load }),
+        Call::Rights { mode: 3, address: ADDRESS },
         Call::Unmap { sdr1: SDR1, page },
         Call::Protect { sdr1: SDR1, page, pp: 3 },
     ] {

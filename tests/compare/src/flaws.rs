@@ -2,13 +2,14 @@
 
 use model::bytes::Model;
 use model::flaw::{CacheFlaw, Flaw, MapFlaw, RecordFlaw};
+use model::rights_flaw::RightsFlaw;
 
 use crate::bench::{self, Difference};
 use crate::lists::{self, Judges};
 use crate::tally::Tally;
 use crate::{
     cached, cached_limits, cached_runs, edges, exhaustive, lengths, lost, lost_limits, packing,
-    quick, singles, turned, widened, Section,
+    quick, rights, singles, turned, widened, Section,
 };
 
 /// The comparisons a wrong model goes through, as the library does, until one finds it.
@@ -31,6 +32,10 @@ pub struct Found {
     pub of_cache: usize,
     /// Those of them that a run without a cache shows, with no other judge.
     pub by_runs: usize,
+    /// Those about rights.
+    pub of_rights: usize,
+    /// Those of them that three accesses of the same machine show, with no other judge.
+    pub by_accesses: usize,
     /// Those that two runs show of which one lacks a call, with no other judge.
     pub by_lost_call: usize,
     pub maps: usize,
@@ -61,6 +66,7 @@ pub fn run(factor: u32) -> Result<Found, Difference> {
     at_the_quick_test(&mut found)?;
     of_the_cache(&mut found, factor)?;
     by_a_run_without_cache(&mut found, factor)?;
+    of_rights(&mut found, factor)?;
     by_a_lost_call(&mut found, factor)?;
     of_the_map(&mut found, factor)?;
     left_to_the_table(&mut found, factor)?;
@@ -86,7 +92,8 @@ fn by_the_comparison(found: &mut Found, factor: u32) -> Result<(), Difference> {
 fn by_the_map_alone(found: &mut Found, factor: u32) -> Result<(), Difference> {
     let of_record = RecordFlaw::IN_MAP.into_iter().map(Flaw::Record);
     let of_calls = Flaw::AFTER_CLEAR.into_iter().chain(Flaw::OPERANDS);
-    for flaw in of_calls.chain(Flaw::LENGTHS_IN_LISTS).chain(of_record) {
+    let of_rights = RightsFlaw::in_map().map(Flaw::Rights);
+    for flaw in of_calls.chain(Flaw::LENGTHS_IN_LISTS).chain(of_record).chain(of_rights) {
         let model = Model::with(flaw);
         let outcome = lists::run_with(&model, factor, Judges::MapAlone, None);
         found.calls(outcome, &format!("{flaw:?} by the finite map"))?;
@@ -170,6 +177,23 @@ fn by_a_run_without_cache(found: &mut Found, factor: u32) -> Result<(), Differen
     Ok(())
 }
 
+/// Each mistake about rights shows beside the model, and again beside three accesses of the same machine alone, to which
+/// the right one is equal.
+fn of_rights(found: &mut Found, factor: u32) -> Result<(), Difference> {
+    let alone = bench::Judges::StatementAlone;
+    rights::run_with(&Model::default(), factor, alone)?;
+    for flaw in RightsFlaw::ALL {
+        let model = Model::with(Flaw::Rights(flaw));
+        let outcome = rights::run(&model, factor);
+        found.calls(outcome, &format!("{flaw:?} by rights"))?;
+        found.of_rights += 1;
+        let outcome = rights::run_with(&model, factor, alone);
+        found.calls(outcome, &format!("{flaw:?} by three accesses"))?;
+        found.by_accesses += 1;
+    }
+    Ok(())
+}
+
 /// Two runs of which one lacks a call, held to each other without the model; the right one passes.
 fn by_a_lost_call(found: &mut Found, factor: u32) -> Result<(), Difference> {
     let alone = bench::Judges::StatementAlone;
@@ -194,9 +218,12 @@ fn of_the_map(found: &mut Found, factor: u32) -> Result<(), Difference> {
     Ok(())
 }
 
-/// A wrong place passes the finite map, which has none to hold it to.
+/// A wrong place passes the finite map, which has none to hold it to; and so do rights that are wrong about it, about
+/// entries that no call leaves, or at 11.
 fn left_to_the_table(found: &mut Found, factor: u32) -> Result<(), Difference> {
-    for flaw in RecordFlaw::OF_PLACE.into_iter().map(Flaw::Record).chain(Flaw::OF_FREE_PLACE) {
+    let of_rights = RightsFlaw::UNSEEN_BY_MAP.into_iter().map(Flaw::Rights);
+    let of_place = RecordFlaw::OF_PLACE.into_iter().map(Flaw::Record).chain(Flaw::OF_FREE_PLACE);
+    for flaw in of_place.chain(of_rights) {
         let model = Model::with(flaw);
         lists::run_with(&model, factor, Judges::MapAlone, None)?;
         found.left_to_table += 1;

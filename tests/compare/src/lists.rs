@@ -52,7 +52,7 @@ pub fn run(subject: &dyn Machine, factor: u32) -> Result<Tally, Difference> {
 
 /// Results that have to occur in the lists.
 #[rustfmt::skip]
-const MET: [(&str, u32); 30] = [
+const MET: [(&str, u32); 38] = [
     ("clear", 0), ("clear", 1), ("clear", 2),
     ("map", 0), ("map", 1), ("map", 2), ("map", 6), ("map", 7), ("map", 9),
     ("unmap", 0), ("unmap", 1), ("unmap", 6), ("unmap", 8), ("unmap", 11),
@@ -60,6 +60,8 @@ const MET: [(&str, u32); 30] = [
     ("look", 0), ("look", 1), ("look", 6), ("look", 8), ("look", 11),
     ("access", 0), ("access", 64), ("access", 65), ("access", 1), ("access", 6), ("access", 11),
     ("access", 12),
+    ("rights", 0), ("rights", 1), ("rights", 2), ("rights", 3), ("rights", 4), ("rights", 5),
+    ("rights", 6), ("rights", 11),
 ];
 
 pub fn run_with(
@@ -117,10 +119,11 @@ impl Stage<'_> {
             let filling = matches!(quarter, 0 | 2);
             let page = self.choose_page();
             let mut call = self.call(page, filling);
-            match &mut call {
-                Call::Access(access) => self.choose_operand(access, page),
-                _ => self.bench.lend_answer(&call),
+            if let Call::Access(access) = &mut call {
+                self.choose_operand(access, page);
             }
+            call = self.rights_instead(call);
+            self.bench.lend_answer(&call);
             match self.random.once_in(8) {
                 true => self.refused_call(call)?,
                 false => self.perform(call, Lending::Table)?,
@@ -208,7 +211,17 @@ impl Stage<'_> {
         }
     }
 
-    /// An operand in the page, or in one of two mapped neighbours, with answer and registers for it.
+    /// Rights at an access's address in the place of the access, now and then.
+    fn rights_instead(&mut self, call: Call) -> Call {
+        match call {
+            Call::Access(Access { mode, address, .. }) if self.random.once_in(6) => {
+                Call::Rights { mode, address }
+            }
+            _ => call,
+        }
+    }
+
+    /// An operand in the page, or in one of two mapped neighbours, with registers for it.
     fn choose_operand(&mut self, access: &mut Access, page: Page) {
         let mapped = self.map.pages();
         let before_mapped = |page: &&Page| {
@@ -220,7 +233,6 @@ impl Stage<'_> {
             false => self.random.pick(&firsts),
         };
         (access.address, access.length) = operands::in_page(&mut self.random, page);
-        self.bench.lend_answer(&Call::Access(*access));
         self.put_registers(access, page.vsid);
     }
 
@@ -281,20 +293,20 @@ impl Stage<'_> {
     fn refused_by_length(&mut self, call: Call) -> Result<(), Difference> {
         let random = &mut self.random;
         let sdr1 = random.word();
-        let length = random.pick(&[0, 4, 8, 12, 15, 17, 20, 32, 47, 49, 64]);
+        let length = random.pick(&[0, 4, 8, 12, 15, 17, 20, 32, 47, 49, 64, 155, 157]);
         let page = random.pick(&[0, 4, 64, 131, 133, 136, 160, 164, 192, 195, 197, 200]);
         let lending = random.pick(&[Lending::Table, Lending::Other]);
         let no_registers = random.once_in(2);
         self.lend_other();
-        match (call, no_registers) {
-            (Call::Access(_), true) => self.bench.registers.lend(page, Edge::End),
-            _ => self.bench.answer.lend(length, Edge::End),
+        match call.translates() && no_registers {
+            true => self.bench.registers.lend(page, Edge::End),
+            false => self.bench.answer.lend(length, Edge::End),
         }
         self.perform_under(call, sdr1, lending)
     }
 
     fn perform_under(&mut self, call: Call, sdr1: u32, lending: Lending) -> Result<(), Difference> {
-        if let (Call::Access(_), true) = (call, self.bench.registers.length() >= 4) {
+        if call.translates() && self.bench.registers.length() >= 4 {
             self.bench.registers.write(0, &sdr1.to_be_bytes());
         }
         self.perform(arguments::with_sdr1(call, sdr1), lending)
@@ -302,7 +314,7 @@ impl Stage<'_> {
 
     /// Blocks or segments of wrong shape under the list's own SDR1, where registers are lent.
     fn refused_by_registers(&mut self, call: Call) -> Result<(), Difference> {
-        if let Call::Access(_) = call {
+        if call.translates() {
             let random = &mut self.random;
             let layout = registers::layout(random);
             let mut words = registers::well_formed(random, layout, self.sdr1);

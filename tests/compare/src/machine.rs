@@ -43,6 +43,7 @@ fn call_library(library: Mmu, call: &Call, lent: Lent) -> u32 {
             let numbers = [access.mode, access.kind, access.address, access.length];
             library.access_cached(registers, numbers, table, cache, answer)
         }
+        Call::Rights { mode, address } => library.rights(registers, mode, address, table, answer),
         Call::Invalidate { page_index } => library.invalidate(page_index, cache),
         Call::Pack(fields) => library.pack(fields.list(), answer),
         Call::Unpack { first, second } => library.unpack(first, second, answer),

@@ -27,9 +27,11 @@ mod pages;
 mod quick;
 mod random;
 mod region;
+mod rights;
 mod scenes;
 mod singles;
 mod tally;
+mod told;
 mod turned;
 mod vectors;
 mod watch;
@@ -49,7 +51,7 @@ use tally::Tally;
 /// A comparison of some machine with the model, its random part so many times as long.
 type Section = fn(&dyn Machine, u32) -> Result<Tally, Difference>;
 
-const SECTIONS: [(&str, Empty, Section); 16] = [
+const SECTIONS: [(&str, Empty, Section); 17] = [
     ("recorded accesses", Empty::Null, vectors::run),
     ("packing", Empty::Null, packing::run),
     ("complete tables", Empty::Null, exhaustive::run),
@@ -61,6 +63,7 @@ const SECTIONS: [(&str, Empty, Section); 16] = [
     ("lengths, empty as lent", Empty::AsLent, lengths::run),
     ("single calls", Empty::Null, singles::run),
     ("lists of calls", Empty::Null, lists::run),
+    ("rights", Empty::Null, rights::run),
     ("caches of any bytes", Empty::Null, cached::run),
     ("runs with a cache", Empty::Null, cached_runs::run),
     ("limits of the promise", Empty::Null, cached_limits::run),
@@ -123,6 +126,7 @@ fn test_the_tests(factor: u32) -> Result<(), Difference> {
          {} by a widened page alone, {} at the edges of the quick test alone, {} by a lost call alone; \
          {} more by a bit turned at a place, {} more at the edges of the quick test; \
          of the cache {}, {} of them by a run without a cache alone; \
+         of rights {}, {} of them by three accesses alone; \
          wrong maps found: {}; none took more than {} calls; {} wrong models only the table shows",
         found.models,
         found.by_map,
@@ -134,6 +138,8 @@ fn test_the_tests(factor: u32) -> Result<(), Difference> {
         found.of_quick_test,
         found.of_cache,
         found.by_runs,
+        found.of_rights,
+        found.by_accesses,
         found.maps,
         found.most_calls,
         found.left_to_table
@@ -177,6 +183,12 @@ fn print_results(total: &Tally) {
     println!("searches whose first match stands behind an entry with V = 0: {}", total.gaps.behind);
     let [hits, loads] = total.hits.counts();
     println!("accesses with a cache: {hits} parts hit, {loads} loaded a new page");
+    let marks = total.told.by_marks();
+    let counts: Vec<_> = marks.iter().map(|(marks, count)| format!("{marks:x}: {count}")).collect();
+    println!(
+        "accesses told by rights, by the marks that they would newly set: {}",
+        counts.join("  ")
+    );
     println!("maps that took a place in front of used entries: {}", total.gaps.in_front);
     let lost = &total.lost;
     println!(

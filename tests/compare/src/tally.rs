@@ -16,6 +16,7 @@ use crate::hits::Hits;
 use crate::lost;
 use crate::operands::Operands;
 use crate::pages::Pages;
+use crate::told::Told;
 
 /// Counts of calls by what they met.
 #[derive(Default)]
@@ -36,6 +37,7 @@ pub struct Tally {
     pub pages: Pages,
     pub hits: Hits,
     pub lost: lost::Counts,
+    pub told: Told,
 }
 
 impl Tally {
@@ -60,6 +62,7 @@ impl Tally {
         self.gaps.add(&other.gaps);
         self.hits.add(&other.hits);
         self.lost.add(&other.lost);
+        self.told.add(&other.told);
     }
 
     /// Notes the state a call comes upon.
@@ -113,6 +116,7 @@ impl Tally {
             }
             Call::Look { .. } => vec![(10, contradict(None, &met)), (8, met.is_empty())],
             Call::Access(_) | Call::AccessCached(_) => vec![(10, contradict(None, &met))],
+            Call::Rights { .. } => Vec::new(),
             _ => vec![(8, met.is_empty())],
         };
         causes.into_iter().filter_map(|(number, holds)| holds.then_some(number)).collect()
@@ -138,6 +142,19 @@ impl Tally {
         missing
     }
 
+    /// Matches that these calls never met.
+    pub fn missing_situations(&self, calls: &[&'static str]) -> Vec<String> {
+        let mut missing = Vec::new();
+        for &call in calls {
+            for situation in SITUATIONS {
+                if !self.situations.contains_key(&(call, situation)) {
+                    missing.push(format!("{call} never met {situation}"));
+                }
+            }
+        }
+        missing
+    }
+
     /// What of the lists below was never met.
     pub fn missing(&self) -> Vec<String> {
         let mut missing = self.missing_of(&WITHOUT_CACHE);
@@ -146,13 +163,7 @@ impl Tally {
                 missing.push(format!("no access of kind {} ended by {}", key.1, key.0));
             }
         }
-        for call in ["map", "unmap", "protect", "look", "access"] {
-            for situation in SITUATIONS {
-                if !self.situations.contains_key(&(call, situation)) {
-                    missing.push(format!("{call} never met {situation}"));
-                }
-            }
-        }
+        missing.extend(self.missing_situations(&["map", "unmap", "protect", "look", "access"]));
         missing.extend(self.operands.missing());
         missing.extend(self.decisions.missing());
         missing.extend(self.duplicates.missing());
@@ -177,6 +188,10 @@ pub fn pages_of(call: &Call, registers: &[u8], table: usize) -> Vec<(u32, Page)>
 
 /// SDR1 and the page a call searches for first, where a search in a slice of this length is possible.
 fn page_of(call: &Call, registers: &[u8], table: usize) -> Option<(u32, Page)> {
+    if let Some(asked) = call.asked() {
+        let mut accesses = asked.into_iter().map(Call::Access);
+        return accesses.find_map(|access| page_of(&access, registers, table));
+    }
     let (sdr1, page) = match *call {
         Call::Access(access) | Call::AccessCached(access) => {
             let set = Registers::read(registers)?;
@@ -216,7 +231,7 @@ const WITHOUT_CACHE: [&str; 10] = [
 ];
 
 /// Every result number a call can give.
-const NUMBERS: [(&str, &[u32]); 12] = [
+const NUMBERS: [(&str, &[u32]); 13] = [
     ("check", &[0, 11, 2, 3, 4, 5]),
     ("set", &[0, 11, 6, 2, 3, 4, 5]),
     ("clear", &[0, 2, 1]),
@@ -226,6 +241,7 @@ const NUMBERS: [(&str, &[u32]); 12] = [
     ("look", &[0, 11, 6, 2, 1, 8, 10]),
     ("access", &[0, 64, 65, 11, 6, 12, 2, 3, 4, 5, 1, 10]),
     ("cached", &[0, 64, 65, 11, 6, 12, 2, 3, 4, 5, 1, 10]),
+    ("rights", &[0, 11, 6, 2, 3, 4, 5, 1]),
     ("invalidate", &[0, 11, 6]),
     ("pack", &[0, 11, 6]),
     ("unpack", &[0, 11]),
@@ -233,7 +249,7 @@ const NUMBERS: [(&str, &[u32]); 12] = [
 
 /// Two causes that can hold at once, the one to be answered first.
 #[rustfmt::skip]
-const ORDERS: [(&str, &[(u32, u32)]); 11] = [
+const ORDERS: [(&str, &[(u32, u32)]); 12] = [
     ("check", &[(2, 3), (2, 4), (2, 5), (3, 4), (3, 5), (4, 5)]),
     ("set", &[
         (11, 6), (6, 2), (6, 3), (6, 4), (6, 5),
@@ -259,6 +275,11 @@ const ORDERS: [(&str, &[(u32, u32)]); 11] = [
         (12, 2), (12, 3), (12, 4), (12, 5), (12, 1), (12, 10),
         (2, 3), (2, 4), (2, 5), (2, 1), (3, 4), (3, 5), (3, 1), (4, 5), (4, 1), (5, 1),
         (5, 10), (1, 10),
+    ]),
+    ("rights", &[
+        (11, 6), (11, 2), (11, 3), (11, 4), (11, 5), (11, 1),
+        (6, 2), (6, 3), (6, 4), (6, 5), (6, 1),
+        (2, 3), (2, 4), (2, 5), (2, 1), (3, 4), (3, 5), (3, 1), (4, 5), (4, 1), (5, 1),
     ]),
     ("invalidate", &[(11, 6)]),
     ("pack", &[(11, 6)]),

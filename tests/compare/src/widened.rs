@@ -107,7 +107,7 @@ impl Stage<'_> {
         words
     }
 
-    /// A check, a replaced word or an access, and the set that it is judged by.
+    /// A check, a replaced word, an access or rights, and the set that it is judged by.
     fn call(&mut self, words: &Words) -> (Call, Words) {
         let random = &mut self.random;
         match random.below(4) {
@@ -127,6 +127,9 @@ impl Stage<'_> {
                 let mode = random.pick(&[0, 1, 2, 3, 3, 4, 5, 6, 7, 7]);
                 let kind = random.below(3);
                 let (address, length) = operands::anywhere(random, words, Side::of_kind(kind));
+                if random.once_in(4) {
+                    return (Call::Rights { mode, address }, *words);
+                }
                 (Call::Access(Access { mode, kind, address, length }), *words)
             }
         }
@@ -142,7 +145,7 @@ impl Stage<'_> {
         }
     }
 
-    /// The same table twice, with entries of the pages that an access is about.
+    /// The same table twice, with entries of the pages that an access or rights are about.
     fn prepare(&mut self, words: &Words, call: &Call) {
         self.short.put_registers(words);
         self.long.put_registers(&words.widened());
@@ -150,7 +153,7 @@ impl Stage<'_> {
             bench.lend_answer(call);
             bench.table.fill(|bytes| bytes.fill(0));
         }
-        if let Call::Access(access) = call {
+        if let Some(access) = call.access().or(call.asked().map(|[fetch, ..]| fetch)) {
             let last = access.address.wrapping_add(access.length.wrapping_sub(1) & 0x7F);
             for address in [access.address, last] {
                 let vsid = words[1 + (address >> 28) as usize] & 0xFF_FFFF;

@@ -74,6 +74,16 @@ mod c {
             answer: *mut u8,
             answer_len: usize,
         ) -> u32;
+        pub fn mmu_rights(
+            registers: *const u8,
+            registers_len: usize,
+            mode: u32,
+            address: u32,
+            table: *const u8,
+            table_len: usize,
+            answer: *mut u8,
+            answer_len: usize,
+        ) -> u32;
         pub fn mmu_invalidate(page_index: u32, cache: *mut u8, cache_len: usize) -> u32;
         pub fn mmu_pack(
             v: u32,
@@ -210,6 +220,29 @@ impl Mmu {
                 table.len(),
                 cache_start,
                 cache.len(),
+                answer_start,
+                answer.len(),
+            )
+        }
+    }
+
+    pub fn rights(
+        self,
+        registers: &[u8],
+        mode: u32,
+        address: u32,
+        table: &[u8],
+        answer: &mut [u8],
+    ) -> u32 {
+        let answer_start = self.start_mut(answer);
+        unsafe {
+            c::mmu_rights(
+                self.start(registers),
+                registers.len(),
+                mode,
+                address,
+                self.start(table),
+                table.len(),
                 answer_start,
                 answer.len(),
             )

@@ -7,6 +7,7 @@ use crate::flaw::{CacheFlaw, Flaw, RecordFlaw};
 use crate::operand;
 use crate::record;
 use crate::registers::{put_register, table_length, Registers, Segment};
+use crate::rights;
 use crate::rules;
 use crate::search::{self, Place, GROUP};
 use crate::translation::{self, BeforeSearch, Outcome};
@@ -68,6 +69,11 @@ impl Model {
                 let cache = Cache::read(self.flaw, lent.cache);
                 self.access(lent, access, Some(cache))
             }
+            Call::Rights { mode, address } => {
+                let set = Registers::read_wrongly(self.flaw, lent.registers);
+                let set = set.expect("the length was tested");
+                rights::perform(self.flaw, &set, mode, address, lent.table, lent.answer)
+            }
             Call::Invalidate { page_index } => {
                 let mut cache = Cache::read(self.flaw, lent.cache);
                 cache.invalidate(page_index);
@@ -93,11 +99,17 @@ impl Model {
     /// At 11 nothing is written; else an answer is the number and zeros, an entry two zero words.
     fn refuse(&self, call: &Call, number: u32, answer: &mut [u8]) -> u32 {
         let rightly_sized = call.answer_length() == Some(answer.len());
-        if !rightly_sized || number == 11 && !self.has(Flaw::AnswerAtEleven) {
+        let written_at_eleven =
+            self.has(Flaw::AnswerAtEleven) || rights::at_eleven(self.flaw, call);
+        if !rightly_sized || number == 11 && !written_at_eleven {
             return number;
         }
         if self.has(Flaw::RefusalKeepsAnswer) {
             put_word(answer, 0, number);
+            return number;
+        }
+        if let Call::Rights { .. } = call {
+            rights::refuse(self.flaw, number, answer);
             return number;
         }
         let record = match call {

@@ -1,6 +1,7 @@
 //! A call with its numbers, and what is lent with it.
 
 use crate::entry::Fields;
+use crate::rights;
 
 /// A virtual page.
 #[derive(Clone, Copy, Debug, PartialEq, Eq, PartialOrd, Ord)]
@@ -40,6 +41,7 @@ pub struct Access {
 pub const FETCH: u32 = 0;
 pub const LOAD: u32 = 1;
 pub const STORE: u32 = 2;
+pub const KINDS: [u32; 3] = [FETCH, LOAD, STORE];
 
 impl Access {
     pub fn is_fetch(self) -> bool {
@@ -73,16 +75,18 @@ pub enum Call {
     Access(Access),
     /// An access with a translation cache.
     AccessCached(Access),
+    /// What an access of each kind to one byte would come to.
+    Rights { mode: u32, address: u32 },
     Invalidate { page_index: u32 },
     Pack(Fields),
     Unpack { first: u32, second: u32 },
 }
 
-/// The names of the twelve calls.
+/// The names of the thirteen calls.
 #[rustfmt::skip]
-pub const NAMES: [&str; 12] = [
-    "check", "set", "clear", "map", "unmap", "protect", "look", "access", "cached", "invalidate",
-    "pack", "unpack",
+pub const NAMES: [&str; 13] = [
+    "check", "set", "clear", "map", "unmap", "protect", "look", "access", "cached", "rights",
+    "invalidate", "pack", "unpack",
 ];
 
 impl Call {
@@ -97,6 +101,7 @@ impl Call {
             Call::Look { .. } => "look",
             Call::Access(_) => "access",
             Call::AccessCached(_) => "cached",
+            Call::Rights { .. } => "rights",
             Call::Invalidate { .. } => "invalidate",
             Call::Pack(_) => "pack",
             Call::Unpack { .. } => "unpack",
@@ -143,12 +148,27 @@ impl Call {
         }
     }
 
+    /// The accesses of one byte that rights are asked of, by kind.
+    pub fn asked(&self) -> Option<[Access; 3]> {
+        match *self {
+            Call::Rights { mode, address } => {
+                Some(KINDS.map(|kind| Access { mode, kind, address, length: 1 }))
+            }
+            _ => None,
+        }
+    }
+
+    /// Whether it goes by the registers to a page: an access, or rights.
+    pub fn translates(&self) -> bool {
+        self.access().is_some() || self.asked().is_some()
+    }
+
     pub fn is_lent_registers(&self) -> bool {
-        matches!(self, Call::Check | Call::SetRegister { .. }) || self.access().is_some()
+        matches!(self, Call::Check | Call::SetRegister { .. }) || self.translates()
     }
 
     pub fn is_lent_table(&self) -> bool {
-        self.sdr1().is_some() || self.access().is_some()
+        self.sdr1().is_some() || self.translates()
     }
 
     pub fn is_lent_cache(&self) -> bool {
@@ -160,6 +180,7 @@ impl Call {
         match self {
             Call::Unmap { .. } | Call::Look { .. } => Some(16),
             Call::Access(_) | Call::AccessCached(_) => Some(48),
+            Call::Rights { .. } => Some(rights::SIZE),
             Call::Pack(_) => Some(8),
             Call::Unpack { .. } => Some(36),
             _ => None,

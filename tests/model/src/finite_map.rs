@@ -55,8 +55,8 @@ impl FiniteMap {
         &self.pages
     }
 
-    /// One call on a table: clear, map, unmap, protect, look, an access with a cache or without; or an invalidate,
-    /// which is nothing to the map.
+    /// One call on a table: clear, map, unmap, protect, look, an access with a cache or without, rights; or an
+    /// invalidate, which is nothing to the map.
     pub fn perform(&mut self, call: &Call, registers: &[u8], lengths: Lengths) -> Reply {
         if let Some(&number) = rules::broken(None, call, registers, lengths).first() {
             return self.refusal(call, number);
@@ -83,6 +83,7 @@ impl FiniteMap {
                 Some(frame) => done(Some(second_word(frame))),
             },
             Call::Access(access) | Call::AccessCached(access) => self.access(registers, access),
+            Call::Rights { .. } => self.rights(call, registers),
             Call::Invalidate { .. } => done(None),
             _ => panic!("{} is no call on a table", call.name()),
         }
@@ -153,6 +154,28 @@ impl FiniteMap {
         Reply { number: words[0], answer: Some(answer) }
     }
 
+    /// What each kind of access would answer, then what it would newly mark; the map stays as it is.
+    fn rights(&mut self, call: &Call, registers: &[u8]) -> Reply {
+        let mut answers = Vec::new();
+        let mut marks = Vec::new();
+        for access in call.asked().expect("rights are asked of accesses") {
+            let mut after = self.clone();
+            let reply = after.access(registers, access);
+            answers.extend(reply.answer.expect("no rule was broken"));
+            let left = after.pages.values().zip(self.pages.values());
+            let new = left.fold(0, |new, (left, was)| match self.flaw {
+                Some(MapFlaw::RightsTellMarks) if left != was => second_word(left) & 0x180,
+                _ => new | second_word(left) ^ second_word(was),
+            });
+            marks.push(Some(new));
+            if self.flaw == Some(MapFlaw::RightsMark) {
+                *self = after;
+            }
+        }
+        answers.extend(marks);
+        Reply { number: 0, answer: Some(answers) }
+    }
+
     /// The record of the part that is shown; where an entry was used, its place follows from the table.
     fn record(&self, registers: &Registers, ends: &[(Access, Outcome)]) -> [Option<u32>; 4] {
         let flaw = RecordFlaw::of_map(self.flaw);
@@ -171,6 +194,9 @@ impl FiniteMap {
         let answer = written.map(|length| {
             let mut words = vec![Some(0); length / 4];
             words[0] = Some(number);
+            if call.asked().is_some() {
+                (words[12], words[24]) = (Some(number), Some(number));
+            }
             if let (Some(_), Some(RecordFlaw::LeftAtRefusal)) =
                 (call.access(), RecordFlaw::of_map(self.flaw))
             {

@@ -1,5 +1,7 @@
 //! Ways to get the rules wrong, each of which the comparison has to find in the model.
 
+use crate::rights_flaw::RightsFlaw;
+
 /// One mistake; a model without any is the one the library is held to.
 #[derive(Clone, Copy, Debug, PartialEq, Eq)]
 pub enum Flaw {
@@ -256,6 +258,8 @@ pub enum Flaw {
     Record(RecordFlaw),
     /// The translation cache is used wrongly.
     Cache(CacheFlaw),
+    /// Rights are told wrongly.
+    Rights(RightsFlaw),
 }
 
 /// Ways to get the translation cache wrong.
@@ -753,13 +757,17 @@ pub enum MapFlaw {
     FirstMarkedOnly,
     /// A store over a page edge sets C in the first page alone.
     ChangedInFirstOnly,
+    /// Rights mark the page as the three accesses would.
+    RightsMark,
+    /// Rights tell the marks as they would stand.
+    RightsTellMarks,
     /// The rule that decided is shown wrong.
     Record(RecordFlaw),
 }
 
 impl MapFlaw {
     /// Those about pages and marks.
-    pub const OF_PAGES: [MapFlaw; 10] = [
+    pub const OF_PAGES: [MapFlaw; 12] = [
         MapFlaw::GroupOfSeven,
         MapFlaw::GroupOfNine,
         MapFlaw::PrimaryOnly,
@@ -770,5 +778,7 @@ impl MapFlaw {
         MapFlaw::FirstMarkedEarly,
         MapFlaw::FirstMarkedOnly,
         MapFlaw::ChangedInFirstOnly,
+        MapFlaw::RightsMark,
+        MapFlaw::RightsTellMarks,
     ];
 }

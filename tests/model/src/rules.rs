@@ -5,6 +5,7 @@ use crate::call::{Call, Lengths, Page};
 use crate::flaw::{CacheFlaw, Flaw};
 use crate::operand;
 use crate::registers::{sdr1_is_well_formed, table_length, Block, Layout, Registers};
+use crate::rights;
 use crate::words::{bits, ending_at};
 
 /// The numbers a call can be refused with before its table is searched, first tested first.
@@ -16,6 +17,7 @@ fn order(call: &Call) -> &'static [u32] {
         Call::Map { .. } | Call::Protect { .. } => &[6, 2, 1],
         Call::Unmap { .. } | Call::Look { .. } => &[11, 6, 2, 1],
         Call::Access(_) | Call::AccessCached(_) => &[11, 6, 12, 2, 3, 4, 5, 1],
+        Call::Rights { .. } => &[11, 6, 2, 3, 4, 5, 1],
         Call::Invalidate { .. } => &[11, 6],
         Call::Pack(_) => &[11, 6],
         Call::Unpack { .. } => &[11],
@@ -27,6 +29,9 @@ pub fn broken(flaw: Option<Flaw>, call: &Call, registers: &[u8], lengths: Length
     let mut numbers = order(call).to_vec();
     if let Some(Flaw::Swapped(earlier, later)) = flaw {
         swap(&mut numbers, earlier, later);
+    }
+    if rights::asks_no_table(flaw, call) {
+        numbers.retain(|&number| number != 1);
     }
     let of_cache = CacheFlaw::of_model(flaw).filter(|_| call.is_lent_cache());
     if let (Some(CacheFlaw::InvalidateSixFirst), Call::Invalidate { .. }) = (of_cache, call) {
@@ -98,7 +103,10 @@ fn judged_set(flaw: Option<Flaw>, call: &Call, registers: &[u8]) -> Option<Regis
 }
 
 fn length_is_wrong(flaw: Option<Flaw>, call: &Call, has_registers: bool, lengths: Lengths) -> bool {
-    let answer_is_wrong = call.answer_length().is_some_and(|length| lengths.answer != length);
+    let answer_is_wrong = match call {
+        Call::Rights { .. } => !rights::length_fits(flaw, lengths.answer),
+        _ => call.answer_length().is_some_and(|length| lengths.answer != length),
+    };
     let cache_is_wrong = call.is_lent_cache() && !cache::length_fits(flaw, lengths.cache);
     answer_is_wrong || cache_is_wrong || call.is_lent_registers() && !has_registers
 }
@@ -118,6 +126,7 @@ fn arguments_in_range(flaw: Option<Flaw>, call: &Call, set: Option<&Registers>) 
             Call::Access(access) | Call::AccessCached(access) => {
                 access.mode <= 7 && access.kind <= 2
             }
+            Call::Rights { mode, .. } => rights::mode_fits(flaw, mode),
             Call::Invalidate { page_index } => cache::page_index_fits(flaw, page_index),
             Call::Pack(fields) if flaw == Some(Flaw::PackRefusesWimg) => {
                 fields.in_range() && !has_w_and_i(fields.wimg)

@@ -57,8 +57,8 @@ number-is c =
     let a = start .args in
     c .refusal .ensures ∙ ap firstBroken (rules-set (a .registers .now) (start .pre .0) (a .asked .mode) (a .asked .kind) (a .asked .length) (length (a .table .now)))
 
-quick-page-requires : tie.Need-quick-page-requires
-quick-page-requires c κs = search needs
+quick-cached-requires : tie.Need-quick-cached-requires
+quick-cached-requires c κs = search needs
 
 refusal-requires : tie.Need-refusal-requires
 refusal-requires c κs = search needs
@@ -190,7 +190,7 @@ by-parts-requires c κs =
     let start = else1 .before .before .before .before .before .before in
     let all = passed else1 in
     let on = sym (else2 .before .is-relocated .ensures) ∙ not-false _ (else2 .if2 .left) in
-    rw (sdr1-set (start .args .registers .now) (start .pre .0)) (start .pre .0, at-quick .quick-page .ensures .1, on, all .1, all .2, start .pre .1)
+    rw (sdr1-set (start .args .registers .now) (start .pre .0)) (start .pre .0, at-quick .quick-cached .ensures .1, on, all .1, all .2, start .pre .1)
 
 same-length : tie.Need-same-length
 same-length c = search needs
@@ -207,7 +207,7 @@ pub translate-spec : {M : Type 1} → statement M
 translate-spec =
     tie.close
     (tie.spec
-    quick-page-requires
+    quick-cached-requires
     refusal-requires
     answer-of-requires
     nothing-requires

@@ -35,6 +35,9 @@ loop-holds : tie.Need-loop-holds Inv-loop μ-loop
 unfolding editEach matchesBelow
 loop-holds c = (omega arith, refl)
 
+mul-loop : tie.Need-mul-loop Inv-loop μ-loop
+mul-loop c = omega arith
+
 mul-is-word : tie.Need-mul-is-word Inv-loop μ-loop
 mul-is-word c = omega arith
 
@@ -60,13 +63,13 @@ edited-words-requires : tie.Need-edited-words-requires Inv-loop μ-loop
 edited-words-requires c κs = c .before .before .before .before .before .before .before .before .before .before .before .pre .0
 
 write-entry-requires : tie.Need-write-entry-requires Inv-loop μ-loop
-write-entry-requires c κs = (omega arith, len (c .before .before .before .before .before .before .before .before .before .before))
+write-entry-requires c κs = let whole = len (c .before .before .before .before .before .before .before .before .before .before) in (omega (arith, whole), whole)
 
 add-i : tie.Need-add-i Inv-loop μ-loop
 add-i c = omega arith
 
 loop-less : tie.Need-loop-less Inv-loop μ-loop
-loop-less c = omega arith
+loop-less c = omega (arith, len (c .before .before .before .before))
 
 -- the words that are read are the entry's at the start: no edit has reached it
 module _ (c : tie.Joined1 Inv-loop μ-loop) where
@@ -105,12 +108,12 @@ loop-again c =
     let first : w .2 .result ≡ firstAt g i = w .2 .ensures ∙ kept c .0 in
     let second : w .4 .result ≡ secondAt g i = w .4 .ensures ∙ kept c .1 in
     let words : (w .5 .result .first, w .5 .result .second) ≡ edited (a .edit) (entryAt b g i) = w .5 .ensures ∙ ap₂ (editedWords (a .edit)) first second in (
-      omega arith,
+      omega (arith, len l),
       w .10 ∙ w .7 .ensures ∙ ap₂ (λ (x : List ℕ) (uv : ℕ × ℕ). putEntry x i (uv .0) (uv .1)) (l .loop .inv .1) words
           ∙ sym (ap (λ ms. editEach (a .edit) ms g) (matches-more b (a .vsid) (a .api) g i (sym (tested c) ∙ w .0 .taken)) ∙ edit-more _ _ _ _),
     ))
     (λ w. (
-      omega arith,
+      omega (arith, len l),
       w .1 ∙ l .loop .inv .1 ∙ sym (ap (λ ms. editEach (a .edit) ms g) (matches-same b (a .vsid) (a .api) g i (sym (tested c) ∙ w .0 .left))),
     ))
     (c .if1 .came)
@@ -120,7 +123,7 @@ same-length c = omega (arith, len (c .before))
 
 returns : tie.Need-returns Inv-loop μ-loop
 unfolding editMatches groupMatches
-returns c = let e : c .before .loop .i ≡ 8 = omega arith in rw e at (c .before .loop .inv .1)
+returns c = let e : c .before .loop .i ≡ 8 = omega (arith, len (c .before)) in rw e at (c .before .loop .inv .1)
 
 pub edit-group-spec : {M : Type 1} → statement M
 edit-group-spec =
@@ -131,6 +134,7 @@ edit-group-spec =
     cast-match-word
     match-word-requires
     loop-holds
+    mul-loop
     mul-is-word
     is-word-requires
     mul-read-word

@@ -1,23 +1,27 @@
--- `edits::edit_place` meets its contract: where the quick search answered the place of one match, the edit of both groups is the writing of that entry.
+-- `edits::edit_place` meets its contract: where the quick search editAnswer the place of one match, the edit of both groups is the writing of that entry.
 use mathlib.Core.Path.{_≡_, sym, ap, ap₂, _∙_, subst}
 use mathlib.Core.Bool.{Bool, true, false, cond}
+use mathlib.Core.List.{List, _∷_}
 use Prim.Native.Nat.{ℕ, _+_, _*_, _%_, _≤_, _<_}
 use native.Mathlib.Omega.{arith}
 use lib.Dec.{leb}
 use lib.ListN.{length}
 use Rattle.entry.specs.Entry.{withPP}
-use Rattle.groups.specs.Group.{onGroup, firstOf, secondOf, putAt}
-use Rattle.edits.specs.Edit.{edited, editMatches}
+use Rattle.tables.specs.Matches.{Match}
+use Rattle.groups.specs.Group.{groupOf, onGroup, firstOf, putAt}
+use Rattle.matches.specs.Search.{pairMatches, merged}
+use Rattle.edits.specs.Edit.{editAnswer, edited, editMatches}
 use Rattle.edits.specs.declared.Edit.{Edit}
 use Rattle.edits.proofs.Alone.{edit-alone}
-use Rattle.matches.proofs.Only.{either-inside, OnlyMatch, only-match}
+use Rattle.matches.proofs.Summaries.{merged-alone}
+use Rattle.matches.proofs.Only.{either-inside, OnlyMatch, only-match, only-second}
 use borrow.Author.Needs.{needs}
 use Rattle.edits.proofs.edit_place.Statement.{statement}
 use Rattle.edits.proofs.edit_place.Tie as tie
 
 module _ (c : tie.After-group-at) where
   abbrev start : tie.Start
-  start = c .before .before .before
+  start = c .before .before
 
   -- the numbers of the page's groups
   abbrev own : Bool → ℕ
@@ -25,7 +29,7 @@ module _ (c : tie.After-group-at) where
 
   -- the one match
   one : OnlyMatch (start .args .vsid) (start .args .api) (start .args .primary) (start .args .secondary) (start .args .table .now) (start .args .place)
-  one = only-match _ _ _ _ _ (start .args .place) (start .pre .7) (start .pre .6) (c .before .if1 .left)
+  one = only-match _ _ _ _ _ (start .args .place) (start .pre .8) (start .pre .6) (start .pre .7)
 
   -- the group that is written is the match's own
   group-is : c .group-at .result ≡ own (one .match .secondary)
@@ -49,37 +53,58 @@ module _ (c : tie.After-group-at) where
       edit-alone (a .edit) _ _ (a .primary) (a .secondary) (a .table .now) (start .pre .1) (start .pre .2) (start .pre .5) (a .place) one
       ∙ ap (λ (x : Edit). putAt (a .table .now) (own (m .secondary)) (m .entry) (edited x m .0) (edited x m .1)) e
 
-edit-both-requires : tie.Need-edit-both-requires
-edit-both-requires c κs = search needs
+-- the word that is read, which is what the marks of a match alone come to
+module _ (c : tie.After-second-of) where
+  abbrev at-group : tie.After-group-at
+  at-group = c .before .before
 
-same-length : tie.Need-same-length
-same-length c = search needs
+  second-is : c .second-of .result ≡ one at-group .match .second
+  second-is = only-second _ _ _ _ _ _ (one at-group) _ _ (at-group .group-at .ensures) (c .second-of .ensures)
 
-returns : tie.Need-returns
-returns c = search needs
+  word-is : (m : Match) (ms : List Match) →
+      let a = start at-group .args in
+      pairMatches (a .vsid) (a .api) (groupOf (a .table .now) (a .primary)) (groupOf (a .table .now) (a .secondary)) ≡ m ∷ ms → c .second-of .result ≡ merged m ms
+  word-is m ms e = second-is ∙ merged-alone (one at-group .match) m ms (sym (one at-group .are) ∙ e)
 
 group-at-requires : tie.Need-group-at-requires
 group-at-requires c κs = search needs
+
+second-of-requires : tie.Need-second-of-requires
+second-of-requires c κs = writable (c .before)
 
 enum-told : tie.Need-enum-told
 enum-told c = search needs
 
 put-entry-requires : tie.Need-put-entry-requires
-put-entry-requires c κs = writable (c .before .before .before)
+put-entry-requires c κs = writable (at-group (c .before .before .before))
 
 enum-known-edit : tie.Need-enum-known-edit
 enum-known-edit c = search needs
 
-second-of-requires : tie.Need-second-of-requires
-second-of-requires c κs = writable (c .before .before .before .before)
-
 with-pp-requires : tie.Need-with-pp-requires
 with-pp-requires c κs =
-    let known = c .before .before .before .before in
-    rw (known .edit .given .1) at (start (known .before .before) .pre .0)
+    let known = c .before .before in
+    rw (known .edit .given .1) at (start (at-group (known .before .before)) .pre .0)
 
 put-second-requires : tie.Need-put-second-requires
 put-second-requires c κs = writable (c .before .before .before .before .before .before .before)
+
+same-length : tie.Need-same-length
+same-length c = search needs
+
+returns : tie.Need-returns
+unfolding edited
+returns c =
+    let put = c .before .before in
+    let told = put .before .before in
+    let read = told .before .before in
+    let e = at-group read in
+    let t = start e .args .table .now in (
+      put .put-entry .ensures
+          ∙ ap₂ (λ (g i : ℕ). putAt t g i 0 0) (group-is e) (one e .entry-is)
+          ∙ sym (edits-are e _ (told .enum-told .given .1)),
+      λ m ms are. word-is read m ms are ∙ sym (ap (λ (x : Edit). editAnswer x m ms) (told .enum-told .given .1)),
+    )
 
 same-length-2 : tie.Need-same-length-2
 same-length-2 c = search needs
@@ -88,48 +113,32 @@ returns-2 : tie.Need-returns-2
 unfolding edited
 returns-2 c =
     let put = c .before .before in
-    let told = put .before .before in
-    let e = told .before .before in
-    let t = start e .args .table .now in
-    put .put-entry .ensures
-    ∙ ap₂ (λ (g i : ℕ). putAt t g i 0 0) (group-is e) (one e .entry-is)
-    ∙ sym (edits-are e _ (told .enum-told .given .1))
-
-same-length-3 : tie.Need-same-length-3
-same-length-3 c = search needs
-
-returns-3 : tie.Need-returns-3
-unfolding edited
-returns-3 c =
-    let put = c .before .before in
     let with = put .before in
-    let read = with .before .before in
-    let known = read .before .before .before in
-    let e = known .before .before in
+    let known = with .before .before .before in
+    let read = known .before .before in
+    let e = at-group read in
     let t = start e .args .table .now in
-    let m = one e .match in
-    let second = read .second-of .ensures ∙ ap₂ (secondOf t) (group-is e) (one e .entry-is) ∙ one e .second-is in
-    put .put-second .ensures
-    ∙ ap₂ (λ (g i : ℕ). putAt t g i (firstOf t g i) (with .with-pp .result)) (group-is e) (one e .entry-is)
-    ∙ ap₂ (λ (first second : ℕ). putAt t (own e (m .secondary)) (m .entry) first second) (one e .first-is)
-    (with .with-pp .ensures ∙ ap (withPP (known .edit .given .0 .0)) second)
-    ∙ sym (edits-are e _ (known .edit .given .1))
+    let m = one e .match in (
+      put .put-second .ensures
+          ∙ ap₂ (λ (g i : ℕ). putAt t g i (firstOf t g i) (with .with-pp .result)) (group-is e) (one e .entry-is)
+          ∙ ap₂ (λ (first second : ℕ). putAt t (own e (m .secondary)) (m .entry) first second) (one e .first-is)
+          (with .with-pp .ensures ∙ ap (withPP (known .edit .given .0 .0)) (second-is read))
+          ∙ sym (edits-are e _ (known .edit .given .1)),
+      λ m ms are. sym (ap (λ (x : Edit). editAnswer x m ms) (known .edit .given .1)),
+    )
 
 pub edit-place-spec : {M : Type 1} → statement M
 edit-place-spec =
     tie.close
     (tie.spec
-    edit-both-requires
-    same-length
-    returns
     group-at-requires
+    second-of-requires
     enum-told
     put-entry-requires
     enum-known-edit
-    second-of-requires
     with-pp-requires
     put-second-requires
+    same-length
+    returns
     same-length-2
-    returns-2
-    same-length-3
-    returns-3)
+    returns-2)

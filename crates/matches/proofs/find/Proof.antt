@@ -23,8 +23,8 @@ returns c =
     let own = one .only-place .ensures (a .vsid) (a .api) [] (start .pre .2, start .pre .3, one .before .match-word .ensures) refl in
     sym (only-further (groupMatches false (a .vsid) (a .api) (a .primary .now)) _ (sym own ∙ c .if1 .taken))
 
-match-word-requires-2 : tie.Need-match-word-requires-2
-match-word-requires-2 c κs = search needs
+secondary-word-requires : tie.Need-secondary-word-requires
+secondary-word-requires c κs = search needs
 
 only-place-requires-2 : tie.Need-only-place-requires-2
 only-place-requires-2 c κs = search needs
@@ -36,7 +36,7 @@ returns-2 c =
     let start = one .before .before .before .before in
     let a = start .args in
     let own = one .only-place .ensures (a .vsid) (a .api) [] (start .pre .2, start .pre .3, one .before .match-word .ensures) refl in
-    c .only-place2 .ensures (a .vsid) (a .api) (groupMatches false (a .vsid) (a .api) (a .primary .now)) (start .pre .2, start .pre .3, c .before .match-word2 .ensures) own
+    c .only-place2 .ensures (a .vsid) (a .api) (groupMatches false (a .vsid) (a .api) (a .primary .now)) (start .pre .2, start .pre .3, c .before .secondary-word .ensures (a .vsid) (a .api) (start .pre .2) (start .pre .3) (one .before .match-word .ensures)) own
 
 pub find-spec : {M : Type 1} → statement M
 find-spec =
@@ -45,6 +45,6 @@ find-spec =
     match-word-requires
     only-place-requires
     returns
-    match-word-requires-2
+    secondary-word-requires
     only-place-requires-2
     returns-2)

@@ -1,49 +1,16 @@
--- `matches::merged_word` meets its contract: a match alone has its own marks; else the marks of the primary group's matches, then those of the secondary's.
+-- `matches::merged_word` meets its contract: the marks of the primary group's matches, then those of the secondary's.
 use Prim.Native.Nat.{ℕ}
 use mathlib.Core.Path.{_≡_, sym, ap, ap₂, _∙_}
 use mathlib.Core.Bool.{true, false}
-use mathlib.Core.List.{List, [], _∷_}
-use native.Mathlib.Omega.{arith}
-use lib.Dec.{leb}
-use lib.ListN.{length}
-use Rattle.tables.specs.Matches.{Match}
-use Rattle.groups.specs.Group.{groupOf, secondOf}
+use mathlib.Core.List.{List}
+use Rattle.groups.specs.Group.{groupOf}
 use Rattle.groups.proofs.Lent.{lent-group}
-use Rattle.matches.specs.Search.{groupMatches, pairMatches, marksOf, merged, onlyPlace, summary}
-use Rattle.matches.proofs.Summaries.{marks-append, merged-one, summarised, only-some}
-use Rattle.matches.proofs.Only.{either-inside, OnlyMatch, only-match}
+use Rattle.matches.specs.Search.{groupMatches, pairMatches, marksOf, merged, summary}
+use Rattle.matches.proofs.Summaries.{marks-append, summarised}
 use Rattle.matches.specs.declared.Summary.{Summary}
 use borrow.Author.Needs.{needs}
 use Rattle.matches.proofs.merged_word.Statement.{statement}
 use Rattle.matches.proofs.merged_word.Tie as tie
-
--- the merged word of a list
-abbrev mergedOf : List Match → ℕ
-mergedOf [] = 0
-mergedOf (m ∷ ms) = merged m ms
-
-group-at-requires : tie.Need-group-at-requires
-group-at-requires c κs = search needs
-
-second-of-requires : tie.Need-second-of-requires
-second-of-requires c κs =
-    let start = c .before .before .before in
-    let a = start .args in
-    (omega arith, rw (c .group-at .ensures) (either-inside (a .primary) (a .secondary) (length (a .table .now)) (start .pre .0) (start .pre .1) (leb 24 (a .place))))
-
-returns : tie.Need-returns
-returns c m ms e =
-    let at-group = c .before in
-    let start = at-group .before .before .before in
-    let a = start .args in
-    let t = a .table .now in
-    let is = start .pre .4 in
-    let one = only-match (a .vsid) (a .api) (a .primary) (a .secondary) t (a .place) is (λ z. only-some m ms (sym (is ∙ ap onlyPlace e) ∙ z)) (at-group .before .if1 .taken) in
-    c .second-of .ensures
-    ∙ ap₂ (secondOf t) (at-group .group-at .ensures ∙ one .group-is) (one .entry-is)
-    ∙ one .second-is
-    ∙ sym (merged-one (one .match))
-    ∙ ap mergedOf (sym (one .are) ∙ e)
 
 search-both-requires : tie.Need-search-both-requires
 search-both-requires c κs = search needs
@@ -90,12 +57,12 @@ match-word-requires-2 c κs = search needs
 every-match-requires-2 : tie.Need-every-match-requires-2
 every-match-requires-2 c κs = search needs
 
-returns-2 : tie.Need-returns-2
+returns : tie.Need-returns
 unfolding pairMatches merged
-returns-2 c m ms e =
+returns c m ms e =
     let first = c .before .before .before in
     let at-both = first .before .before .before in
-    let start = at-both .before .before .before in
+    let start = at-both .before .before in
     let second = at-both .search-both .result .second in
     let a = start .args in
     let pre = start .pre in
@@ -114,9 +81,6 @@ pub merged-word-spec : {M : Type 1} → statement M
 merged-word-spec =
     tie.close
     (tie.spec
-    group-at-requires
-    second-of-requires
-    returns
     search-both-requires
     mul-from
     add-to
@@ -132,4 +96,4 @@ merged-word-spec =
     part-every-match-start-2
     part-every-match-end-2
     every-match-requires-2
-    returns-2)
+    returns)

@@ -1,13 +1,11 @@
 -- `matches::search_at` meets its contract: the place of an only match tells its group and its entry.
-use mathlib.Core.Path.{_≡_, sym, ap, ap₂, _∙_}
-use Prim.Native.Nat.{ℕ}
+use mathlib.Core.Path.{sym, ap, _∙_}
 use native.Mathlib.Omega.{arith}
 use lib.Dec.{leb}
 use lib.ListN.{length}
-use Rattle.groups.specs.Group.{secondOf}
 use Rattle.matches.specs.Search.{summary}
 use Rattle.matches.proofs.Summaries.{only-none}
-use Rattle.matches.proofs.Only.{either-inside, OnlyMatch, only-match}
+use Rattle.matches.proofs.Only.{either-inside, only-match, only-second}
 use borrow.Author.Needs.{needs}
 use Rattle.matches.proofs.search_at.Statement.{statement}
 use Rattle.matches.proofs.search_at.Tie as tie
@@ -47,7 +45,7 @@ returns-3 c =
     let t = a .table .now in
     let one = only-match (a .vsid) (a .api) (a .primary) (a .secondary) t (a .place) (start .pre .4) (at-group .before .if2 .left) (at-group .before .before .if1 .left) in
     c .one .ensures (one .match) (one .at-place)
-    (read .second-of .ensures ∙ ap₂ (secondOf t) (at-group .group-at .ensures ∙ one .group-is) (one .entry-is) ∙ one .second-is)
+    (only-second _ _ _ _ t _ one _ _ (at-group .group-at .ensures) (read .second-of .ensures))
     ∙ ap summary (sym (one .are))
 
 pub search-at-spec : {M : Type 1} → statement M

@@ -5,13 +5,13 @@ use Rattle.registers.proofs.Pages.{check-set}
 use Rattle.register_pages.proofs.check.Statement.{statement}
 use Rattle.register_pages.proofs.check.Tie as tie
 
-quick-page-requires : tie.Need-quick-page-requires
-quick-page-requires c κs = search needs
+quick-check-requires : tie.Need-quick-check-requires
+quick-check-requires c κs = search needs
 
 returns : tie.Need-returns
 returns c =
     let start = c .before .before .before in
-    sym (c .before .quick-page .ensures .0 (c .if1 .taken)) ∙ check-set (start .args .page .now) (start .pre)
+    sym (c .before .quick-check .ensures .0 (c .if1 .taken)) ∙ check-set (start .args .page .now) (start .pre)
 
 exact-check-requires : tie.Need-exact-check-requires
 exact-check-requires c κs = search needs
@@ -22,4 +22,4 @@ returns-2 c =
     c .exact-check .ensures ∙ check-set (start .args .page .now) (start .pre)
 
 pub check-spec : {M : Type 1} → statement M
-check-spec = tie.close (tie.spec quick-page-requires returns exact-check-requires returns-2)
+check-spec = tie.close (tie.spec quick-check-requires returns exact-check-requires returns-2)

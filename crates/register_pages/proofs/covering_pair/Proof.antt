@@ -1,74 +1,56 @@
 -- `register_pages::covering_pair` meets its contract. Where the map's bit is clear the map answers. Else the invariant: no pair that was passed covers
 -- the address; behind the page's own pairs the set's are zero, so they are off and cover nothing.
 use borrow.Author.Needs.{needs}
+use borrow.Author.Tests.{not-true}
 use borrow.Author.Count.{below-none, below-more}
-use borrow.Author.Tests.{ltb-true, ltb-false}
-use mathlib.Core.Path.{_≡_, refl, sym, ap, _∙_}
+use mathlib.Core.Path.{_≡_, sym, ap, _∙_}
 use mathlib.Core.Bool.{Bool, true, false, cond}
-use mathlib.Core.List.{List}
 use mathlib.Core.Logic.{⊎-elim}
 use Prim.Native.Nat.{ℕ, _+_, _*_, _/_, _^_, _≤_, _<_, _-_}
 use native.Mathlib.Omega.{arith}
 use lib.Bits.{and-mask}
-use lib.Dec.{ltb}
 use lib.ListN.{length}
 use Rattle.words.specs.Bits.{bits}
 use Rattle.words.specs.Words.{wordAt}
-use Rattle.words.proofs.Below.{first-found, first-none}
+use Rattle.words.proofs.Below.{first-found}
 use Rattle.register_words.specs.Block.{covers}
 use Rattle.registers.specs.Set.{isLong, blockPairs, setWords, pairCovers, coveringPair}
-use Rattle.register_pages.specs.Quick.{field, TellsBlocks}
-use Rattle.register_pages.proofs.Page.{PageSize, short-size, long-size, page-size, page-least, pairs-most, pair-fits, upper-at, none-behind}
+use Rattle.register_pages.specs.Quick.{field}
+use Rattle.register_pages.proofs.Page.{own-pairs, page-size, page-least, pairs-most, pair-fits, upper-at, none-covers}
 use Rattle.register_pages.proofs.covering_pair.Statement.{statement}
 use Rattle.register_pages.proofs.covering_pair.Tie as tie
 
 abbrev Inv-loop : tie.InvT-loop
-Inv-loop page begins side user address place start pairs i₀ i = (i ≤ pairs) × ((k : ℕ) → k < i → pairCovers 8 15 (setWords page) side user address k ≡ false)
+Inv-loop page begins side user address start pairs i₀ i = (i ≤ pairs) × ((k : ℕ) → k < i → pairCovers 8 15 (setWords page) side user address k ≡ false)
 
 abbrev μ-loop : tie.MeasureT-loop
-μ-loop page begins side user address place start pairs i₀ i = pairs - i
-
--- how many pairs a side of the page has, by its length
-own-pairs : {size : ℕ} {long : Bool} → PageSize size long → (size - 68) / 16 ≡ blockPairs long
-own-pairs short-size = refl
-own-pairs long-size = refl
-
-module _ (page : List ℕ) (side user : Bool) (address : ℕ) where
-  -- where none of the page's own pairs covers the address, none of the set's does
-  none-covers : (i : ℕ) → blockPairs (isLong (length page)) ≤ i → ((k : ℕ) → k < i → pairCovers 8 15 (setWords page) side user address k ≡ false)
-      → coveringPair 8 15 (setWords page) side user address ≡ 8
-  unfolding coveringPair
-  none-covers i g own = first-none _ 8 (λ k l. go k l (ltb k i) refl)
-    where
-      go : (k : ℕ) → k < 8 → (t : Bool) → ltb k i ≡ t → pairCovers 8 15 (setWords page) side user address k ≡ false
-      go k l true e = own k (ltb-true k i e)
-      go k l false e = none-behind page side user address k (omega (arith, g, ltb-false k i e)) l
+μ-loop page begins side user address start pairs i₀ i = pairs - i
 
 -- the pair that is looked at is the page's own
 own-pair : (c : tie.In-loop Inv-loop μ-loop) →
-    let start = c .before .before .before .before .before .before .before in c .before .loop .i < blockPairs (isLong (length (start .args .page .now)))
+    let start = c .before .before .before .before .before .before in c .before .loop .i < blockPairs (isLong (length (start .args .page .now)))
 own-pair c =
-    let start = c .before .before .before .before .before .before .before in
+    let start = c .before .before .before .before .before .before in
     let pairs = own-pairs (page-size (length (start .args .page .now)) (start .pre .0)) in
     rw (← pairs) (c .loop-test .taken)
 
 -- and lies on the page
 on-page : (c : tie.In-loop Inv-loop μ-loop) →
-    let start = c .before .before .before .before .before .before .before in
+    let start = c .before .before .before .before .before .before in
     c .before .before .side-at .result + 8 * c .before .loop .i + 8 ≤ length (start .args .page .now)
 on-page c =
-    let start = c .before .before .before .before .before .before .before in
+    let start = c .before .before .before .before .before .before in
     rw (c .before .before .side-at .ensures) (pair-fits (length (start .args .page .now)) (start .pre .0) (start .args .side) (c .before .loop .i) (own-pair c))
 
 -- what the call gave is the test of that pair of the set
 covers-is : (c : tie.After-block-covers Inv-loop μ-loop) →
     let at-loop = c .before .before .before in
-    let start = at-loop .before .before .before .before .before .before in
+    let start = at-loop .before .before .before .before .before in
     c .block-covers .result ≡ pairCovers 8 15 (setWords (start .args .page .now)) (start .args .side) (start .args .user) (start .args .address) (at-loop .loop .i)
 unfolding pairCovers
 covers-is c =
     let at-loop = c .before .before .before in
-    let start = at-loop .before .before .before .before .before .before in
+    let start = at-loop .before .before .before .before .before in
     let page = start .args .page .now in
     let i = at-loop .loop .i in
     c .block-covers .ensures
@@ -77,36 +59,20 @@ covers-is c =
     ∙ ap (λ (s : ℕ). wordAt page (s + 8 * i)) (at-loop .before .side-at .ensures)
     ∙ sym (upper-at page (start .args .side) i (own-pair (c .before .before))))
 
--- what the side adds to the place of the bit that is tested
-place-is : (c : tie.Joined1 Inv-loop μ-loop) → c .if1 .place ≡ cond (c .before .before .args .side) 16 0
-place-is c = ⊎-elim (λ w. rw (w .0 .taken) (w .1)) (λ w. rw (w .0 .left) (w .1)) (c .if1 .came)
-
-place-most : (c : tie.Joined1 Inv-loop μ-loop) → c .if1 .place ≤ 16
-place-most c = ⊎-elim (λ w. omega arith) (λ w. omega arith) (c .if1 .came)
-
-add-place : tie.Need-add-place Inv-loop μ-loop
-add-place c = omega (arith, place-most (c .before))
-
-shr-if2 : tie.Need-shr-if2 Inv-loop μ-loop
-shr-if2 c = omega (arith, place-most (c .before))
+begins-at-requires : tie.Need-begins-at-requires Inv-loop μ-loop
+begins-at-requires c κs = search needs
 
 returns : tie.Need-returns Inv-loop μ-loop
-unfolding TellsBlocks
 returns c =
-    let joined = c .before .before in
-    let start = joined .before .before in
-    let address = start .args .address in
-    let begins = start .args .begins in
-    let place : bits 0 3 address + cond (start .args .side) 16 0 ≡ address / 2 ^ 28 + joined .if1 .place = omega (arith, place-is joined) in
-    sym (start .pre .1 (start .args .side) (start .args .user) address (omega arith)
-    (ap (λ (k : ℕ). field k 1 begins) place ∙ sym (and-mask (begins / 2 ^ (address / 2 ^ 28 + joined .if1 .place)) 1) ∙ c .if2 .taken))
+    let start = c .before .before .before in
+    sym (c .before .begins-at .ensures (not-true _ (c .if1 .taken)) _ (start .pre .1) (start .args .user))
 
 side-at-requires : tie.Need-side-at-requires Inv-loop μ-loop
 side-at-requires c κs = search needs
 
 sub-pairs : tie.Need-sub-pairs Inv-loop μ-loop
 sub-pairs c =
-    let start = c .before .before .before .before .before in
+    let start = c .before .before .before .before in
     omega (arith, page-least (length (start .args .page .now)) (start .pre .0))
 
 loop-holds : tie.Need-loop-holds Inv-loop μ-loop
@@ -128,10 +94,10 @@ returns-2 : tie.Need-returns-2 Inv-loop μ-loop
 unfolding coveringPair
 returns-2 c =
     let at-loop = c .before .before .before .before in
-    let start = at-loop .before .before .before .before .before .before in
+    let start = at-loop .before .before .before .before .before in
     let own = own-pair (c .before .before .before) in
     let most = pairs-most (isLong (length (start .args .page .now))) in
-    sym (first-found _ 8 (at-loop .loop .i) (omega arith) (sym (covers-is (c .before)) ∙ c .if3 .taken) (at-loop .loop .inv .1))
+    sym (first-found _ 8 (at-loop .loop .i) (omega arith) (sym (covers-is (c .before)) ∙ c .if2 .taken) (at-loop .loop .inv .1))
 
 add-i : tie.Need-add-i Inv-loop μ-loop
 add-i c = search needs
@@ -142,11 +108,11 @@ loop-less c = search needs
 loop-again : tie.Need-loop-again Inv-loop μ-loop
 loop-again c =
     let at-loop = c .before .before .before .before in
-    (search needs, below-more _ _ (at-loop .loop .inv .1) (sym (covers-is (c .before)) ∙ c .if3 .left))
+    (search needs, below-more _ _ (at-loop .loop .inv .1) (sym (covers-is (c .before)) ∙ c .if2 .left))
 
 returns-3 : tie.Need-returns-3 Inv-loop μ-loop
 returns-3 c =
-    let start = c .before .before .before .before .before .before .before in
+    let start = c .before .before .before .before .before .before in
     let args = start .args in
     let pairs = own-pairs (page-size (length (args .page .now)) (start .pre .0)) in
     sym (none-covers (args .page .now) (args .side) (args .user) (args .address) (c .before .loop .i) (omega arith) (c .before .loop .inv .1))
@@ -157,8 +123,7 @@ covering-pair-spec =
     (tie.spec
     Inv-loop
     μ-loop
-    add-place
-    shr-if2
+    begins-at-requires
     returns
     side-at-requires
     sub-pairs

@@ -64,7 +64,7 @@ returns-5 c =
 quick-side-requires-3 : tie.Need-quick-side-requires-3
 quick-side-requires-3 c κs =
     let start = c .before .before .before .before .before .before .before in
-    (omega arith, omega (arith, page-least (length (start .args .page .now)) (start .pre)), refl)
+    (omega arith, omega (arith, page-least (length (start .args .page .now)) (start .pre)), refl, omega arith)
 
 returns-6 : tie.Need-returns-6
 returns-6 c = (λ other. absurd (other refl), tells-nothing _)
@@ -72,7 +72,7 @@ returns-6 c = (λ other. absurd (other refl), tells-nothing _)
 quick-side-requires-4 : tie.Need-quick-side-requires-4
 quick-side-requires-4 c κs =
     let start = c .before .before .before .before .before .before .before .before .before in
-    (omega arith, omega (arith, page-least (length (start .args .page .now)) (start .pre)), refl)
+    (omega arith, omega (arith, page-least (length (start .args .page .now)) (start .pre)), refl, omega arith)
 
 returns-7 : tie.Need-returns-7
 returns-7 c = (λ other. absurd (other refl), tells-nothing _)

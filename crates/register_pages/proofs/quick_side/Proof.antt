@@ -1,23 +1,22 @@
 -- `register_pages::quick_side` meets its contract. The invariant: what the laws of Quick say of the pairs that were passed.
 use borrow.Author.Needs.{needs}
-use borrow.Author.Tests.{not-false}
 use native.Mathlib.Omega.{arith}
 use mathlib.Core.Bool.{true, false}
 use mathlib.Core.Path.{_≡_, refl, sym, ap, ap₂, subst, _∙_}
 use mathlib.Core.Logic.{⊎-elim}
 use Prim.Native.Nat.{ℕ, _+_, _-_, _*_, _/_, _%_, _^_, _≤_, _<_}
-use lib.Pow.{shr-shr}
+use borrow.Author.Tests.{eqb-true}
+use lib.Bits.{bitAnd}
+use lib.Dec.{eqb}
+use lib.Pow.{pow-mono, shr-shr}
 use Rattle.words.specs.Bits.{bits}
 use Rattle.words.specs.Words.{wordAt}
+use Rattle.words.proofs.Tests.{both}
 use Rattle.register_words.specs.Block.{lengthGood}
-use Rattle.register_pages.specs.Quick.{field}
-use Rattle.words.proofs.Masks.{shl-one}
-use Rattle.register_pages.proofs.Or.{bit-clear}
-use Rattle.register_pages.proofs.Quick.{Seen, seen-none, off-byte, next-off, next-on, side-good, side-empty}
+use Rattle.register_pages.proofs.Digits.{not-crowded}
+use Rattle.register_pages.proofs.Quick.{Asked, Seen, seen-none, off-byte, next-off, next-on, side-good, side-empty}
 use Rattle.register_pages.proofs.quick_side.Statement.{statement}
 use Rattle.register_pages.proofs.quick_side.Tie as tie
-use Rattle.register_pages.proofs.quick_side.Reads as reads
-use Rattle.register_pages.proofs.quick_side.Lts as lts
 
 abbrev Inv-loop : tie.InvT-loop
 Inv-loop page from to side begins₀ any₀ at₀ begins any at =
@@ -40,23 +39,19 @@ shared-slice-read-if1 c = search needs
 read-pair-requires : tie.Need-read-pair-requires Inv-loop μ-loop
 read-pair-requires c κs = search needs
 
-length-good-requires : tie.Need-length-good-requires Inv-loop μ-loop
-length-good-requires c κs = search needs
+digit-requires : tie.Need-digit-requires Inv-loop μ-loop
+digit-requires c κs = search needs
 
-returns : tie.Need-returns Inv-loop μ-loop
-returns c = λ other. absurd (other refl)
+add-begins : tie.Need-add-begins Inv-loop μ-loop
+add-begins c =
+    let l = c .before .before .before .before .before .loop in
+    let start = c .before .before .before .before .before .before .before in
+    let top : 4 * (c .before .read-pair .result / 2 ^ 60) ≤ 60 = let fits = c .before .read-pair .ok in omega arith in
+    let most = l .inv .3 .most in
+    omega (arith, c .digit .ensures, pow-mono top, start .pre .3, c .before .before .before .before .loop-test .taken)
 
-cast-top : tie.Need-cast-top Inv-loop μ-loop
-cast-top c = search needs
-
-shr-if3 : tie.Need-shr-if3 Inv-loop μ-loop
-shr-if3 c = search needs
-
-returns-2 : tie.Need-returns-2 Inv-loop μ-loop
-returns-2 c = λ other. absurd (other refl)
-
-shl-begins : tie.Need-shl-begins Inv-loop μ-loop
-shl-begins c = search needs
+asked-bits-requires : tie.Need-asked-bits-requires Inv-loop μ-loop
+asked-bits-requires c κs = search needs
 
 add-at : tie.Need-add-at Inv-loop μ-loop
 add-at c = search needs
@@ -71,6 +66,19 @@ module _ (c : tie.Joined1 Inv-loop μ-loop) where
 
   abbrev begin : tie.Start Inv-loop μ-loop
   begin = at-loop .before .before
+
+-- what is asked of the pair at hand
+asked-of : (pair upper lower x : ℕ) → pair ≡ upper * 2 ^ 32 + lower → upper < 2 ^ 32 → lower < 2 ^ 32 → x < 2 ^ 64 → x % 2 ^ 17 ≡ pair % 2 ^ 17
+    → (x / 2 ^ 17 ≡ 0 → (lengthGood 15 (pair / 2 ^ 32) (pair % 2 ^ 32) ≡ true) × (bits 15 18 (pair / 2 ^ 32) ≡ 0)) → Asked upper lower x
+asked-of pair upper lower x is u-lt l-lt fits low-bits good =
+    let high : pair / 2 ^ 32 ≡ upper = omega arith in
+    let low : pair % 2 ^ 32 ≡ lower = omega arith in
+    record {
+      fits = fits;
+      low-bits = low-bits ∙ omega arith;
+      length = λ none. sym (ap₂ (lengthGood 15) high low) ∙ good none .0;
+      narrow = λ none. sym (ap (bits 15 18) high) ∙ good none .1;
+    }
 
 loop-again : tie.Need-loop-again Inv-loop μ-loop
 loop-again c =
@@ -88,40 +96,45 @@ loop-again c =
           let (is, upper-lt, lower-lt) = w .1 .ensures in
           let upper = wordAt page (l .at) in
           let lower = wordAt page (l .at + 4) in
+          let x = w .3 .result in
           let high : pair / 2 ^ 32 ≡ upper = omega arith in
-          let low : pair % 2 ^ 32 ≡ lower = omega arith in
           let top : pair / 2 ^ 60 ≡ bits 0 3 upper = sym (shr-shr pair 32 28) ∙ (rw high (omega arith)) in
-          let good : lengthGood 15 upper lower ≡ true = sym (w .2 .ensures ∙ ap₂ (lengthGood 15) high low) ∙ not-false _ (w .3 .left) in
-          let new : field (bits 0 3 upper) 1 (l .begins) ≡ 0 = subst (λ (t : ℕ). field t 1 (l .begins) ≡ 0) top (bit-clear (pair / 2 ^ 60) (l .begins) (w .4 .left)) in
-          let bit : (1 * 2 ^ (pair / 2 ^ 60)) % 2 ^ 32 ≡ 2 ^ bits 0 3 upper = shl-one (pair / 2 ^ 60) (omega arith) ∙ ap (λ (t : ℕ). 2 ^ t) top in
-          rw (w .5, w .6, bit, is) (next-on page (a .from) (l .at) (l .begins) (l .any) le whole before upper-lt lower-lt good new))
+          let one : w .2 .result ≡ 2 ^ (4 * bits 0 3 upper) = w .2 .ensures ∙ ap (λ (t : ℕ). 2 ^ (4 * t)) top in
+          let asked = asked-of pair upper lower x is upper-lt lower-lt (w .3 .ok) (w .3 .ensures .0) (w .3 .ensures .1) in
+          rw (w .4, w .5, one)
+          (next-on page (a .from) (l .at) (l .begins) (l .any) le whole before x
+          (omega (arith, c .before .before .loop-test .taken, pre .3)) asked))
           (λ w. rw (w .1, w .2) (next-off page (a .from) (l .at) (l .begins) (l .any) le whole before (off-byte page (l .at) (w .0 .left))))
           (c .if1 .came),
     )
 
-returns-3 : tie.Need-returns-3 Inv-loop μ-loop
-returns-3 c =
+returns : tie.Need-returns Inv-loop μ-loop
+returns c =
     let l = c .before .before .loop in
     let a = c .before .before .before .before .args in
     let (le, upto, whole, all) = l .inv in
     let end : l .at ≡ a .to = omega (arith, c .before .loop-test .left) in
     λ other. side-empty (a .page .now) (a .from) (a .side) ((a .to - a .from) / 8) (l .begins) (l .any)
-    (subst (λ (t : ℕ). Seen (a .page .now) (a .from) ((t - a .from) / 8) (l .begins) (l .any)) end all) (c .if4 .taken)
+    (subst (λ (t : ℕ). Seen (a .page .now) (a .from) ((t - a .from) / 8) (l .begins) (l .any)) end all) (c .if2 .taken)
 
 zeros-good-requires : tie.Need-zeros-good-requires Inv-loop μ-loop
 zeros-good-requires c κs = search needs
 
-returns-4 : tie.Need-returns-4 Inv-loop μ-loop
-returns-4 c =
+returns-2 : tie.Need-returns-2 Inv-loop μ-loop
+returns-2 c =
     let l = c .before .before .before .before .loop in
-    let a = c .before .before .before .before .before .before .args in
+    let start = c .before .before .before .before .before .before in
+    let a = start .args in
     let (le, upto, whole, all) = l .inv in
     let end : l .at ≡ a .to = omega (arith, c .before .before .before .loop-test .left) in
+    let (good, apart) = both (c .before .zeros-good .result) (eqb (bitAnd (l .begins) 0xEEEEEEEEEEEEEEEE) 0) (c .if3 .taken) in
+    let fits : l .begins < 2 ^ 64 = let most = all .most in omega (arith, start .pre .3) in
     λ other. side-good (a .page .now) (a .from) (a .side) ((a .to - a .from) / 8) (l .begins) (l .any)
-    (subst (λ (t : ℕ). Seen (a .page .now) (a .from) ((t - a .from) / 8) (l .begins) (l .any)) end all) (sym (c .before .zeros-good .ensures) ∙ c .if5 .taken)
+    (subst (λ (t : ℕ). Seen (a .page .now) (a .from) ((t - a .from) / 8) (l .begins) (l .any)) end all)
+    (not-crowded (l .begins) (eqb-true _ 0 apart)) fits (sym (c .before .zeros-good .ensures) ∙ good)
 
-returns-5 : tie.Need-returns-5 Inv-loop μ-loop
-returns-5 c = λ other. absurd (other refl)
+returns-3 : tie.Need-returns-3 Inv-loop μ-loop
+returns-3 c = λ other. absurd (other refl)
 
 pub quick-side-spec : {M : Type 1} → statement M
 quick-side-spec =
@@ -133,16 +146,13 @@ quick-side-spec =
     add-if1
     shared-slice-read-if1
     read-pair-requires
-    length-good-requires
-    returns
-    cast-top
-    shr-if3
-    returns-2
-    shl-begins
+    digit-requires
+    add-begins
+    asked-bits-requires
     add-at
     loop-less
     loop-again
-    returns-3
+    returns
     zeros-good-requires
-    returns-4
-    returns-5)
+    returns-2
+    returns-3)

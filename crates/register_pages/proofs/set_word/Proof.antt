@@ -48,8 +48,8 @@ read-word-requires c κs = on-page (c .before)
 write-word-requires : tie.Need-write-word-requires
 write-word-requires c κs = on-page (c .before .before .before)
 
-quick-page-requires : tie.Need-quick-page-requires
-quick-page-requires c κs =
+quick-set-requires : tie.Need-quick-set-requires
+quick-set-requires c κs =
     let put = c .before .before .before in
     let start = put .before .before .before .before .before .before .before in
     ap (λ (s : List ℕ). isPage (length s)) (put .write-word .ensures)
@@ -64,7 +64,7 @@ returns c =
     let at-if = put .before .before .before .before in
     let start = at-if .before .before .before in
     let e = put .write-word .ensures in
-    let passed = sym (ap (λ (s : List ℕ). checkWords 8 (blWidth (isLong (length s))) (setWords s)) e) ∙ c .before .quick-page .ensures .0 (c .if2 .taken) in
+    let passed = sym (ap (λ (s : List ℕ). checkWords 8 (blWidth (isLong (length s))) (setWords s)) e) ∙ c .before .quick-set .ensures .0 (c .if2 .taken) in
     ap (λ (s : List ℕ). (0, s)) e
     ∙ sym (put-passes (start .args .page .now) (start .pre) (start .args .number) (own-number at-if) (start .args .word) (omega arith) passed)
 
@@ -95,7 +95,7 @@ set-word-spec =
     mul-at
     read-word-requires
     write-word-requires
-    quick-page-requires
+    quick-set-requires
     same-length
     returns
     write-word-requires-2

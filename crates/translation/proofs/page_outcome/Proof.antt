@@ -1,22 +1,13 @@
 -- `translation::page_outcome` meets its contract: the masks leave G and PP of the second word.
 use borrow.Author.Needs.{needs}
-use mathlib.Core.Bool.{_&&_}
 use mathlib.Core.Path.{_≡_, sym, _∙_}
-use Prim.Native.Nat.{ℕ, _/_, _^_}
-use lib.Bits.{bitAnd}
-use lib.Dec.{eqb}
-use Rattle.entry.specs.Entry.{wimgOf, ppOf}
-use Rattle.protection.specs.Access.{fetching}
-use Rattle.protection.specs.Protection.{pageAllows, guarded}
-use Rattle.translation.proofs.Fields.{mask-pp, mask-g}
+use Prim.Native.Nat.{ℕ}
+use Rattle.entry.specs.Entry.{ppOf}
+use Rattle.protection.specs.Protection.{pageAllows}
+use Rattle.translation.proofs.Fields.{mask-pp, test-guarded}
 use Rattle.translation.proofs.Steps.{page-guarded, page-protected, page-done}
 use Rattle.translation.proofs.page_outcome.Statement.{statement}
 use Rattle.translation.proofs.page_outcome.Tie as tie
-
--- the test of the code is that of a fetch from guarded storage
-test : (kind second : ℕ) → fetching kind && guarded (wimgOf second) ≡ (eqb kind 0 && eqb (bitAnd (second / 2 ^ 3) 1) 1)
-unfolding fetching guarded
-test kind second = rw (mask-g second)
 
 allowed : (c : tie.After-page-allows) → let start = c .before .before in c .page-allows .result ≡ pageAllows (start .args .key) (ppOf (start .args .second)) (start .args .kind)
 allowed c = c .page-allows .ensures ∙ (rw (mask-pp (c .before .before .args .second)))
@@ -24,7 +15,7 @@ allowed c = c .page-allows .ensures ∙ (rw (mask-pp (c .before .before .args .s
 returns : tie.Need-returns
 returns c =
     let a = c .before .args in
-    sym (page-guarded (a .kind) (a .key) (a .second) (test (a .kind) (a .second) ∙ c .if1 .taken))
+    sym (page-guarded (a .kind) (a .key) (a .second) (test-guarded (a .kind) (a .second) ∙ c .if1 .taken))
 
 page-allows-requires : tie.Need-page-allows-requires
 page-allows-requires c κs = search needs
@@ -32,13 +23,13 @@ page-allows-requires c κs = search needs
 returns-2 : tie.Need-returns-2
 returns-2 c =
     let a = c .before .before .before .args in
-    sym (page-done (a .kind) (a .key) (a .second) (test (a .kind) (a .second) ∙ c .before .before .if1 .left)
+    sym (page-done (a .kind) (a .key) (a .second) (test-guarded (a .kind) (a .second) ∙ c .before .before .if1 .left)
     (sym (allowed (c .before)) ∙ c .if2 .taken))
 
 returns-3 : tie.Need-returns-3
 returns-3 c =
     let a = c .before .before .before .args in
-    sym (page-protected (a .kind) (a .key) (a .second) (test (a .kind) (a .second) ∙ c .before .before .if1 .left)
+    sym (page-protected (a .kind) (a .key) (a .second) (test-guarded (a .kind) (a .second) ∙ c .before .before .if1 .left)
     (sym (allowed (c .before)) ∙ c .if2 .left))
 
 pub page-outcome-spec : {M : Type 1} → statement M

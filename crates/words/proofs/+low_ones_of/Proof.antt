@@ -5,7 +5,7 @@ use native.Mathlib.Omega.{arith}
 use lib.Dec.{eqb}
 use lib.Ieee.{size}
 use lib.Pow.{ones-split, ones-lt, high}
-use Rattle.words.proofs.Ones.{size-is, size-step}
+use Rattle.words.proofs.Ones.{size-zero, size-step}
 use borrow.Fn.Kinds.{In}
 use borrow.Fn.PlainCycle.{Measures, is, falls, and}
 use Rattle.words.proofs.low_ones_of.Reads as low-ones-of
@@ -13,9 +13,6 @@ use Rattle.words.proofs.low_ones_of.Kinds as low-ones-of-kinds
 use Rattle.words.proofs.+low_ones_of.Lts-low_ones_of as low-ones-of-lts
 use Rattle.words.proofs.+low_ones_of.{statement}
 use Rattle.words.proofs.+low_ones_of.Tie.{close}
-
-size-zero : size 0 ≡ 0
-size-zero = size-is 0 0 (omega arith) (λ m l. absurd (omega arith))
 
 -- 32 ones without the lowest n
 ones-shifted : (n : ℕ) → n ≤ 32 → 4294967295 / 2 ^ n ≡ 2 ^ (32 - n) - 1

@@ -94,6 +94,7 @@ pub fn spoiled(random: &mut Random, call: Call, register_words: usize) -> Call {
         Call::Access(access) | Call::AccessCached(access) => {
             *access = spoiled_access(random, *access)
         }
+        Call::Rights { mode, .. } => *mode = past(random, 8),
         Call::Invalidate { page_index } => *page_index = past(random, 1 << 16),
         Call::Pack(fields) => *fields = spoiled_fields(random, *fields),
         Call::Check | Call::Clear { .. } | Call::Unpack { .. } => {}

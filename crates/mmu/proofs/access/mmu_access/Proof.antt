@@ -1,4 +1,4 @@
--- `mmu::access::mmu_access` meets its contract: a wrong length is refused, and else it writes the twelve words of what the access answers.
+-- `mmu::access::mmu_access` meets its contract: a wrong length is refused, and else the access is that of `table_access`.
 use borrow.Author.Needs.{needs}
 use borrow.Author.Tests.{eqb-true, not-true, not-false}
 use mathlib.Core.Path.{_≡_, sym, ap, _∙_}
@@ -30,10 +30,7 @@ returns c =
     (ap (λ (b : Bool). b && eqb (length (a .answer .now)) 48) (sym (c .before .is-page .ensures)) ∙ not-true _ (c .if1 .taken)))
 
 translate-requires : tie.Need-translate-requires
-translate-requires c κs = lengths (c .before) .0
-
-write-told-requires : tie.Need-write-told-requires
-write-told-requires c κs = lengths (c .before .before .before .before .before) .1
+translate-requires c κs = lengths (c .before .before)
 
 same-length : tie.Need-same-length
 same-length c = search needs
@@ -42,20 +39,7 @@ same-length-2 : tie.Need-same-length-2
 same-length-2 c = search needs
 
 returns-2 : tie.Need-returns-2
-returns-2 c =
-    let at-translate = c .before .before .before .before .before .before in
-    let at-else = at-translate .before .before in
-    let a = at-else .before .before .before .before .before .args in
-    rw (c .before .before .write-told .ensures) (at-translate .translate .ensures (a .answer .now) (lengths at-else .1))
+returns-2 c = c .before .before .before .before .translate .ensures
 
 pub mmu-access-spec : {M : Type 1} → statement M
-mmu-access-spec =
-    tie.close
-    (tie.spec
-    is-page-requires
-    returns
-    translate-requires
-    write-told-requires
-    same-length
-    same-length-2
-    returns-2)
+mmu-access-spec = tie.close (tie.spec is-page-requires returns translate-requires same-length same-length-2 returns-2)

@@ -1,4 +1,4 @@
--- `mmu::cached::mmu_access_cached` meets its contract: a wrong length is refused, and else it writes the twelve words of what the access answers.
+-- `mmu::cached::mmu_access_cached` meets its contract: a wrong length is refused, and else the twelve words of what the access answers are written.
 use borrow.Author.Needs.{needs}
 use borrow.Author.Tests.{eqb-true, eqb-false, not-true, not-false}
 use mathlib.Core.Path.{_≡_, refl, sym, ap, _∙_}
@@ -49,8 +49,8 @@ returns c =
 translate-requires : tie.Need-translate-requires
 translate-requires c κs = let (page, answer, cache) = lengths (c .before .before) in (page, cache)
 
-write-told-requires : tie.Need-write-told-requires
-write-told-requires c κs = lengths (c .before .before .before .before .before .before .before .before) .1
+tell-requires : tie.Need-tell-requires
+tell-requires c κs = lengths (c .before .before .before .before .before .before .before .before) .1
 
 same-length : tie.Need-same-length
 same-length c = search needs
@@ -66,7 +66,7 @@ returns-2 c =
     let at-translate = c .before .before .before .before .before .before .before .before in
     let at-else = at-translate .before .before .before in
     let a = at-else .before .before .before .before .before .before .args in
-    rw (c .before .before .write-told .ensures) (at-translate .translate .ensures (a .answer .now) (lengths at-else .1))
+    rw (c .before .before .tell .ensures .0, c .before .before .tell .ensures .1) (at-translate .translate .ensures (a .answer .now) (lengths at-else .1))
 
 pub mmu-access-cached-spec : {M : Type 1} → statement M
 mmu-access-cached-spec =
@@ -75,7 +75,7 @@ mmu-access-cached-spec =
     is-page-requires
     returns
     translate-requires
-    write-told-requires
+    tell-requires
     same-length
     same-length-2
     same-length-3

@@ -18,6 +18,11 @@ CACHED = [
     ("access with a cache, miss", "access, page hit, primary entry 0"),
     ("access with a cache, miss, blocks off", "access, page hit, primary entry 0, blocks off"),
 ]
+# Each row of rights, and the access of which it tells the three kinds.
+RIGHTS = [
+    ("rights, page hit, primary entry 0", "access, page hit, primary entry 0"),
+    ("rights, block hit in the fourth pairs", "access, block hit in the fourth pair"),
+]
 # What a hit may take of the same access without a cache, and how many instructions a miss may take more.
 HIT_GOAL, MISS_GOAL = 0.90, 60
 
@@ -127,6 +132,25 @@ def beside_access(rows):
     return "\n".join(lines), goal + ("missed in " + "; ".join(missed) if missed else "met in all four") + "."
 
 
+def beside_three(rows):
+    """A table of rights beside three accesses of the same build."""
+    by_name = {row[0]: row for row in rows}
+    lines = ["| rights | library | three accesses | ratio | plain C | three accesses | ratio |",
+             "|---|---:|---:|---:|---:|---:|---:|"]
+    for name, same in RIGHTS:
+        cells = [name.removeprefix("rights, ")]
+        for rights, access in zip(by_name[name][1:3], by_name[same][1:3]):
+            cells += [f"{rights:.0f}", f"{3 * access:.0f}", f"{rights / (3 * access):.2f}"]
+        lines.append("| " + " | ".join(cells) + " |")
+    return "\n".join(lines)
+
+
+def without_rights(rows):
+    """The rows that the goal is set for: those of rights have a table of their own."""
+    names = {name for name, _ in RIGHTS}
+    return [row for row in rows if row[0] not in names]
+
+
 def document(directory, rows):
     machine = dict(fields(directory / "machine.txt"))
     agreed = (directory / "agree.txt").read_text().splitlines()[0]
@@ -142,12 +166,15 @@ def document(directory, rows):
         "a long page has each of these lengths twice a side. An access checks the whole register page each time. It is to one byte, "
         "and over a page edge to eight, four in each page. With a cache, a hit is of a page that was loaded, and before each miss "
         "the page's set is emptied.",
-        markdown_table(rows),
+        markdown_table(without_rights(rows)),
         "![The library beside plain C](benchmarks.svg)",
-        over_limit(rows),
+        over_limit(without_rights(rows)),
         "## An access with a cache beside the same access without one",
         "Instructions of the same build, the page at its first place, both groups full.",
         *beside_access(rows),
+        "## Rights beside three accesses",
+        "What `mmu_rights` tells are the answers of three accesses, and the marks of each. Instructions of the same build.",
+        beside_three(rows),
     ]
     if notes.exists():
         parts.append(notes.read_text().rstrip())
@@ -162,12 +189,12 @@ def main():
     directory = Path(sys.argv[1])
     rows = read_rows(directory)
     print(text_table(rows))
-    print(over_limit(rows))
-    print(*beside_access(rows), sep="\n")
+    print(over_limit(without_rights(rows)))
+    print(*beside_access(rows), beside_three(rows), sep="\n")
     if "--write" in sys.argv[2:]:
         Path("docs").mkdir(exist_ok=True)
         Path("docs/BENCHMARKS.md").write_text(document(directory, rows))
-        Path("docs/benchmarks.svg").write_text(picture(rows))
+        Path("docs/benchmarks.svg").write_text(picture(without_rights(rows)))
         print("written: docs/BENCHMARKS.md, docs/benchmarks.svg")
 
 

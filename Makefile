@@ -18,8 +18,8 @@ DUMP_SOURCES := $(wildcard dump/*.c)
 PACKAGE := $(LIBDIR)/cmake/mmu
 PACKAGE_FILES := mmu.pc mmuConfig.cmake mmuConfigVersion.cmake
 
-.PHONY: all archive demo core cached tlb header test test-c test-dump test-install documents bench install package-files
-.PHONY: uninstall clean help
+.PHONY: all archive demo core cached tlb header check test test-c test-dump test-install documents bench install
+.PHONY: package-files uninstall clean help
 .PHONY: runner runner-demo runner-full test-runner
 .DELETE_ON_ERROR:
 
@@ -57,6 +57,9 @@ tlb: $(OUT)/tlb
 header: $(ARCHIVE)
 	python3 tools/check_header.py --self-test
 	$(LOCKED) python3 tools/check_header.py $(ARCHIVE)
+
+check:
+	@tools/check.sh $(RT)
 
 test:
 	@.ci/run
@@ -146,7 +149,8 @@ help:
 	@echo 'make core               builds and runs examples/core.c: a small processor core'
 	@echo 'make cached             builds and runs examples/cached.c: loads and stores with the translation cache'
 	@echo 'make tlb                builds and runs examples/tlb.c: a software TLB that mmu_rights fills'
-	@echo 'make test               the whole gate, .ci/run'
+	@echo 'make check              for daily work: everything proved, all tests, without the must-fail edits'
+	@echo 'make test               the whole gate, .ci/run: with the must-fail edits, and proved from nothing'
 	@echo 'make test-c             header and C tests under AddressSanitizer and valgrind'
 	@echo 'make test-dump          mmu-dump beside the Rust model, its page in headless Chromium'
 	@echo 'make test-qemu          the glue of integrations/qemu, without QEMU'

@@ -31,19 +31,18 @@ abbrev pub refusedAlike : ℕ → List ℕ
 refusedAlike number = let one : List ℕ = stop number 0 0 0 noRule in three one one one 0 0 0
 
 pub record RightsRows : Type 0 where
-  -- the marks of a page with neither, told of the second entry where the first is another page's with both; and of one that has R
+  -- the marks of a page with neither, told of the second entry where the first is another page's with both
   pub marks : Hold (
       (askedIn 3 zeroRegisters 156 (tableWith 0x80000080 0x00001192 0x80000000 0x12345012), (done, three (byPage 1) (byPage 1) (byPage 1) 0x100 0x100 0x180))
-      ∷ (askedIn 3 zeroRegisters 156 (tableWith 0x80000000 0x12345112 0 0), (done, three (byPage 0) (byPage 0) (byPage 0) 0 0 0x080))
       ∷ []
       )
-  -- a guarded page with PP 3: the fetch and the store fault, each at its own place, and neither has marks
+  -- a guarded page with PP 3 that has R: the fetch and the store fault, each at its own place, and no access has new marks
   pub kinds : Hold ((
-    askedIn 3 zeroRegisters 156 (tableWith 0x80000000 0x1234501B 0 0),
+    askedIn 3 zeroRegisters 156 (tableWith 0x80000000 0x1234511B 0 0),
     (
       done,
       three (stop instructionStorageFault 0x10000000 0x400 0xABC (rule 4 0 0 0)) (oneByte 0x12345ABC 3 0xABC (rule 6 3 0 0))
-          (stop dataStorageFault 0x0A000000 0x300 0xABC (rule 5 3 0 0)) 0 0x100 0,
+          (stop dataStorageFault 0x0A000000 0x300 0xABC (rule 5 3 0 0)) 0 0 0,
     ),
   )
       ∷ []

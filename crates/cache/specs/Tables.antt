@@ -25,15 +25,15 @@ page index = pageAt 0x0C701C index
 abbrev pub tag : ℕ
 tag = 0x86380E00
 
--- pages 5, 69 and 133 loaded one after the other; the second words of 5 and 133 have C set
+-- what pages 5, 69 and 133 leave, loaded one after the other; the second words of 5 and 133 have C set
 abbrev pub one : List ℕ
-one = loaded (page 5) tag 0x11111192 clean
+one = withSet (tag ∷ 0x11111192 ∷ 5 ∷ 1 ∷ 0 ∷ 0 ∷ 0 ∷ 0 ∷ [])
 
 abbrev pub two : List ℕ
-two = loaded (page 69) tag 0x22222112 one
+two = withSet (tag ∷ 0x11111192 ∷ 5 ∷ 0 ∷ tag ∷ 0x22222112 ∷ 69 ∷ 1 ∷ [])
 
 abbrev pub three : List ℕ
-three = loaded (page 133) tag 0x33333192 two
+three = withSet (tag ∷ 0x33333192 ∷ 133 ∷ 1 ∷ tag ∷ 0x22222112 ∷ 69 ∷ 0 ∷ [])
 
 -- page 5 in both places of its set, with these second words
 abbrev pub twice : ℕ → ℕ → List ℕ
@@ -56,8 +56,8 @@ pub record CacheTables : Type 0 where
       )
   -- every byte after a first load, and after a load of another page of the set
   pub loads : Hold (
-      (one, withSet (tag ∷ 0x11111192 ∷ 5 ∷ 1 ∷ 0 ∷ 0 ∷ 0 ∷ 0 ∷ []))
-      ∷ (two, withSet (tag ∷ 0x11111192 ∷ 5 ∷ 0 ∷ tag ∷ 0x22222112 ∷ 69 ∷ 1 ∷ []))
+      (loaded (page 5) tag 0x11111192 clean, one)
+      ∷ (loaded (page 69) tag 0x22222112 one, two)
       ∷ []
       )
   -- in bytes, the most significant of each word first
@@ -77,7 +77,7 @@ pub record CacheTables : Type 0 where
       ∷ []
       )
   pub replaced : Hold (
-      (three, withSet (tag ∷ 0x33333192 ∷ 133 ∷ 1 ∷ tag ∷ 0x22222112 ∷ 69 ∷ 0 ∷ []))
+      (loaded (page 133) tag 0x33333192 two, three)
       ∷ []
       )
   -- a page that its set holds is loaded again where it is, and is the newer load

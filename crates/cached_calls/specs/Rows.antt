@@ -117,6 +117,10 @@ afterLoads addresses = foldl (λ lent address. does (load address) lent .state) 
 abbrev pub twoLoaded : List ℕ × List ℕ
 twoLoaded = (four 0x12345112 0x54321F16 0x6789A012 0xABCDE012, set28 (page₀ 0x12345112 0) (page₁ 0x54321F16 1))
 
+-- and after a load of page 0x081C behind them
+abbrev pub threeLoaded : List ℕ × List ℕ
+threeLoaded = (four 0x12345112 0x54321F16 0x6789A112 0xABCDE012, set28 (page₂ 0x6789A112 1) (page₁ 0x54321F16 0))
+
 -- the cache after a load of page 0x001C where set 28 held two other pages with these fourth words; and what it is if place 0 or place 1 was replaced
 abbrev pub aged : ℕ → ℕ → List ℕ
 aged newer₀ newer₁ = does (load 0x0001C123) (fresh, set28 (page₁ 0x54321F16 newer₀) (page₂ 0x6789A112 newer₁)) .state .1
@@ -211,18 +215,21 @@ numbers (call ∷ calls) s = (numbersWith calls (withCache call s), numbersWitho
 abbrev pub alike : List ℕ → List ℕ × List ℕ
 alike stated = (stated, stated)
 
--- which of sets 0, 34, 35, 36 and 63 wait after a call on a table where none waited, and where all did
+-- which of sets 35 and 63 wait after a call on a table where none waited, and which of five where all did
 abbrev pub waits : CacheCall → List ℕ → List Bool
-waits call table = map (waitingAfter call table noneWaits) (0 ∷ 34 ∷ 35 ∷ 36 ∷ 63 ∷ [])
+waits call table = map (waitingAfter call table noneWaits) (35 ∷ 63 ∷ [])
 
 abbrev pub stillWaits : CacheCall → List Bool
 stillWaits call = map (waitingAfter call unmapped (λ set. true)) (0 ∷ 34 ∷ 35 ∷ 36 ∷ 63 ∷ [])
 
 abbrev pub noSet : List Bool
-noSet = replicate 5 false
+noSet = replicate 2 false
 
 abbrev pub only35 : List Bool
-only35 = false ∷ false ∷ true ∷ false ∷ false ∷ []
+only35 = true ∷ false ∷ []
+
+abbrev pub bothSets : List Bool
+bothSets = replicate 2 true
 
 abbrev pub allSets : List Bool
 allSets = replicate 5 true
@@ -269,16 +276,13 @@ pub record CachedRows : Type 0 where
   -- pages of one set go into places 0, 1, 0, 1: the older load is replaced, the same page though it was there before (R50)
   pub replacements : Hold (
       (afterLoads (0x0001C123 ∷ 0x0041C123 ∷ []), twoLoaded)
+      ∷ (does (load 0x0081C123) twoLoaded .state, threeLoaded)
       ∷ (
-        afterLoads (0x0001C123 ∷ 0x0041C123 ∷ 0x0081C123 ∷ []),
-        (four 0x12345112 0x54321F16 0x6789A112 0xABCDE012, set28 (page₂ 0x6789A112 1) (page₁ 0x54321F16 0)),
-      )
-      ∷ (
-        afterLoads (0x0001C123 ∷ 0x0041C123 ∷ 0x0081C123 ∷ 0x00C1C123 ∷ []),
+        does (load 0x00C1C123) threeLoaded .state,
         (four 0x12345112 0x54321F16 0x6789A112 0xABCDE112, set28 (page₂ 0x6789A112 0) (page₃ 0xABCDE112 1)),
       )
       ∷ (
-        afterLoads (0x0001C123 ∷ 0x0041C123 ∷ 0x0081C123 ∷ 0x0001C123 ∷ []),
+        does (load 0x0001C123) threeLoaded .state,
         (four 0x12345112 0x54321F16 0x6789A112 0xABCDE012, set28 (page₂ 0x6789A112 0) (page₀ 0x12345112 1)),
       )
       ∷ []
@@ -592,7 +596,7 @@ pub record WaitingRows : Type 0 where
   pub waiting : Hold (
       (waits unmapIt (mapped 0x12345012), only35)
       ∷ (waits protectIt (mapped 0x12345012), only35)
-      ∷ (waits clearAll unmapped, allSets)
+      ∷ (waits clearAll unmapped, bothSets)
       ∷ (waits unmapIt unmapped, noSet)
       ∷ (waits clearAll (7 ∷ []), noSet)
       ∷ (waits mapIt unmapped, noSet)

@@ -1,2 +1,3 @@
--- The proof of the rows.
+-- The proofs of the rows.
 pub mod Rows
+pub mod Pairs

@@ -29,7 +29,6 @@ page-rows = record {
   access-rows = record { equal = refl };
   long-access-rows = record { equal = refl };
   secondary-rows = record { equal = refl };
-  both-rows = record { equal = refl };
 }
 
 pub operand-rows : OperandRows

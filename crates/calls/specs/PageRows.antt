@@ -3,7 +3,7 @@
 -- Most tables here are one group of 64 bytes, group 0; what lies past their end reads as zero.
 use Prim.Native.Nat.{ℕ}
 use mathlib.Core.List.{List, [], _∷_, _++_}
-use lib.ListN.{replicate, set, drop}
+use lib.ListN.{replicate, set}
 use Rattle.numbers.specs.Numbers.{done, dataStorageFault, instructionStorageFault, refusedTableLength, refusedSdr1, refusedBlock, refusedBlocksShare}
 use Rattle.numbers.specs.Numbers.{refusedSegment, refusedArgument, refusedMapped, refusedNoMatch, refusedContradiction, refusedLentLength, refusedOperandLength}
 use Rattle.words.specs.Rows.{Hold}
@@ -12,7 +12,7 @@ use Rattle.groups.specs.Page.{Page}
 use Rattle.calls.specs.Made.{toClear, toMap, toUnmap, toProtect, toLook, toAccess}
 use Rattle.calls.specs.Rules.{refusal}
 use Rattle.calls.specs.Answers.{wordAnswer}
-use Rattle.calls.specs.OnBytes.{Ended, ended, bytesDo, onBytes}
+use Rattle.calls.specs.OnBytes.{ended, bytesDo, onBytes}
 
 abbrev pub pageOf : ℕ → ℕ → Page
 pageOf vsid index = record { vsid = vsid; index = index }
@@ -70,20 +70,6 @@ readable = groupWith 0x80020000 0x12345E17 0 0x12345E17
 
 abbrev pub guardedPage : List ℕ
 guardedPage = groupWith 0x80020000 0x12345E1E 0 0x12345E1E
-
--- VSID 0x1FF page 0 has groups 0x1FF and 0x200, which lie side by side: an entry in each, and segment register 0 with that VSID; only these 128
--- bytes are compared
-abbrev pub both : Page
-both = pageOf 0x1FF 0
-
-abbrev pub bothRegisters : List ℕ
-bothRegisters = set (set zeroRegisters 6 1) 7 255
-
-abbrev pub bothWith : ℕ → ℕ → ℕ → ℕ → List ℕ
-bothWith first second other duplicate = replicate 32704 0 ++ bytesOf (first ∷ second ∷ replicate 14 0) ++ bytesOf (0 ∷ 0 ∷ other ∷ duplicate ∷ replicate 12 0)
-
-abbrev pub shown : Ended (List ℕ) → ℕ × (List ℕ × List ℕ)
-shown e = (e .number, (drop 32704 (e .state), e .answer))
 
 -- what decided an access: the rule, the block's number or key × 4 + PP, the group and the entry; nothing for a refusal
 abbrev pub rule : ℕ → ℕ → ℕ → ℕ → List ℕ
@@ -275,40 +261,5 @@ pub record PageRows : Type 0 where
     ended done (groupWith 0 0 0 0) (wordAnswer done 0x12345F16),
   )
       ∷ (bytesDo 0 (toLook 0 (pageOf 0x3FF 0) []) (groupWith 0x8001FF80 0 0 0), ended refusedNoMatch (groupWith 0x8001FF80 0 0 0) (wordAnswer refusedNoMatch 0))
-      ∷ []
-      )
-  -- matches in both groups: unmap and protect change both, look and access see that they contradict, an access marks the first alone
-  pub both-rows : Hold ((
-    shown (bytesDo 0 (toUnmap 0 both []) (bothWith 0x8000FF80 0x12345116 0x8000FFC0 0x54321E96)),
-    shown (ended done (bothWith 0 0 0 0) (wordAnswer done 0x12345196)),
-  )
-      ∷ (
-        shown (bytesDo 0 (toProtect 0 both 1) (bothWith 0x8000FF80 0x12345116 0x8000FFC0 0x54321E96)),
-        shown (ended done (bothWith 0x8000FF80 0x12345115 0x8000FFC0 0x54321E95) []),
-      )
-      ∷ (
-        shown (bytesDo 0 (toLook 0 both []) (bothWith 0x8000FF80 0x12345116 0x8000FFC0 0x54321E96)),
-        shown (ended refusedContradiction (bothWith 0x8000FF80 0x12345116 0x8000FFC0 0x54321E96) (wordAnswer refusedContradiction 0)),
-      )
-      ∷ (
-        shown (bytesDo 0 (toLook 0 both []) (bothWith 0x8000FF80 0x12345116 0x8000FFC0 0x12345116)),
-        shown (ended done (bothWith 0x8000FF80 0x12345116 0x8000FFC0 0x12345116) (wordAnswer done 0x12345116)),
-      )
-      ∷ (
-        shown (bytesDo 0 (toMap 0 both 0 0 0) (bothWith 0 0 0x8000FFC0 0x12345116)),
-        shown (ended refusedMapped (bothWith 0 0 0x8000FFC0 0x12345116) []),
-      )
-      ∷ (
-        shown (bytesDo 0 (toAccess bothRegisters 1 2 0x00000123 1 []) (bothWith 0x8000FF80 0x12345016 0x8000FFC0 0x54321016)),
-        shown (ended refusedContradiction (bothWith 0x8000FF80 0x12345016 0x8000FFC0 0x54321016) (stop refusedContradiction 0 0 0 noRule)),
-      )
-      ∷ (
-        shown (bytesDo 0 (toAccess bothRegisters 1 2 0x00000123 1 []) (bothWith 0x8000FF80 0x12345016 0x8000FFC0 0x12345016)),
-        shown (ended done (bothWith 0x8000FF80 0x12345196 0x8000FFC0 0x12345016) (oneByte 0x12345123 2 0x00000123 (rule 6 2 0x1FF 0))),
-      )
-      ∷ (
-        shown (bytesDo 0 (toAccess bothRegisters 1 1 0x00000123 1 []) (bothWith 0 0 0x8000FFC0 0x12345016)),
-        shown (ended done (bothWith 0 0 0x8000FFC0 0x12345116) (oneByte 0x12345123 2 0x00000123 (rule 6 2 0x200 1))),
-      )
       ∷ []
       )

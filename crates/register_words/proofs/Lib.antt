@@ -3,5 +3,6 @@ pub mod Sdr1
 pub mod Blocks
 pub mod Quick
 pub mod Asked
+pub mod Shape
 pub mod Computes
 pub mod Tables

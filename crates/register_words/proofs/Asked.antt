@@ -86,6 +86,15 @@ module _ (pair h : ℕ) (is : h + 1 ≡ size (lengthField pair)) (within : h < 3
       cancel P ones (pow-pos s) most o-lt sum
       ∙ ap (λ (k : ℕ). (2 ^ k - 1) * 2 ^ 49 + (2 ^ k - 1) * 2 ^ 34 + (2 ^ k - 1) * 2 ^ 17 + (2 ^ 17 - 1)) (sym length-is)
 
+pub ones-top : (pair : ℕ) → pairOnes (pair / 2 ^ 32) / 2 ^ 49 ≡ 2 ^ size (blOf 15 (pair / 2 ^ 32)) - 1
+unfolding pairOnes
+ones-top pair =
+    let bl = blOf 15 (pair / 2 ^ 32) in
+    let f = 2 ^ size bl - 1 in
+    let few : size bl ≤ 15 = size-width bl 15 (omega arith) in
+    let rest : f * 2 ^ 34 + f * 2 ^ 17 + (2 ^ 17 - 1) < 2 ^ 49 = omega (arith, pow-mono few, pow-pos (size bl)) in
+    ap (λ (n : ℕ). n / 2 ^ 49) (omega arith) ∙ high f 49 rest
+
 -- ---- BL turned
 
 -- numbers that differ in no bit are equal

@@ -4,5 +4,6 @@ pub mod Blocks
 pub mod Quick
 pub mod Asked
 pub mod Shape
+pub mod Order
 pub mod Computes
 pub mod Tables

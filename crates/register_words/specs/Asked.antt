@@ -1,8 +1,9 @@
 -- What the check of a register page asks of a block pair as one number, its upper word in the high half.
 use Prim.Native.Nat.{ℕ, _+_, _-_, _*_, _^_}
 use mathlib.Core.Bool.{Bool, cond}
+use lib.Bits.{bitOr}
 use lib.Ieee.{size}
-use Rattle.register_words.specs.Block.{blWidth, blOf}
+use Rattle.register_words.specs.Block.{blWidth, blOf, bepiOf}
 
 -- as many ones as BL has binary digits in the places of BEPI, BL and BRPN at once, and 17 ones at the low end
 unfoldable pub pairOnes : ℕ → ℕ
@@ -20,3 +21,7 @@ sideSum side = cond side 32 0
 -- pair W and G too
 abbrev pub zeroBits : Bool → ℕ
 zeroBits side = cond side 0xFFFFFFFFFFFFFF84 0xFFFFFFFFFFFFFFCC
+
+-- the last 128 KB of a block, as BEPI is its first: as many ones as BL has binary digits put in
+unfoldable pub lastOf : ℕ → ℕ
+lastOf upper = bitOr (bepiOf upper) (2 ^ size (blOf 15 upper) - 1)

@@ -1,14 +1,14 @@
 // One register word: SDR1, a segment register, and a block pair's upper and lower word; their shapes and what a block covers.
 ghost use mathlib.Core.Path.{_≡_};
 ghost use mathlib.Core.Bool.{Bool, true, false, cond, _&&_};
-ghost use Prim.Native.Nat.{_-_, _/_, _%_, _^_};
+ghost use Prim.Native.Nat.{_+_, _-_, _*_, _/_, _%_, _^_};
 ghost use lib.Bits.{bitAnd};
 ghost use lib.Dec.{eqb};
 ghost use Rattle.words.specs.Bits.{bits};
 ghost use Rattle.words.specs.Ones.{lowOnes};
 ghost use Rattle.register_words.specs.Sdr1.{sdr1Shape, tableLength, hashBits};
 ghost use Rattle.register_words.specs.Segment.{segmentShape};
-ghost use Rattle.register_words.specs.Asked.{pairOnes, blPlace, sideSum, zeroBits};
+ghost use Rattle.register_words.specs.Asked.{pairOnes, blPlace, sideSum, zeroBits, lastOf};
 ghost use Rattle.register_words.specs.Block.{blWidth, blOf, bepiOf, brpnOf, off, blockShape, lengthGood, clash, covers, inBlock, blockPhysical};
 
 // Whether SDR1 has its shape.
@@ -102,6 +102,14 @@ pub fn asked_of(pair: u64, ones: u64, lengths: u64, sum: u64) -> u64
 {
     let asked = (pair ^ lengths) & ones;
     asked | std::num::wrapping_add_u64(asked, sum)
+}
+
+// The end of a pair's block, `ones` those of its length: a pair whose block begins behind it is a greater number.
+pub fn end_of(pair: u64, ones: u64) -> u64
+    requires { ⌜ ones ≡ pairOnes (pair / 2 ^ 32) ⌝ }
+    ensures { λ r. ⌜ r ≡ lastOf (pair / 2 ^ 32) * 2 ^ 49 + (2 ^ 49 - 1) ⌝ }
+{
+    pair | ones | 0x1FFFFFFFFFFFF
 }
 
 // What a quick test asks of a pair, its upper word in the high half: its low 17 bits as they are, and above them zeros, only where BL has at most 11

@@ -5,4 +5,5 @@ pub mod Pass
 pub mod Quick
 pub mod Page
 pub mod Passed
+pub mod Sides
 pub mod Replace

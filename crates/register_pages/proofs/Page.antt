@@ -80,6 +80,9 @@ module _ (registers : List ℕ) where
   unfolding registerWords
   own-at k l = getD-wordsAt registers 0 (registerCount long) k l ∙ ap (wordAt registers) (omega arith)
 
+  pub own-sdr1 : sdr1Of words ≡ wordAt registers 0
+  own-sdr1 = own-at 0 (omega (arith, front-least long))
+
   pub own-segment : (i : ℕ) → i < 16 → segmentOf words i ≡ wordAt registers (4 + 4 * i)
   own-segment i l = own-at (1 + i) (omega (arith, front-least long)) ∙ ap (wordAt registers) (omega arith)
 

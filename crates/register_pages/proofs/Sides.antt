@@ -13,14 +13,15 @@ use Rattle.words.specs.Words.{wordAt}
 use Rattle.words.proofs.Below.{every-next, every-same, every-at, every-all}
 use Rattle.words.proofs.Tests.{both}
 use Rattle.register_words.specs.Asked.{blPlace, sideSum, zeroBits}
+use Rattle.register_words.specs.Sdr1.{sdr1Shape}
 use Rattle.register_words.specs.Block.{blWidth, off, blockShape, clash}
 use Rattle.register_words.proofs.Blocks.{off-shape, off-clash}
-use Rattle.registers.specs.Set.{isPage, isLong, blockPairs, sideStart, upperOf, lowerOf, sideShape, pairApart, sideApart, registerWords}
+use Rattle.registers.specs.Set.{isPage, isLong, blockPairs, sideStart, upperOf, lowerOf, sideShape, pairApart, sideApart, sdr1Of, segmentsShape, checkWords, registerWords}
 use Rattle.registers.proofs.Wide.{apart-wide}
 use Rattle.register_pages.specs.declared.Side.{Side}
 use Rattle.register_pages.specs.Quick.{sideByte}
 use Rattle.register_pages.specs.Side.{upperAt, lowerAt, pairsOff, pairsShape, apartFrom, pairsApart, Gathered, blocksRefusal}
-use Rattle.register_pages.proofs.Page.{PageSize, short-size, long-size, page-size, pair-byte, own-at}
+use Rattle.register_pages.proofs.Page.{PageSize, short-size, long-size, page-size, pair-byte, own-at, own-sdr1}
 
 -- a word of a part
 part-word : (s : List ℕ) (at n b : ℕ) → b + 4 ≤ n → wordAt (take n (drop at s)) b ≡ wordAt s (at + b)
@@ -228,3 +229,34 @@ part-off page at n i fits all l =
     let count : length part / 8 ≡ n = omega arith in
     ap off (sym (part-word page at (8 * n) (8 * i) (omega arith)))
     ∙ every-at (λ k. off (upperAt part k)) n i (ap (λ (k : ℕ). everyBelow k (λ j. off (upperAt part j))) (sym count) ∙ all) l
+
+-- the rules of blocks between those of SDR1 and of the segments
+module _ (page : List ℕ) where
+  sdr1-is : sdr1Shape (sdr1Of (registerWords page)) ≡ sdr1Shape (wordAt page 0)
+  sdr1-is = ap sdr1Shape (own-sdr1 page)
+
+  pub sdr1-broken : sdr1Shape (wordAt page 0) ≡ false → 2 ≡ checkWords (blockPairs (isLong (length page))) (blWidth (isLong (length page))) (registerWords page)
+  unfolding checkWords
+  sdr1-broken e = rw (sdr1-is ∙ e)
+
+  module _ (kept : sdr1Shape (wordAt page 0) ≡ true) where
+    pub blocks-broken : (blocksRefusal (isLong (length page)) (registerWords page) ≡ 0 → ⊥)
+        → blocksRefusal (isLong (length page)) (registerWords page) ≡ checkWords (blockPairs (isLong (length page))) (blWidth (isLong (length page))) (registerWords page)
+    unfolding checkWords blocksRefusal
+    blocks-broken some = rw (sdr1-is ∙ kept) (by (shapeOf page false && shapeOf page true) (apartOf page false && apartOf page true) (segmentsShape (registerWords page)) some)
+      where
+        by : (q a g : Bool) → (_≡_ {A = ℕ} (cond (not q) 3 (cond (not a) 4 0)) 0 → ⊥) → _≡_ {A = ℕ} (cond (not q) 3 (cond (not a) 4 0)) (cond (not q) 3 (cond (not a) 4 (cond (not g) 5 0)))
+        by false a g h = refl
+        by true false g h = refl
+        by true true g h = absurd (h refl)
+
+    pub blocks-kept : blocksRefusal (isLong (length page)) (registerWords page) ≡ 0 → cond (segmentsShape (registerWords page)) 0 5
+        ≡ checkWords (blockPairs (isLong (length page))) (blWidth (isLong (length page))) (registerWords page)
+    unfolding checkWords blocksRefusal
+    blocks-kept none = rw (sdr1-is ∙ kept) (by (shapeOf page false && shapeOf page true) (apartOf page false && apartOf page true) (segmentsShape (registerWords page)) none)
+      where
+        by : (q a g : Bool) → _≡_ {A = ℕ} (cond (not q) 3 (cond (not a) 4 0)) 0 → _≡_ {A = ℕ} (cond g 0 5) (cond (not q) 3 (cond (not a) 4 (cond (not g) 5 0)))
+        by false a g h = absurd (omega arith)
+        by true false g h = absurd (omega arith)
+        by true true true h = refl
+        by true true false h = refl

@@ -1,9 +1,9 @@
 // A register page's bytes: the quick test of all its words, the exact check behind it, a word replaced, and the words that an access reads.
 ghost use mathlib.Core.Path.{_≡_};
 ghost use mathlib.Core.Bool.{Bool, true, false};
-ghost use mathlib.Core.List.{List};
+ghost use mathlib.Core.List.{List, _++_};
 ghost use Prim.Native.Nat.{ℕ, _+_, _-_, _*_, _/_, _%_, _^_, _≤_, _<_};
-ghost use lib.ListN.{length, take};
+ghost use lib.ListN.{length, take, drop};
 ghost use Rattle.words.specs.Words.{wordAt};
 ghost use Rattle.register_words.specs.Segment.{segmentShape};
 ghost use Rattle.register_words.specs.Block.{blWidth};
@@ -432,33 +432,27 @@ fn copy(to: &mut [u8], from: &[u8])
     }
 }
 
+// Copies the bytes of a page of a size, in parts of known length, which the compiler copies without a loop.
+fn copy_page(to: &mut [u8], from: &[u8], size: usize)
+    requires { ⌜ (isPage size ≡ true) × (size ≤ length (now to)) × (size ≤ length (now from)) ⌝ }
+    ensures { λ _. ⌜ now (to .exit) ≡ take size (now (from .entry)) ++ drop size (now (to .entry)) ⌝ }
+{
+    copy(&mut to[0..68], &from[0..68]);
+    copy(&mut to[68..132], &from[68..132]);
+    if size == numbers::REGISTERS_SIZE_LONG {
+        copy(&mut to[132..196], &from[132..196]);
+    }
+}
+
 // The register set of a page.
 fn read_set(page: &[u8]) -> Set
     requires { ⌜ isPage (length (now page)) ≡ true ⌝ }
     ensures { λ r. ⌜ (pageOf r ≡ now (page .entry)) × (r .size ≡ length (now (page .entry))) ⌝ }
 {
     let mut bytes = [0u8; 196];
-    copy(&mut bytes[0..68], &page[0..68]);
-    copy(&mut bytes[68..132], &page[68..132]);
-    if page.len() == numbers::REGISTERS_SIZE_LONG {
-        copy(&mut bytes[132..196], &page[132..196]);
-    }
-    Set {
-        bytes,
-        size: page.len(),
-    }
-}
-
-// Rewrites a page with the bytes of a register set of its size.
-fn write_set(page: &mut [u8], bytes: &[u8])
-    requires { ⌜ (isPage (length (now page)) ≡ true) × (length (now bytes) ≡ 196) ⌝ }
-    ensures { λ _. ⌜ now (page .exit) ≡ take (length (now (page .entry))) (now (bytes .entry)) ⌝ }
-{
-    copy(&mut page[0..68], &bytes[0..68]);
-    copy(&mut page[68..132], &bytes[68..132]);
-    if page.len() == numbers::REGISTERS_SIZE_LONG {
-        copy(&mut page[132..196], &bytes[132..196]);
-    }
+    let size = page.len();
+    copy_page(&mut bytes, page, size);
+    Set { bytes, size }
 }
 
 // Replaces one word of a page: 0, or the refusal, and then the page is as it was.
@@ -471,7 +465,8 @@ pub fn set_word(page: &mut [u8], number: u32, word: u32) -> u32
     let result = replaced.result;
     if result == numbers::DONE {
         let new = replaced.set.bytes;
-        write_set(page, &new);
+        let size = page.len();
+        copy_page(page, &new, size);
     }
     result
 }

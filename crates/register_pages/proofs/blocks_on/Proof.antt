@@ -57,12 +57,31 @@ any-on-requires-2 : tie.Need-any-on-requires-2
 any-on-requires-2 c κs = search needs
 
 -- src/lib.rt:333:9
+-- the first eight pairs are off
+front : (c : tie.Else1) (i : ℕ) → i < 8 → off (wordAt (c .before .before .before .before .args .page .now) (68 + 8 * i)) ≡ true
+front c i l =
+    let start = c .before .before .before .before in
+    part-off (start .args .page .now) 68 8 i (omega (arith, page-least (length (start .args .page .now)) (start .pre))) (c .before .any-on .ensures (c .if1 .left)) l
+
 returns-2 : tie.Need-returns-2
-returns-2 c = λ e. ?
+returns-2 c = λ e.
+    let else1 = c .before .before .before in
+    let page = else1 .before .before .before .before .args .page .now in
+    let size : length page ≡ 196 = c .before .before .if2 .taken in
+    let all : 2 * blockPairs (isLong (length page)) ≡ 16 = ap (λ (t : Bool). 2 * blockPairs t) (eq-eqb (length page) 196 size) in
+    off-kept page (λ i l. by-test (ltb i 8) (λ t. front else1 i (ltb-true i 8 t))
+    (λ t.
+    let past = ltb-false i 8 t in
+    let here : 132 + 8 * (i - 8) ≡ 68 + 8 * i = omega arith in
+    ap (λ (b : ℕ). off (wordAt page b)) (sym here) ∙ part-off page 132 8 (i - 8) (omega arith) (c .any-on2 .ensures e) (omega arith)))
 
 -- src/lib.rt:325:1
 returns-3 : tie.Need-returns-3
-returns-3 c = λ e. ?
+returns-3 c = λ e.
+    let else1 = c .before in
+    let page = else1 .before .before .before .before .args .page .now in
+    let all : 2 * blockPairs (isLong (length page)) ≡ 8 = ap (λ (t : Bool). 2 * blockPairs t) (ne-eqb (length page) 196 (c .if2 .left)) in
+    off-kept page (λ i l. front else1 i (omega arith))
 
 pub blocks-on-spec : {M : Type 1} → statement M
 blocks-on-spec =

@@ -24,7 +24,7 @@ use Rattle.register_pages.specs.Side.{upperAt, lowerAt, pairsOff, pairsS
 use Rattle.register_pages.proofs.Page.{PageSize, short-size, long-size, page-size, pair-byte, own-at, own-sdr1}
 
 -- a word of a part
-part-word : (s : List ℕ) (at n b : ℕ) → b + 4 ≤ n → wordAt (take n (drop at s)) b ≡ wordAt s (at + b)
+pub part-word : (s : List ℕ) (at n b : ℕ) → b + 4 ≤ n → wordAt (take n (drop at s)) b ≡ wordAt s (at + b)
 unfolding wordAt
 part-word s at n b l =
     rw (

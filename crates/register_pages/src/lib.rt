@@ -10,7 +10,7 @@ ghost use Rattle.register_words.specs.Block.{blWidth};
 ghost use Rattle.registers.specs.Set.{isPage, isLong, blockPairs, sdr1Of, segmentOf, segmentsShape, upperOf, lowerOf, checkWords, coveringPair, registerWords, setWords};
 ghost use Rattle.register_pages.specs.Side.{Gathered, pairsOff, apartFrom, pairsApart, blocksRefusal};
 ghost use Rattle.register_pages.specs.Quick.{everywhere, sideByte, zerosGood, SideSeen, TellsBlocks};
-ghost use Rattle.register_pages.specs.Replace.{pageReplaced, pageOf};
+ghost use Rattle.register_pages.specs.Replace.{pageReplaced, pageOf, OfPage};
 
 // What the quick test answers of a page that it does not decide; read as a map, blocks may begin anywhere.
 pub const EVERYWHERE: u64 = 0xFFFFFFFFFFFFFFFF;
@@ -395,7 +395,7 @@ pub struct Replaced {
 impl Set {
     // The set with one word changed, or the refusal and the old set.
     pub fn with_word(self, number: u32, word: u32) -> Replaced
-        requires { ⌜ isPage (self .size) ≡ true ⌝ }
+        requires { ⌜ OfPage self ⌝ }
         ensures { λ r. ⌜ (r .result, pageOf (r .set)) ≡ pageReplaced (pageOf self) number word ⌝ }
     {
         let size = self.size;
@@ -447,7 +447,7 @@ fn copy_page(to: &mut [u8], from: &[u8], size: usize)
 // The register set of a page.
 fn read_set(page: &[u8]) -> Set
     requires { ⌜ isPage (length (now page)) ≡ true ⌝ }
-    ensures { λ r. ⌜ (pageOf r ≡ now (page .entry)) × (r .size ≡ length (now (page .entry))) ⌝ }
+    ensures { λ r. ⌜ OfPage r × (pageOf r ≡ now (page .entry)) ⌝ }
 {
     let mut bytes = [0u8; 196];
     let size = page.len();
@@ -455,7 +455,8 @@ fn read_set(page: &[u8]) -> Set
     Set { bytes, size }
 }
 
-// Replaces one word of a page: 0, or the refusal, and then the page is as it was.
+// Replaces one word of a page: 0, or the refusal, and then the page is as it was. The page is read into a set, and gets the word of the new set, in
+// which every other byte is the old one's.
 pub fn set_word(page: &mut [u8], number: u32, word: u32) -> u32
     requires { ⌜ isPage (length (now page)) ≡ true ⌝ }
     ensures { λ r. ⌜ (r, now (page .exit)) ≡ pageReplaced (now (page .entry)) number word ⌝ }
@@ -465,8 +466,8 @@ pub fn set_word(page: &mut [u8], number: u32, word: u32) -> u32
     let result = replaced.result;
     if result == numbers::DONE {
         let new = replaced.set.bytes;
-        let size = page.len();
-        copy_page(page, &new, size);
+        let at = 4 * (number as usize);
+        words::write_word(page, at, words::read_word(&new, at));
     }
     result
 }

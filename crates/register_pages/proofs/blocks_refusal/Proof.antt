@@ -47,10 +47,15 @@ loop-holds : tie.Need-loop-holds Inv-loop μ-loop
 loop-holds c =
     let start = c .before .before in
     let size = page-size (length (start .args .page .now)) (start .pre) in
-    let (half, whole) = halves size in
-    (omega arith, half, whole, lengths-of size (c .if1 .lengths)
-    (⊎-elim (λ w e. w .1) (λ w e. absurd (w .0 .left e)) (c .if1 .came))
-    (⊎-elim (λ w n. absurd (n (w .0 .taken))) (λ w n. w .1) (c .if1 .came)), λ right. sides-none (start .args .page .now) right)
+    let (half, whole) = halves size in (
+      omega arith,
+      half,
+      whole,
+      lengths-of size (c .if1 .lengths)
+          (⊎-elim (λ w e. w .1) (λ w e. absurd (w .0 .left e)) (c .if1 .came))
+          (⊎-elim (λ w n. absurd (n (w .0 .taken))) (λ w n. w .1) (c .if1 .came)),
+      λ right. sides-none (start .args .page .now) right,
+    )
 
 -- src/lib.rt:306:23
 -- the bytes of the side at hand lie on the page

@@ -78,9 +78,11 @@ loop-again : tie.Need-loop-again Inv-loop μ-loop
 unfolding apartFrom
 loop-again c =
     let l = at-loop (c .before) .loop in
-    let (upto, whole, before) = l .inv in
-    (omega (arith, c .before .before .before .loop-test .taken, begin (c .before) .pre .1), omega arith,
-    passed-more (apart (c .before)) (l .before) whole before (apart-is (c .before) ∙ ap not (c .if1 .left)))
+    let (upto, whole, before) = l .inv in (
+      omega (arith, c .before .before .before .loop-test .taken, begin (c .before) .pre .1),
+      omega arith,
+      passed-more (apart (c .before)) (l .before) whole before (apart-is (c .before) ∙ ap not (c .if1 .left)),
+    )
 
 -- src/lib.rt:243:1
 returns-2 : tie.Need-returns-2 Inv-loop μ-loop

@@ -1,43 +1,126 @@
+-- `register_pages::set_word` meets its contract: the set is the page's, and where it is a new one its word is the one that was given.
+use borrow.Author.Tests.{eq-eqb, ne-eqb}
+use native.Mathlib.Omega.{arith}
+use mathlib.Core.Bool.{Bool, cond}
+use mathlib.Core.List.{List}
+use mathlib.Core.Path.{_≡_, sym, ap, _∙_}
+use Prim.Native.Nat.{ℕ, _+_, _*_, _≤_, min}
+use lib.ListN.{length, take, length-take}
+use Rattle.words.specs.Words.{wordAt, withWord}
+use Rattle.words.proofs.Words.{length-withWord, word-same}
+use Rattle.registers.specs.Set.{isLong, registerCount, registerWords, replacing}
+use Rattle.registers.proofs.Set.{replaced-number}
+use Rattle.register_pages.specs.Replace.{pageOf, pageReplaced}
+use Rattle.register_pages.proofs.Replace.{number-fits}
+use Rattle.register_pages.proofs.Sides.{part-word}
 use borrow.Author.Needs.{needs}
 use Rattle.register_pages.proofs.set_word.Statement.{statement}
 use Rattle.register_pages.proofs.set_word.Tie as tie
 use Rattle.register_pages.proofs.set_word.Reads as reads
 use Rattle.register_pages.proofs.set_word.Lts as lts
 use Rattle.register_pages.proofs.Set.with_word.Reads as with-word-reads
-use Rattle.register_pages.proofs.copy_page.Reads as copy-page-reads
 use Rattle.register_pages.proofs.read_set.Reads as read-set-reads
+use Rattle.words.proofs.read_word.Reads as read-word-reads
+use Rattle.words.proofs.write_word.Reads as write-word-reads
 
--- src/lib.rt:463:9
+-- src/lib.rt:464:9
 read-set-requires : tie.Need-read-set-requires
 read-set-requires c κs = search needs
 
--- src/lib.rt:464:9
+-- src/lib.rt:465:9
 with-word-requires : tie.Need-with-word-requires
-with-word-requires c κs = ?
+with-word-requires c κs = c .read-set .ensures .0
 
--- src/lib.rt:469:25
-slice-aggregate-copy-page : tie.Need-slice-aggregate-copy-page
-slice-aggregate-copy-page c = search needs
+-- src/lib.rt:469:18
+mul-at : tie.Need-mul-at
+mul-at c = search needs
 
--- src/lib.rt:469:9
-copy-page-requires : tie.Need-copy-page-requires
-copy-page-requires c κs = ?
+-- src/lib.rt:470:54
+slice-aggregate-read-word : tie.Need-slice-aggregate-read-word
+slice-aggregate-read-word c = search needs
 
--- src/lib.rt:459:1
+-- src/lib.rt:470:37
+-- what the method answered is the definition's answer for the page
+module _ (c : tie.After-with-word) where
+  abbrev begin : tie.Start
+  begin = c .before .before .before .before
+
+  abbrev page : List ℕ
+  page = begin .args .page .now
+
+  abbrev number : ℕ
+  number = begin .args .number
+
+  abbrev word : ℕ
+  word = begin .args .word
+
+  abbrev asked : ℕ
+  asked = replacing (isLong (length page)) (registerWords page) number word
+
+  is-replaced : (c .with-word .result .result, pageOf (c .with-word .result .set)) ≡ pageReplaced page number word
+  is-replaced = c .with-word .ensures ∙ ap (λ (p : List ℕ). pageReplaced p number word) (c .before .read-set .ensures .1)
+
+  result-is : c .with-word .result .result ≡ asked
+  unfolding pageReplaced
+  result-is = ap (λ (p : ℕ × List ℕ). p .0) is-replaced
+
+  -- where it is 0, the new set holds the page with the word put in
+  module _ (done : c .with-word .result .result ≡ 0) where
+    abbrev new : List ℕ
+    new = c .with-word .result .set .bytes
+
+    abbrev size : ℕ
+    size = c .with-word .result .set .size
+
+    fits : 4 * number + 4 ≤ length page
+    fits = number-fits page (begin .pre) number (replaced-number (isLong (length page)) (registerWords page) number word (sym result-is ∙ done))
+
+    new-is : take size new ≡ withWord page (4 * number) word
+    unfolding pageReplaced
+    new-is = ap (λ (p : ℕ × List ℕ). p .1) is-replaced ∙ ap (λ (t : Bool). cond t (withWord page (4 * number) word) page) (eq-eqb asked 0 (sym result-is ∙ done))
+
+    new-fits : 4 * number + 4 ≤ min size (length new)
+    new-fits =
+        let long = ap length new-is ∙ length-withWord page (4 * number) word in
+        omega (arith, fits, length-take size new)
+
+    word-is : wordAt new (4 * number) ≡ word
+    word-is =
+        ap (wordAt new) (omega arith)
+        ∙ sym (part-word new 0 size (4 * number) (omega (arith, new-fits)))
+        ∙ ap (λ (s : List ℕ). wordAt s (4 * number)) new-is
+        ∙ word-same page (4 * number) word fits (begin .fits .word .fits)
+
+read-word-requires : tie.Need-read-word-requires
+read-word-requires c κs = let t = c .before .before .before in omega (arith, new-fits (t .before) (t .if1 .taken))
+
+-- src/lib.rt:470:9
+write-word-requires : tie.Need-write-word-requires
+write-word-requires c κs = let t = c .before .before .before .before in fits (t .before) (t .if1 .taken)
+
+-- src/lib.rt:460:1
 same-length : tie.Need-same-length
 same-length c = search needs
 
--- src/lib.rt:459:1
+-- src/lib.rt:460:1
 returns : tie.Need-returns
-returns c = ?
+unfolding pageReplaced
+returns c =
+    let at-write = c .before .before in
+    let t = at-write .before .before .before .before .before in
+    let k = t .before in
+    rw (← result-is k, eq-eqb _ _ (t .if1 .taken))
+    (ap (λ (b : List ℕ). (k .with-word .result .result, b))
+    (at-write .write-word .ensures ∙ ap (withWord (page k) (4 * number k)) (at-write .before .read-word .ensures ∙ word-is k (t .if1 .taken))))
 
--- src/lib.rt:459:1
+-- src/lib.rt:460:1
 same-length-2 : tie.Need-same-length-2
 same-length-2 c = search needs
 
--- src/lib.rt:459:1
+-- src/lib.rt:460:1
 returns-2 : tie.Need-returns-2
-returns-2 c = ?
+unfolding pageReplaced
+returns-2 c = rw (← result-is (c .before), ne-eqb _ _ (c .if1 .left))
 
 pub set-word-spec : {M : Type 1} → statement M
 set-word-spec =
@@ -45,8 +128,10 @@ set-word-spec =
     (tie.spec
     read-set-requires
     with-word-requires
-    slice-aggregate-copy-page
-    copy-page-requires
+    mul-at
+    slice-aggregate-read-word
+    read-word-requires
+    write-word-requires
     same-length
     returns
     same-length-2

@@ -23,9 +23,9 @@ returns c =
     rw (c .ones-of .ensures) (
       asked-low 11 few pair fits,
       λ none.
-      let l = asked-length 11 few pair fits none in
-      let bl = blOf 15 (pair / 2 ^ 32) in
-      (rw (true-ones bl (size bl) (l .only-ones), l .bepi, l .brpn), omega (arith, l .only-ones, pow-mono (l .within), pow-pos (size bl))),
+          let l = asked-length 11 few pair fits none in
+          let bl = blOf 15 (pair / 2 ^ 32) in
+          (rw (true-ones bl (size bl) (l .only-ones), l .bepi, l .brpn), omega (arith, l .only-ones, pow-mono (l .within), pow-pos (size bl))),
     )
 
 pub asked-bits-spec : {M : Type 1} → statement M

@@ -1,4 +1,4 @@
-// A register page's bytes: the quick test of all its words, the exact check behind it, a word replaced, and the words that an access reads.
+// A register page's bytes: the check of all its words, the quick test of an access, a word replaced, and the words that an access reads.
 ghost use mathlib.Core.Path.{_≡_};
 ghost use mathlib.Core.Bool.{Bool, true, false};
 ghost use mathlib.Core.List.{List, _++_};
@@ -466,8 +466,8 @@ pub fn set_word(page: &mut [u8], number: u32, word: u32) -> u32
     let result = replaced.result;
     if result == numbers::DONE {
         let new = replaced.set.bytes;
-        let at = 4 * (number as usize);
-        words::write_word(page, at, words::read_word(&new, at));
+        let byte = 4 * (number as usize);
+        words::write_word(page, byte, words::read_word(&new, byte));
     }
     result
 }

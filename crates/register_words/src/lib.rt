@@ -1,15 +1,13 @@
 // One register word: SDR1, a segment register, and a block pair's upper and lower word; their shapes and what a block covers.
 ghost use mathlib.Core.Path.{_≡_};
-ghost use mathlib.Core.Bool.{Bool, true, false, cond, _&&_};
+ghost use mathlib.Core.Bool.{Bool, true, false};
 ghost use Prim.Native.Nat.{_+_, _-_, _*_, _/_, _%_, _^_};
 ghost use lib.Bits.{bitAnd};
 ghost use lib.Dec.{eqb};
 ghost use Rattle.words.specs.Bits.{bits};
-ghost use Rattle.words.specs.Ones.{lowOnes};
 ghost use Rattle.register_words.specs.Sdr1.{sdr1Shape, tableLength, hashBits};
-ghost use Rattle.register_words.specs.Segment.{segmentShape};
 ghost use Rattle.register_words.specs.Asked.{pairOnes, blPlace, sideSum, zeroBits, lastOf};
-ghost use Rattle.register_words.specs.Block.{blWidth, blOf, bepiOf, brpnOf, off, blockShape, lengthGood, clash, covers, inBlock, blockPhysical};
+ghost use Rattle.register_words.specs.Block.{blWidth, off, blockShape, lengthGood, clash, covers, inBlock, blockPhysical};
 
 // Whether SDR1 has its shape.
 pub fn sdr1_shape(sdr1: u32) -> bool
@@ -36,51 +34,6 @@ pub fn hash_mask(sdr1: u32) -> u32
     ensures { λ r. ⌜ r ≡ 2 ^ hashBits sdr1 - 1 ⌝ }
 {
     ((sdr1 & 0x1FF) << 10) | 0x3FF
-}
-
-// Whether a segment register has its shape.
-pub fn segment_shape(word: u32) -> bool
-    ensures { λ r. ⌜ r ≡ segmentShape word ⌝ }
-{
-    (word >> 31 == 0) & ((word >> 24) & 0xF == 0)
-}
-
-// Whether a block of a short or a long page is right in its length: BL is ones only at its low end, with zeros of BEPI and BRPN under them, and on a
-// short page it has no more than 11 bits.
-fn length_shape(long: bool, upper: u32, lower: u32) -> bool
-    ensures { λ r. ⌜ r ≡ (lowOnes (blOf 15 upper) && eqb (bitAnd upper (cond long 0 0x1E000)) 0 && eqb (bitAnd (bepiOf upper) (blOf 15 upper)) 0
-        && eqb (bitAnd (brpnOf lower) (blOf 15 upper)) 0) ⌝ }
-{
-    let bl = (upper >> 2) & 0x7FFF;
-    // The least block, of 128 KB, needs no further test.
-    if bl == 0 {
-        return true;
-    }
-    if !words::low_ones(bl) {
-        return false;
-    }
-    // Bits 15 to 18, which a block of a short page has zero.
-    let short_zeros = if long { 0 } else { 0x1E000 };
-    (upper & short_zeros == 0) & ((upper >> 17) & bl == 0) & ((lower >> 17) & bl == 0)
-}
-
-// Whether a block pair of a short or a long page has the shape of its side; a pair that is off may hold anything.
-pub fn block_shape(long: bool, side: bool, upper: u32, lower: u32) -> bool
-    ensures { λ r. ⌜ r ≡ blockShape (blWidth long) side upper lower ⌝ }
-{
-    if upper & 3 == 0 {
-        return true;
-    }
-    if !length_shape(long, upper, lower) {
-        return false;
-    }
-    let zeros = ((lower >> 7) & 0x3FF == 0) & ((lower >> 2) & 1 == 0) & ((lower >> 5) & 3 != 3);
-    // An instruction block has W and G zero.
-    if side {
-        zeros
-    } else {
-        zeros & (((lower >> 6) & 1 == 0) & ((lower >> 3) & 1 == 0))
-    }
 }
 
 // As many ones as BL of a pair has bits, its upper word in the high half, in BEPI's, BL's and BRPN's places at once, and the low 17 bits all ones.

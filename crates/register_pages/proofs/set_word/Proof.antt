@@ -32,8 +32,8 @@ with-word-requires : tie.Need-with-word-requires
 with-word-requires c κs = c .read-set .ensures .0
 
 -- src/lib.rt:469:18
-mul-at : tie.Need-mul-at
-mul-at c = search needs
+mul-byte : tie.Need-mul-byte
+mul-byte c = search needs
 
 -- src/lib.rt:470:54
 slice-aggregate-read-word : tie.Need-slice-aggregate-read-word
@@ -128,7 +128,7 @@ set-word-spec =
     (tie.spec
     read-set-requires
     with-word-requires
-    mul-at
+    mul-byte
     slice-aggregate-read-word
     read-word-requires
     write-word-requires

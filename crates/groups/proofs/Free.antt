@@ -1,13 +1,57 @@
--- Laws of the first free entry in search order: where it is, by the first free entry of each group.
-use mathlib.Core.Path.{_≡_, refl}
+-- Laws of free entries: the mask that tells which of a group's are, and the first in search order, by the first free entry of each group.
+use mathlib.Core.Path.{_≡_, refl, ap, ap₂, _∙_}
 use mathlib.Core.Bool.{Bool, true, false, cond}
 use mathlib.Core.List.{List}
-use Prim.Native.Nat.{ℕ, _<_, _≤_}
+use Prim.Native.Nat.{ℕ, zero, suc, _+_, _*_, _/_, _%_, _^_, _<_, _≤_}
+use native.Mathlib.Nat.{add-zero, add-suc, pow-suc}
+use native.Mathlib.Omega.{arith}
+use mir.Val.{boolByte}
+use lib.Bits.{bitOr, or-shifted}
+use lib.Pow.{pow-mono}
 use lib.Dec.{ltb}
 use borrow.Author.Tests.{lt-ltb, le-ltb, ltb-true, ltb-false}
-use Rattle.groups.specs.Group.{firstFree, firstFreePlace}
+use Rattle.groups.specs.Group.{entryFree, firstFree, firstFreePlace, freeTo, freeAfter}
 use Rattle.groups.specs.declared.Place.{Place}
 use Rattle.groups.specs.declared.Place.the-variants.{Entry, Full}
+
+-- ---- which entries are free
+
+-- a test as a bit
+abbrev one : Bool → ℕ
+one b = cond b 1 0
+
+pub one-is : (b : Bool) → boolByte b ≡ one b
+one-is true = refl
+one-is false = refl
+
+pub one-lt : (b : Bool) → one b < 2 ^ 1
+one-lt true = omega arith
+one-lt false = omega arith
+
+-- n entries behind a number of w bits make one of w + n bits
+pub free-lt : (before : ℕ) (group : List ℕ) (w n : ℕ) → before < 2 ^ w → freeTo before group n < 2 ^ (w + n)
+unfolding freeTo
+free-lt before group w zero l = rw (add-zero w) l
+free-lt before group w (suc n) l = go (one (entryFree group n)) (one-lt (entryFree group n)) (free-lt before group w n l)
+  where
+    go : (bit : ℕ) → bit < 2 ^ 1 → freeTo before group n < 2 ^ (w + n) → freeTo before group n * 2 + bit < 2 ^ (w + suc n)
+    go bit b k = rw (add-suc w n) (omega (arith, pow-suc 2 (w + n)))
+
+-- one group alone has eight bits
+pub free-one : (group : List ℕ) → freeAfter 0 group < 2 ^ 8
+unfolding freeAfter
+free-one group = free-lt 0 group 0 8 (omega arith)
+
+-- one entry more, as the code puts its bit in
+pub free-more : (before : ℕ) (group : List ℕ) (n free : ℕ) (b : Bool) → before < 2 ^ 8 → n < 8 → free ≡ freeTo before group n → b ≡ entryFree group n
+    → bitOr ((free * 2) % 2 ^ 32) (boolByte b) ≡ freeTo before group (suc n)
+unfolding freeTo
+free-more before group n free b l few is test =
+    let wide = free-lt before group 8 n l in
+    let few-bits : 8 + n ≤ 16 = omega arith in
+    let fits : 2 ^ (8 + n) ≤ 2 ^ 16 = pow-mono few-bits in
+    let kept : (free * 2) % 2 ^ 32 ≡ freeTo before group n * 2 = omega (arith, is) in
+    ap₂ bitOr kept (one-is b ∙ ap one test) ∙ or-shifted (freeTo before group n) 1 (one (entryFree group n)) (one-lt (entryFree group n))
 
 module _ (p s : List ℕ) where
   pub free-primary : (i : ℕ) → firstFree p ≡ i → i < 8 → firstFreePlace p s ≡ Entry false i

@@ -1,12 +1,13 @@
 // Hash, groups and entries in groups: a page's two groups, the free entry, the entry writer, and the clear of a table.
 ghost use mathlib.Core.Path.{_≡_};
-ghost use mathlib.Core.Bool.{true};
+ghost use mathlib.Core.Bool.{true, cond};
 ghost use Prim.Native.Nat.{ℕ, _+_, _-_, _*_, _<_, _≤_, _^_};
 ghost use lib.ListN.{length, replicate};
 ghost use Rattle.numbers.specs.Numbers.{groupSize, groupEntries};
 ghost use Rattle.register_words.specs.Sdr1.{sdr1Shape, hashBits};
-ghost use Rattle.groups.specs.Hash.{hashOf, groupsOf, groupAddress};
-ghost use Rattle.groups.specs.Group.{firstOf, secondOf, putEntry, putAt, firstFree, firstFreePlace};
+ghost use Rattle.groups.specs.Page.{InRange};
+ghost use Rattle.groups.specs.Hash.{hashOf, groupsOf, groupAddress, located};
+ghost use Rattle.groups.specs.Group.{firstOf, secondOf, putEntry, putAt, entryFree, firstFree, firstFreePlace, freeAfter};
 
 // The numbers of the two groups of a hash.
 pub struct Groups {
@@ -38,6 +39,65 @@ pub fn group_address(sdr1: u32, group: u32) -> u32
     ensures { λ r. ⌜ r ≡ groupAddress sdr1 group ⌝ }
 {
     (sdr1 & 0xFFFF0000) | (group << 6)
+}
+
+// Where a page's entries are: the numbers of its two groups, the bytes of each, and the first word that matches in the primary, its bytes in
+// reverse order. The bytes are 64; they are told so that the compiler unrolls a search's loops only in the calls that locate a page.
+pub struct Located {
+    pub primary: usize,
+    pub secondary: usize,
+    pub size: usize,
+    pub wanted: u32,
+}
+
+impl Located {
+    // The number of the primary (false) or the secondary group (true).
+    pub fn group(self, secondary: bool) -> usize
+        ensures { λ r. ⌜ r ≡ cond secondary (self .secondary) (self .primary) ⌝ }
+    {
+        if secondary {
+            self.secondary
+        } else {
+            self.primary
+        }
+    }
+}
+
+// Where the entries of a page are, in a table of so many bytes: the number of its last group is the ones that the hash is masked with.
+pub fn locate(lent: usize, vsid: u32, index: u32) -> Located
+    requires { ⌜ (groupSize ≤ lent) × (lent < 2 ^ 32) × InRange (record { vsid = vsid; index = index }) ⌝ }
+    ensures { λ r. ⌜ ((k : ℕ) → lent ≡ 65536 * 2 ^ k → r ≡ located k (record { vsid = vsid; index = index })) ⌝ }
+{
+    let last = (lent / numbers::GROUP_SIZE - 1) as u32;
+    let own = groups_of(last, hash_of(vsid, index));
+    Located {
+        primary: own.primary as usize,
+        secondary: own.secondary as usize,
+        size: numbers::GROUP_SIZE,
+        wanted: entry::match_word(vsid, 0, entry::api_of(index)),
+    }
+}
+
+// Whether an entry of a group has V = 0: V is the highest bit of its first byte.
+fn entry_free(group: &[u8], entry: usize) -> bool
+    requires { ⌜ (entry < groupEntries) × (length (now group) ≡ groupSize) ⌝ }
+    ensures { λ r. ⌜ r ≡ entryFree (now (group .entry)) entry ⌝ }
+{
+    group[numbers::ENTRY_SIZE * entry] < 0x80
+}
+
+// Which entries of a group have V = 0, behind those told before: a bit for each, the last entry's the lowest.
+pub fn free_after(before: u32, group: &[u8]) -> u32
+    requires { ⌜ length (now group) ≡ groupSize ⌝ }
+    ensures { λ r. ⌜ (before < 2 ^ groupEntries → r ≡ freeAfter before (now (group .entry))) ⌝ }
+{
+    let mut free = before;
+    let mut entry = 0;
+    while numbers::ENTRY_SIZE * entry < group.len() {
+        free = (free << 1) | (entry_free(group, entry) as u32);
+        entry += 1;
+    }
+    free
 }
 
 // The place of a free entry: whether it is in the secondary group, and its number there.

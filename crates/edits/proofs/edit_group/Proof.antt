@@ -9,9 +9,9 @@ use lib.ListN.{length}
 use Rattle.entry.specs.Entry.{matches}
 use Rattle.tables.specs.Matches.{matchesBelow}
 use Rattle.groups.specs.Group.{firstAt, secondAt, putEntry}
-use Rattle.matches.specs.Search.{hOf, groupMatches}
+use Rattle.matches.specs.Search.{hOf, matchesTo, groupMatches}
 use Rattle.edits.specs.Edit.{editedWords, edited, editEach, editMatches}
-use Rattle.matches.proofs.Matches.{h-lt, word-matches, entryAt, matchesTo, matches-more, matches-same}
+use Rattle.matches.proofs.Matches.{h-lt, word-matches, entryAt, matches-more, matches-same}
 use Rattle.edits.proofs.Edits.{edit-more, edit-later, length-edit}
 use Rattle.edits.proofs.edit_group.Statement.{statement}
 use Rattle.edits.proofs.edit_group.Tie as tie

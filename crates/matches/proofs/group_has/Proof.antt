@@ -7,8 +7,8 @@ use native.Mathlib.Omega.{arith}
 use Rattle.entry.specs.Entry.{matches}
 use Rattle.tables.specs.Matches.{Match, matchesBelow}
 use Rattle.groups.specs.Group.{firstAt}
-use Rattle.matches.specs.Search.{hOf, WantedWord, groupMatches, anyMatch, each}
-use Rattle.matches.proofs.Matches.{wanted-matches, entryAt, matchesTo, matches-more, matches-same, matches-extend}
+use Rattle.matches.specs.Search.{hOf, WantedWord, matchesTo, groupMatches, anyMatch, each}
+use Rattle.matches.proofs.Matches.{wanted-matches, entryAt, matches-more, matches-same, matches-extend}
 use Rattle.matches.proofs.group_has.Statement.{statement}
 use Rattle.matches.proofs.group_has.Tie as tie
 

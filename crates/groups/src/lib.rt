@@ -2,6 +2,7 @@
 ghost use mathlib.Core.Path.{_≡_};
 ghost use mathlib.Core.Bool.{true, cond};
 ghost use Prim.Native.Nat.{ℕ, _+_, _-_, _*_, _<_, _≤_, _^_};
+ghost use mathlib.Core.List.{List};
 ghost use lib.ListN.{length, replicate};
 ghost use Rattle.numbers.specs.Numbers.{groupSize, groupEntries};
 ghost use Rattle.register_words.specs.Sdr1.{sdr1Shape, hashBits};
@@ -121,17 +122,15 @@ pub fn first_free(group: &[u8]) -> usize
     numbers::GROUP_ENTRIES
 }
 
-// The first free entry in search order, in the bytes of a page's two groups.
-pub fn free_place<'a>(primary: &'a [u8], secondary: &'a [u8]) -> Place
-    requires { ⌜ (length (now primary) ≡ groupSize) × (length (now secondary) ≡ groupSize) ⌝ }
-    ensures { λ r. ⌜ r ≡ firstFreePlace (now (primary .entry)) (now (secondary .entry)) ⌝ }
+// The first free entry in search order, by which entries of a page's two groups are free: two groups by eight entries, left at the first with V = 0.
+pub fn free_place(free: u32) -> Place
+    ensures { λ r. ⌜ ((primary secondary : List ℕ) → free ≡ freeAfter (freeAfter 0 primary) secondary → r ≡ firstFreePlace primary secondary) ⌝ }
 {
     let mut found = Place::Full;
-    'search: for h in 0..2u32 {
-        let group = if h == 0 { primary } else { secondary };
+    'search: for h in 0..2usize {
         for entry in 0..numbers::GROUP_ENTRIES {
-            let first = words::read_word(group, numbers::ENTRY_SIZE * entry);
-            if entry::is_free(first) {
+            let behind = 15 - (numbers::GROUP_ENTRIES * h + entry);
+            if (free >> behind) & 1 == 1 {
                 found = Place::Entry(h == 1, entry);
                 break 'search;
             }

@@ -9,7 +9,7 @@ ghost use Rattle.numbers.specs.Numbers.{groupSize, groupEntries};
 ghost use Rattle.tables.specs.Matches.{Match};
 ghost use Rattle.groups.specs.Group.{groupOf, freeAfter};
 ghost use Rattle.matches.specs.Search.{hOf, matchesTo, disagrees, contradict, withOthers, foundOf, told, inPrimary, inBoth};
-ghost use Rattle.matches.specs.Search.{WantedWord, groupMatches, pairMatches, agree, anyMatch, marksOf, merged, each, firstPlace, placeOf, onlyPlace, summary, groupSearch, found, inSecondary, entryOf};
+ghost use Rattle.matches.specs.Search.{WantedWord, groupMatches, pairMatches, agree, anyMatch, marksOf, each, firstPlace, placeOf, onlyPlace, summary, groupSearch, found, inSecondary, entryOf};
 
 // Whether the second words of two matches agree: RPN, WIMG and PP are equal. R, C and the ignored bits may differ.
 pub fn words_agree(second: u32, other: u32) -> bool
@@ -292,32 +292,6 @@ pub fn find(primary: &[u8], secondary: &[u8], vsid: u32, api: u32) -> usize
     only_place(secondary, true, entry::secondary_word(wanted), place)
 }
 
-// Whether a group has a match: an entry with this first word, which is given with its bytes in reverse order. It answers at the first.
-fn group_has(group: &[u8], wanted: u32) -> bool
-    requires { ⌜ length (now group) ≡ groupSize ⌝ }
-    ensures { λ r. ⌜ ((secondary : Bool) (vsid api : ℕ) → WantedWord secondary vsid api wanted → r ≡ anyMatch each (groupMatches secondary vsid api (now (group .entry)))) ⌝ }
-{
-    let mut entry = 0;
-    while numbers::ENTRY_SIZE * entry < group.len() {
-        if words::is_word(group, numbers::ENTRY_SIZE * entry, wanted) {
-            return true;
-        }
-        entry += 1;
-    }
-    false
-}
-
-// Whether a page has a match in its two groups, whose bytes are lent, by the word that matches in the primary. It does not tell which or how many.
-pub fn any_match(primary: &[u8], secondary: &[u8], wanted: u32) -> bool
-    requires { ⌜ (length (now primary) ≡ groupSize) × (length (now secondary) ≡ groupSize) ⌝ }
-    ensures { λ r. ⌜ ((vsid api : ℕ) → WantedWord false vsid api wanted → r ≡ anyMatch each (pairMatches vsid api (now (primary .entry)) (now (secondary .entry)))) ⌝ }
-{
-    if group_has(primary, wanted) {
-        return true;
-    }
-    group_has(secondary, entry::secondary_word(wanted))
-}
-
 // The number of the group that a place is in, by the numbers of a page's two groups.
 pub fn group_at(place: usize, primary: usize, secondary: usize) -> usize
     ensures { λ r. ⌜ r ≡ cond (leb 24 place) secondary primary ⌝ }
@@ -419,22 +393,4 @@ pub fn search_at(
     }
     let second = groups::second_of(table, group_at(place, primary, secondary), place % 8);
     Summary::one(place, second)
-}
-
-// The second word of a page's first match, with R and C each set if any match has it.
-pub fn merged_word(table: &[u8], primary: usize, secondary: usize, vsid: u32, api: u32) -> u32
-    requires { ⌜ (groupSize * primary + groupSize ≤ length (now table)) × (groupSize * secondary + groupSize ≤ length (now table)) × (vsid < 2 ^ 24) × (api < 2 ^ 6) ⌝ }
-    ensures { λ r. ⌜ ((m : Match) (ms : List Match) → pairMatches vsid api (groupOf (now (table .entry)) primary) (groupOf (now (table .entry)) secondary) ≡ m ∷ ms
-        → r ≡ merged m ms) ⌝ }
-{
-    let search = search_both(table, primary, secondary, vsid, api);
-    let from = primary * numbers::GROUP_SIZE;
-    let to = from + numbers::GROUP_SIZE;
-    let wanted = entry::match_word(vsid, 0, api);
-    let first = every_match(&table[from..to], false, wanted, search.second);
-    let next = secondary * numbers::GROUP_SIZE;
-    let end = next + numbers::GROUP_SIZE;
-    let further = entry::match_word(vsid, 1, api);
-    let other = every_match(&table[next..end], true, further, first.merged);
-    other.merged
 }

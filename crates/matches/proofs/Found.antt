@@ -2,14 +2,14 @@
 use mathlib.Core.Path.{_≡_, refl, sym, ap, ap₂, _∙_}
 use mathlib.Core.Bool.{Bool, true, false, cond, not, _&&_, _||_}
 use mathlib.Core.List.{List, [], _∷_, _++_, append-assoc}
-use Prim.Native.Nat.{ℕ, _+_, _-_, _*_, _%_, _<_, _≤_}
+use Prim.Native.Nat.{ℕ, _+_, _-_, _*_, _%_, _<_}
 use native.Mathlib.Omega.{arith}
 use lib.Dec.{eqb, leb}
-use borrow.Author.Tests.{eq-eqb, ne-eqb, le-leb, lt-leb}
+use borrow.Author.Tests.{ne-eqb, le-leb, lt-leb}
 use Rattle.entry.specs.Entry.{matches}
 use Rattle.tables.specs.Matches.{Match}
 use Rattle.groups.specs.Group.{firstAt}
-use Rattle.matches.specs.Search.{hOf, matchesTo, agree, anyMatch, disagrees, contradict, each, numberOf, withOthers, foundOf, firstSecond}
+use Rattle.matches.specs.Search.{hOf, matchesTo, anyMatch, disagrees, contradict, each, numberOf, withOthers, foundOf, firstSecond}
 use Rattle.matches.proofs.Agreement.{agree-self}
 use Rattle.matches.proofs.Matches.{entryAt, matches-more, matches-same}
 use Rattle.matches.proofs.Summaries.{or-false, any-append}

@@ -8,7 +8,7 @@ use native.Mathlib.Omega.{arith}
 use lib.ListN.{length}
 use Rattle.entry.specs.Entry.{firstWord, apiOf}
 use Rattle.entry.proofs.Addresses.{api-lt}
-use Rattle.register_words.specs.Sdr1.{sdr1Shape, tableLength, maskOnes, hashBits}
+use Rattle.register_words.specs.Sdr1.{tableLength, maskOnes, hashBits}
 use Rattle.register_words.proofs.Sdr1.{length-is}
 use Rattle.groups.specs.Page.{Page, InRange}
 use Rattle.groups.specs.Hash.{groupNumber, located, TableOf, SomeTable}
@@ -21,13 +21,12 @@ use Rattle.groups.proofs.Hash.{group-lt, own-groups-differ, within-table}
 use Rattle.tables.specs.Matches.{Match}
 use Rattle.matches.specs.Search.{hOf, WantedWord, pairMatches, anyMatch, each, marksOf, merged, contradict, told, inPrimary, inBoth, summary, found}
 use Rattle.matches.specs.declared.Told.{Told}
-use Rattle.matches.specs.declared.Summary.{Summary}
 use Rattle.matches.proofs.Summaries.{summarised, summary-none, found-any, alone, merged-one}
 use Rattle.edits.specs.Edit.{editAt, editPair}
 use Rattle.edits.specs.declared.Edit.{Edit}
 use Rattle.edits.proofs.Alone.{entry-is, edit-alone}
 use Rattle.calls.specs.OnBytes.{entryWord}
-use Rattle.calls.proofs.PageCalls.{ownGroup, pageMatches, pageSearch, editedBoth}
+use Rattle.calls.proofs.PageCalls.{Kept, ownGroup, pageMatches, pageSearch, editedBoth}
 
 -- a free place is one of a group's eight entries
 pub place-lt : (p s : List ℕ) (b : Bool) (i : ℕ) → firstFreePlace p s ≡ Entry b i → i < 8
@@ -37,6 +36,10 @@ place-lt p s b i q = go (firstFreePlace p s) (place-case p s) q
     go place (in-primary j n l) e = let z : i ≡ j = cc in omega arith
     go place (in-secondary j m n l) e = let z : i ≡ j = cc in omega arith
     go place (nowhere m n) e = absurd (let z : _≡_ {A = ℕ} 0 1 = cc in omega arith)
+
+-- what the rules that every call on a page has leave of the table
+pub table-of : (inRange : Bool) (sdr1 lent : ℕ) → Kept inRange sdr1 lent → TableOf sdr1 lent
+table-of inRange sdr1 lent k = record { shape = k .shape; right = k .right-length }
 
 -- what `locate` asks
 pub locatable : (lent : ℕ) (page : Page) → SomeTable lent → InRange page → (64 ≤ lent) × (lent < 2 ^ 32) × InRange page
@@ -72,13 +75,6 @@ module _ (sdr1 : ℕ) (page : Page) (t : List ℕ) (l : Located) where
   module _ (at : AtGroups) where
     abbrev k : ℕ
     k = maskOnes sdr1
-
-    -- what the search of the two groups asks
-    pub primary-asked : (l .size ≡ 64) × (64 * l .primary + 64 ≤ length t)
-    primary-asked = (ap (λ (x : Located). x .size) (at .own), at .primary-in)
-
-    pub secondary-asked : (l .size ≡ 64) × (64 * l .secondary + 64 ≤ length t)
-    secondary-asked = (ap (λ (x : Located). x .size) (at .own), at .secondary-in)
 
     -- which entries of the page's groups are free
     abbrev pub pageFree : ℕ
@@ -211,3 +207,30 @@ module _ (sdr1 : ℕ) (page : Page) (t : List ℕ) (l : Located) where
                     ∙ edit-is edit,
                 edits .1 ∙ ap₂ (secondOf t) side-is number-is ∙ words .2 ∙ sym (merged-one (f .x)) ∙ ap (merged (f .x)) (sym single),
               )
+
+-- what the search of the two groups asks
+module _ (page : Page) (t : List ℕ) (l : Located) (table : SomeTable (length t)) (fits : InRange page) (locates : (k : ℕ) → length t ≡ 65536 * 2 ^ k → l ≡ located k page) where
+  some-groups : AtGroups (table .0) page t l
+  some-groups = at-groups (table .0) page t l (table .1) fits locates
+
+  pub primary-asked : (l .size ≡ 64) × (64 * l .primary + 64 ≤ length t)
+  primary-asked = (ap (λ (x : Located). x .size) (some-groups .own), some-groups .primary-in)
+
+  pub secondary-asked : (l .size ≡ 64) × (64 * l .secondary + 64 ≤ length t)
+  secondary-asked = (ap (λ (x : Located). x .size) (some-groups .own), some-groups .secondary-in)
+
+-- what a call knows of a page whose groups were located and searched, and which was asked for a match
+module _ (sdr1 : ℕ) (page : Page) (t : List ℕ) (l : Located) (both : Told) (some : Bool) where
+  pub record Known : Type 0 where
+    pub at : AtGroups sdr1 page t l
+    pub is : both ≡ told (pageMatches (maskOnes sdr1) t page) (pageFree sdr1 page t l at)
+    pub some-is : found (pageSearch (maskOnes sdr1) t page) ≡ some
+
+  pub known : (primary : Told) → TableOf sdr1 (length t) → InRange page → ((k : ℕ) → length t ≡ 65536 * 2 ^ k → l ≡ located k page)
+      → ((vsid api : ℕ) → WantedWord false vsid api (l .wanted) → primary ≡ inPrimary vsid api (groupOf t (l .primary)))
+      → ((vsid api : ℕ) (group : List ℕ) → WantedWord false vsid api (l .wanted) → primary ≡ inPrimary vsid api group → both ≡ inBoth vsid api group (groupOf t (l .secondary)))
+      → ((ms : List Match) (free : ℕ) → both ≡ told ms free → some ≡ anyMatch each ms) → Known
+  known primary right fits locates one two any =
+      let at = at-groups sdr1 page t l right fits locates in
+      let is = told-is sdr1 page t l at primary both one two in
+      record { at = at; is = is; some-is = any-is sdr1 page t l at both is some any }

@@ -1,7 +1,7 @@
 -- `groups::locate` meets its contract: a table of 65,536 × 2 ^ k bytes has 2 ^ (10 + k) groups, so that its last group's number is the 10 + k ones under
 -- which the hash names the two groups.
-use mathlib.Core.Path.{_≡_, ap, _∙_}
-use Prim.Native.Nat.{ℕ, _+_, _-_, _/_, _^_, _<_}
+use mathlib.Core.Path.{_≡_}
+use Prim.Native.Nat.{_+_, _-_, _/_, _^_}
 use native.Mathlib.Omega.{arith}
 use lib.Pow.{pow-add}
 use Rattle.entry.proofs.Addresses.{api-lt}

@@ -1,13 +1,13 @@
 -- `matches::disagree` meets its contract: a match among the entries before the last disagrees, or the last matches and does. The number of entries is the
 -- measure.
 use mathlib.Core.Path.{_≡_, refl, sym, ap, _∙_}
-use mathlib.Core.Bool.{Bool, true, false, not, _&&_, _||_}
-use mathlib.Core.List.{List, [], _∷_, _++_}
+use mathlib.Core.Bool.{Bool, not, _&&_, _||_}
+use mathlib.Core.List.{[]}
 use native.Mathlib.Omega.{arith}
 use Rattle.entry.specs.Entry.{matches}
-use Rattle.tables.specs.Matches.{Match, matchesBelow}
+use Rattle.tables.specs.Matches.{matchesBelow}
 use Rattle.groups.specs.Group.{firstAt, secondAt}
-use Rattle.matches.specs.Search.{hOf, WantedWord, agree, anyMatch, disagrees, matchesTo}
+use Rattle.matches.specs.Search.{hOf, agree, anyMatch, disagrees, matchesTo}
 use Rattle.matches.proofs.Matches.{entryAt, wanted-matches}
 use Rattle.matches.proofs.Found.{last-more}
 use Prim.Native.Nat.{ℕ, _-_, _<_}

@@ -1,12 +1,12 @@
 -- `matches::with_others` meets its contract: some other disagrees where one did before or one of this group does.
 use mathlib.Core.Path.{_≡_, sym, ap, ap₂, _∙_}
 use mathlib.Core.Bool.{Bool, cond, _||_}
-use mathlib.Core.List.{List, _++_}
+use mathlib.Core.List.{_++_}
 use mathlib.Core.Logic.{⊎-elim}
 use Prim.Native.Nat.{ℕ, _+_}
 use native.Mathlib.Omega.{arith}
 use lib.Dec.{leb}
-use Rattle.matches.specs.Search.{groupMatches, anyMatch, disagrees, contradict, numberOf}
+use Rattle.matches.specs.Search.{groupMatches, anyMatch, disagrees, contradict}
 use Rattle.matches.proofs.Summaries.{or-swap, any-append}
 use Rattle.matches.proofs.Found.{found-number, found-differs}
 use borrow.Author.Needs.{needs}

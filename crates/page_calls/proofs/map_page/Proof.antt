@@ -1,47 +1,22 @@
 -- `page_calls::map_page` meets its contract: where the search told of no match, the page's entry goes to the first free place that it told.
 use mathlib.Core.Path.{_≡_, refl, sym, ap, _∙_}
-use mathlib.Core.Bool.{Bool, true, false}
+use mathlib.Core.Bool.{false}
 use mathlib.Core.List.{List, []}
 use Prim.Native.Nat.{ℕ}
 use lib.ListN.{length}
-use borrow.Author.Tests.{not-true, not-false}
 use Rattle.register_words.specs.Sdr1.{maskOnes}
 use Rattle.groups.specs.Page.{Page}
 use Rattle.groups.specs.Hash.{TableOf}
-use Rattle.matches.specs.Search.{told, found}
+use Rattle.matches.specs.Search.{found}
 use Rattle.entry.specs.Entry.{secondWord}
 use Rattle.calls.specs.OnBytes.{ended}
-use Rattle.calls.proofs.PageCalls.{pageMatches, pageSearch, map-matched, map-full, map-placed}
-use Rattle.page_calls.proofs.Searched.{locatable, AtGroups, at-groups, primary-asked, secondary-asked, pageFree, told-is, any-is, group-inside, free-is, place-lt, placed-is}
+use Rattle.calls.proofs.PageCalls.{pageSearch, map-matched, map-full, map-placed}
+use Rattle.page_calls.proofs.Searched.{locatable, primary-asked, secondary-asked, Known, known, group-inside, free-is, place-lt, placed-is}
 use borrow.Author.Needs.{needs}
 use Rattle.page_calls.proofs.map_page.Statement.{statement}
 use Rattle.page_calls.proofs.map_page.Tie as tie
 
-locate-requires : tie.Need-locate-requires
-locate-requires c κs = locatable _ _ (c .before .pre .0) (c .before .pre .1)
-
--- the page's groups are located
-module _ (c : tie.After-locate) where
-  abbrev begin : tie.Start
-  begin = c .before .before
-
-  abbrev page : Page
-  page = record { vsid = begin .args .vsid; index = begin .args .index }
-
-  ready : (sdr1 : ℕ) → TableOf sdr1 (length (begin .args .table .now)) → AtGroups sdr1 page (begin .args .table .now) (c .locate .result)
-  ready sdr1 right = at-groups sdr1 page _ _ right (begin .pre .1) (c .locate .ensures)
-
-  -- by some SDR1
-  given : AtGroups (begin .pre .0 .0) page (begin .args .table .now) (c .locate .result)
-  given = ready (begin .pre .0 .0) (begin .pre .0 .1)
-
-in-primary-requires : tie.Need-in-primary-requires
-in-primary-requires c κs = primary-asked _ _ _ _ (given (c .before))
-
-in-secondary-requires : tie.Need-in-secondary-requires
-in-secondary-requires c κs = secondary-asked _ _ _ _ (given (c .before .before .before))
-
--- what was told is of its matches and free entries
+-- what was told is of the page's matches and free entries
 module _ (c : tie.After-any) where
   abbrev searched : tie.After-in-primary
   searched = c .before .before .before
@@ -49,21 +24,24 @@ module _ (c : tie.After-any) where
   abbrev at : tie.After-locate
   at = searched .before .before
 
-  module _ (sdr1 : ℕ) (right : TableOf sdr1 (length (begin at .args .table .now))) where
-    tells : c .before .in-secondary .result ≡ told (pageMatches (maskOnes sdr1) (begin at .args .table .now) (page at)) (pageFree _ _ _ _ (ready at sdr1 right))
-    tells = told-is _ _ _ _ (ready at sdr1 right) _ _ (searched .in-primary .ensures) (c .before .in-secondary .ensures)
+  abbrev begin : tie.Start
+  begin = at .before .before
 
-    some-is : found (pageSearch (maskOnes sdr1) (begin at .args .table .now) (page at)) ≡ c .any .result
-    some-is = any-is _ _ _ _ (ready at sdr1 right) _ tells _ (c .any .ensures)
+  abbrev page : Page
+  page = record { vsid = begin .args .vsid; index = begin .args .index }
+
+  told-of : (sdr1 : ℕ) → TableOf sdr1 (length (begin .args .table .now))
+      → Known sdr1 page (begin .args .table .now) (at .locate .result) (c .before .in-secondary .result) (c .any .result)
+  told-of sdr1 right = known sdr1 page _ _ _ _ _ right (begin .pre .1) (at .locate .ensures) (searched .in-primary .ensures) (c .before .in-secondary .ensures) (c .any .ensures)
 
 -- the free place is that of the page's groups
 module _ (c : tie.After-free-place) where
   abbrev asked : tie.After-any
   asked = c .before .before
 
-  none : (sdr1 : ℕ) (right : TableOf sdr1 (length (begin (at asked) .args .table .now)))
-      → found (pageSearch (maskOnes sdr1) (begin (at asked) .args .table .now) (page (at asked))) ≡ false
-  none sdr1 right = some-is asked sdr1 right ∙ c .before .if1 .left
+  none : (sdr1 : ℕ) (right : TableOf sdr1 (length (begin asked .args .table .now)))
+      → found (pageSearch (maskOnes sdr1) (begin asked .args .table .now) (page asked)) ≡ false
+  none sdr1 right = told-of asked sdr1 right .some-is ∙ c .before .if1 .left
 
 -- the state before an entry is written
 abbrev placed-at : tie.After-group → tie.After-known-told
@@ -73,15 +51,15 @@ abbrev freed : tie.After-known-told → tie.After-free-place
 freed c = let key = c .before .before in key .before
 
 returns : tie.Need-returns
-returns c sdr1 right = sym (map-matched _ _ _ _ refl _ _ _ _ (some-is (c .before) sdr1 right ∙ c .if1 .taken))
+returns c sdr1 right = sym (map-matched _ _ _ _ refl _ _ _ _ (told-of (c .before) sdr1 right .some-is ∙ c .if1 .taken))
 
 put-entry-requires : tie.Need-put-entry-requires
 put-entry-requires c κs =
     let place = placed-at c .before in
     let free = freed (placed-at c) in
-    let pre = begin (at (asked free)) .pre .0 in
-    let g = given (at (asked free)) in
-    (place-lt _ _ _ _ (free-is _ _ _ _ g _ _ _ (tells (asked free) (pre .0) (pre .1)) (free .free-place .ensures) (place .free .given .1)), group-inside _ _ _ _ g (place .free .given .0 .0) _ (c .group .ensures))
+    let pre = begin (asked free) .pre .0 in
+    let told = told-of (asked free) (pre .0) (pre .1) in
+    (place-lt _ _ _ _ (free-is _ _ _ _ (told .at) _ _ _ (told .is) (free .free-place .ensures) (place .free .given .1)), group-inside _ _ _ _ (told .at) (place .free .given .0 .0) _ (c .group .ensures))
 
 returns-2 : tie.Need-returns-2
 returns-2 c sdr1 right =
@@ -91,26 +69,26 @@ returns-2 c sdr1 right =
     let words = placed-at group in
     let free = freed words in
     let place = words .before .free .given in
-    let a = begin (at (asked free)) .args in
-    let g = ready (at (asked free)) sdr1 right in
+    let a = begin (asked free) .args in
+    let g = told-of (asked free) sdr1 right .at in
     ap (λ (t : List ℕ). ended 0 t [])
     (placed-is _ _ _ _ g _ _ _ _ _ (secondWord (a .rpn) 0 0 (a .wimg) (a .pp)) _ (group .group .ensures)
     (second .before .first-in .ensures _ _ (g .wants .0) (g .wants .1) (g .wants .2)) (second .second-word .ensures) (put .put-entry .ensures))
-    ∙ sym (map-placed _ _ _ _ refl _ _ _ _ (none free sdr1 right) _ _ (free-is _ _ _ _ g _ _ _ (tells (asked free) sdr1 right) (free .free-place .ensures) (place .1)))
+    ∙ sym (map-placed _ _ _ _ refl _ _ _ _ (none free sdr1 right) _ _ (free-is _ _ _ _ g _ _ _ (told-of (asked free) sdr1 right .is) (free .free-place .ensures) (place .1)))
 
 returns-3 : tie.Need-returns-3
 returns-3 c sdr1 right =
     let free = c .before .before in
     sym (map-full _ _ _ _ refl _ _ _ _ (none free sdr1 right)
-    (free-is _ _ _ _ (ready (at (asked free)) sdr1 right) _ _ _ (tells (asked free) sdr1 right) (free .free-place .ensures) (c .enum-told .given .1)))
+    (free-is _ _ _ _ (told-of (asked free) sdr1 right .at) _ _ _ (told-of (asked free) sdr1 right .is) (free .free-place .ensures) (c .enum-told .given .1)))
 
 pub map-page-spec : {M : Type 1} → statement M
 map-page-spec =
     tie.close
     (tie.spec
-    locate-requires
-    in-primary-requires
-    in-secondary-requires
+    (λ c κs. locatable _ _ (c .before .pre .0) (c .before .pre .1))
+    (λ c κs. let start = c .before .before .before in primary-asked _ (start .args .table .now) _ (start .pre .0) (start .pre .1) (c .before .locate .ensures))
+    (λ c κs. let located = c .before .before .before in let start = located .before .before in secondary-asked _ (start .args .table .now) _ (start .pre .0) (start .pre .1) (located .locate .ensures))
     (λ c κs. search needs)
     (λ c. search needs)
     returns

@@ -1,6 +1,6 @@
 -- `page_calls::protect_page` meets its contract: where the search told of a match, each match gets the new PP.
 use mathlib.Core.Path.{_≡_, refl, sym, ap, _∙_}
-use mathlib.Core.Bool.{Bool, true, false}
+use mathlib.Core.Bool.{true}
 use mathlib.Core.List.{List, []}
 use Prim.Native.Nat.{ℕ}
 use lib.ListN.{length}
@@ -8,41 +8,17 @@ use borrow.Author.Tests.{not-true, not-false}
 use Rattle.register_words.specs.Sdr1.{maskOnes}
 use Rattle.groups.specs.Page.{Page}
 use Rattle.groups.specs.Hash.{TableOf}
-use Rattle.matches.specs.Search.{told, found, merged}
+use Rattle.matches.specs.Search.{found, merged}
 use Rattle.edits.specs.declared.Edit.the-variants.{Protect}
 use Rattle.calls.specs.Request.{protect}
 use Rattle.calls.specs.OnBytes.{ended, bytesDo}
-use Rattle.calls.proofs.PageCalls.{pageMatches, pageSearch, editedBoth, protect-missing, protect-done}
-use Rattle.page_calls.proofs.Searched.{locatable, AtGroups, at-groups, primary-asked, secondary-asked, pageFree, told-is, any-is, First, first, entry-asked, all-edited, alone-edited}
+use Rattle.calls.proofs.PageCalls.{pageSearch, editedBoth, protect-missing, protect-done}
+use Rattle.page_calls.proofs.Searched.{locatable, primary-asked, secondary-asked, Known, known, First, first, entry-asked, all-edited, alone-edited}
 use borrow.Author.Needs.{needs}
 use Rattle.page_calls.proofs.protect_page.Statement.{statement}
 use Rattle.page_calls.proofs.protect_page.Tie as tie
 
-locate-requires : tie.Need-locate-requires
-locate-requires c κs = locatable _ _ (c .before .pre .0) (c .before .pre .1)
-
--- the page's groups are located
-module _ (c : tie.After-locate) where
-  abbrev begin : tie.Start
-  begin = c .before .before
-
-  abbrev page : Page
-  page = record { vsid = begin .args .vsid; index = begin .args .index }
-
-  ready : (sdr1 : ℕ) → TableOf sdr1 (length (begin .args .table .now)) → AtGroups sdr1 page (begin .args .table .now) (c .locate .result)
-  ready sdr1 right = at-groups sdr1 page _ _ right (begin .pre .1) (c .locate .ensures)
-
-  -- by some SDR1
-  given : AtGroups (begin .pre .0 .0) page (begin .args .table .now) (c .locate .result)
-  given = ready (begin .pre .0 .0) (begin .pre .0 .1)
-
-in-primary-requires : tie.Need-in-primary-requires
-in-primary-requires c κs = primary-asked _ _ _ _ (given (c .before))
-
-in-secondary-requires : tie.Need-in-secondary-requires
-in-secondary-requires c κs = secondary-asked _ _ _ _ (given (c .before .before .before))
-
--- what was told is of its matches and free entries
+-- what was told is of the page's matches and free entries
 module _ (c : tie.After-any) where
   abbrev searched : tie.After-in-primary
   searched = c .before .before .before
@@ -50,37 +26,41 @@ module _ (c : tie.After-any) where
   abbrev at : tie.After-locate
   at = searched .before .before
 
-  module _ (sdr1 : ℕ) (right : TableOf sdr1 (length (begin at .args .table .now))) where
-    tells : c .before .in-secondary .result ≡ told (pageMatches (maskOnes sdr1) (begin at .args .table .now) (page at)) (pageFree _ _ _ _ (ready at sdr1 right))
-    tells = told-is _ _ _ _ (ready at sdr1 right) _ _ (searched .in-primary .ensures) (c .before .in-secondary .ensures)
+  abbrev begin : tie.Start
+  begin = at .before .before
 
-    some-is : found (pageSearch (maskOnes sdr1) (begin at .args .table .now) (page at)) ≡ c .any .result
-    some-is = any-is _ _ _ _ (ready at sdr1 right) _ tells _ (c .any .ensures)
+  abbrev page : Page
+  page = record { vsid = begin .args .vsid; index = begin .args .index }
+
+  told-of : (sdr1 : ℕ) → TableOf sdr1 (length (begin .args .table .now))
+      → Known sdr1 page (begin .args .table .now) (at .locate .result) (c .before .in-secondary .result) (c .any .result)
+  told-of sdr1 right = known sdr1 page _ _ _ _ _ right (begin .pre .1) (at .locate .ensures) (searched .in-primary .ensures) (c .before .in-secondary .ensures) (c .any .ensures)
 
 -- there is a match
 module _ (c : tie.After-several) where
   abbrev asked : tie.After-any
   asked = c .before .before
 
-  module _ (sdr1 : ℕ) (right : TableOf sdr1 (length (begin (at asked) .args .table .now))) where
-    some : found (pageSearch (maskOnes sdr1) (begin (at asked) .args .table .now) (page (at asked))) ≡ true
-    some = some-is asked sdr1 right ∙ not-false _ (c .before .if1 .left)
+  module _ (sdr1 : ℕ) (right : TableOf sdr1 (length (begin asked .args .table .now))) where
+    some : found (pageSearch (maskOnes sdr1) (begin asked .args .table .now) (page asked)) ≡ true
+    some = told-of asked sdr1 right .some-is ∙ not-false _ (c .before .if1 .left)
 
-    leader : First _ _ _ _ (ready (at asked) sdr1 right) _ (tells asked sdr1 right)
-    leader = first _ _ _ _ (ready (at asked) sdr1 right) _ (tells asked sdr1 right) some
+    leader : First _ _ _ _ (told-of asked sdr1 right .at) _ (told-of asked sdr1 right .is)
+    leader = first _ _ _ _ (told-of asked sdr1 right .at) _ (told-of asked sdr1 right .is) some
 
     -- each match edited is what the call does to the table
     finish : (u : List ℕ) (word : ℕ)
-        → (u ≡ editedBoth (maskOnes sdr1) (begin (at asked) .args .table .now) (page (at asked)) (Protect (begin (at asked) .args .pp))) × (word ≡ merged (leader .x) (leader .xs))
+        → (u ≡ editedBoth (maskOnes sdr1) (begin asked .args .table .now) (page asked) (Protect (begin asked .args .pp))) × (word ≡ merged (leader .x) (leader .xs))
         → ended 0 u []
-        ≡ bytesDo (maskOnes sdr1) (protect (record { sdr1 = sdr1; page = page (at asked); pp = begin (at asked) .args .pp })) (begin (at asked) .args .table .now)
-    finish u word e = ap (λ (t : List ℕ). ended 0 t []) (e .0) ∙ sym (protect-done _ _ _ _ refl (ready (at asked) sdr1 right .both-in) some _ _)
+        ≡ bytesDo (maskOnes sdr1) (protect (record { sdr1 = sdr1; page = page asked; pp = begin asked .args .pp })) (begin asked .args .table .now)
+    finish u word e = ap (λ (t : List ℕ). ended 0 t []) (e .0) ∙ sym (protect-done _ _ _ _ refl (told-of asked sdr1 right .at .both-in) some _ _)
 
 edit-both-requires : tie.Need-edit-both-requires
 edit-both-requires c κs =
     let several = c .before .before in
-    let g = given (at (asked several)) in
-    (begin (at (asked several)) .pre .2, g .primary-in, g .secondary-in, g .apart)
+    let pre = begin (asked several) .pre in
+    let g = told-of (asked several) (pre .0 .0) (pre .0 .1) .at in
+    (begin (asked several) .pre .2, g .primary-in, g .secondary-in, g .apart)
 
 -- the one match, by its group and number
 abbrev alone-at : tie.After-entry → tie.After-several
@@ -89,13 +69,13 @@ alone-at c = let arg = c .before .before .before in arg .before .before
 edit-entry-requires : tie.Need-edit-entry-requires
 edit-entry-requires c κs =
     let several = alone-at c in
-    let pre = begin (at (asked several)) .pre .0 in
+    let pre = begin (asked several) .pre .0 in
     let f = leader several (pre .0) (pre .1) in
     let (small, inside) = entry-asked _ _ _ _ _ _ _ f _ _ _ (c .before .before .in-secondary2 .ensures) (c .entry .ensures) (c .before .group .ensures) in
-    (begin (at (asked several)) .pre .2, small, inside)
+    (begin (asked several) .pre .2, small, inside)
 
 returns : tie.Need-returns
-returns c sdr1 right = sym (protect-missing _ _ _ _ refl _ _ (some-is (c .before) sdr1 right ∙ not-true _ (c .if1 .taken)))
+returns c sdr1 right = sym (protect-missing _ _ _ _ refl _ _ (told-of (c .before) sdr1 right .some-is ∙ not-true _ (c .if1 .taken)))
 
 returns-2 : tie.Need-returns-2
 returns-2 c sdr1 right =
@@ -117,9 +97,9 @@ pub protect-page-spec : {M : Type 1} → statement M
 protect-page-spec =
     tie.close
     (tie.spec
-    locate-requires
-    in-primary-requires
-    in-secondary-requires
+    (λ c κs. locatable _ _ (c .before .pre .0) (c .before .pre .1))
+    (λ c κs. let start = c .before .before .before in primary-asked _ (start .args .table .now) _ (start .pre .0) (start .pre .1) (c .before .locate .ensures))
+    (λ c κs. let located = c .before .before .before in let start = located .before .before in secondary-asked _ (start .args .table .now) _ (start .pre .0) (start .pre .1) (located .locate .ensures))
     (λ c κs. search needs)
     (λ c. search needs)
     returns

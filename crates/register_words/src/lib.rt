@@ -7,8 +7,8 @@ ghost use lib.Dec.{eqb};
 ghost use Rattle.words.specs.Bits.{bits};
 ghost use Rattle.words.specs.Ones.{lowOnes};
 ghost use Rattle.register_words.specs.Sdr1.{sdr1Shape, tableLength, hashBits};
-ghost use Rattle.register_words.specs.Segment.{segmentShape};
-ghost use Rattle.register_words.specs.Block.{blWidth, blOf, bepiOf, brpnOf, blockShape, lengthGood, clash, covers, inBlock, blockPhysical};
+ghost use Rattle.register_words.specs.Segment.{segmentShape, noExecute, segmentVsid};
+ghost use Rattle.register_words.specs.Block.{blWidth, blOf, bepiOf, brpnOf, blockAttributes, blockPP, blockShape, lengthGood, clash, covers, inBlock, blockPhysical};
 
 // Whether SDR1 has its shape.
 pub fn sdr1_shape(sdr1: u32) -> bool
@@ -42,6 +42,34 @@ pub fn segment_shape(word: u32) -> bool
     ensures { λ r. ⌜ r ≡ segmentShape word ⌝ }
 {
     (word >> 31 == 0) & ((word >> 24) & 0xF == 0)
+}
+
+// Whether N of a segment register is one: nothing is fetched from the segment.
+pub fn no_execute(word: u32) -> bool
+    ensures { λ r. ⌜ r ≡ noExecute word ⌝ }
+{
+    (word >> 28) & 1 == 1
+}
+
+// The VSID of a segment register.
+pub fn segment_vsid(word: u32) -> u32
+    ensures { λ r. ⌜ r ≡ segmentVsid word ⌝ }
+{
+    word % 0x1000000
+}
+
+// WIMG of a block's lower word.
+pub fn block_attributes(lower: u32) -> u32
+    ensures { λ r. ⌜ r ≡ blockAttributes lower ⌝ }
+{
+    (lower >> 3) & 0xF
+}
+
+// PP of a block's lower word.
+pub fn block_pp(lower: u32) -> u32
+    ensures { λ r. ⌜ r ≡ blockPP lower ⌝ }
+{
+    lower % 4
 }
 
 // Whether a block of a short or a long page is right in its length: BL is ones only at its low end, with zeros of BEPI and BRPN under them, and on a

@@ -1,3 +1,4 @@
 -- Laws of the parts of an access that the functions' proofs cite.
 pub mod Finds
 pub mod Parts
+pub mod Operands

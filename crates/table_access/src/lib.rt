@@ -335,8 +335,7 @@ fn by_parts(
         (partEarly (setWords (now (registers .entry))) access) r (now (table .exit), now (cache .exit)) (now (answer .exit)) ⌝ }
 {
     let kind = access.kind;
-    let length = access.length;
-    let bytes = translation::operand::first_bytes(access.address, length);
+    let bytes = translation::operand::first_bytes(access.address, access.length);
     let mut address = access.address;
     let mut further = false;
     // The first part, once the second is asked for.
@@ -356,13 +355,13 @@ fn by_parts(
                 first.decision,
                 own,
                 bytes,
-                length,
+                access.length,
             );
             return tell(answer, both);
         }
-        if bytes == length {
+        if access.length <= bytes {
             take(table, cache, kind, address, part.found);
-            let within = translation::operand::within(own, part.decision, length);
+            let within = translation::operand::within(own, part.decision, access.length);
             return tell(answer, within);
         }
         first = part;

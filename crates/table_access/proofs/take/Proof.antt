@@ -10,6 +10,7 @@ use native.Mathlib.Omega.{arith}
 use lib.ListN.{length}
 use Rattle.words.specs.Bits.{bits}
 use Rattle.entry.specs.Entry.{pageIndex, withMarks}
+use Rattle.groups.specs.Page.{Page}
 use Rattle.groups.specs.Group.{firstOf, putAt}
 use Rattle.groups.proofs.Lent.{first-in-table}
 use Rattle.protection.specs.Access.{storing}
@@ -103,16 +104,38 @@ same-length-2 : tie.Need-same-length-2
 same-length-2 c = search needs
 
 returns : tie.Need-returns
-returns c = ?
+returns c =
+    let at-load = c .before .before in
+    let at-index = at-load .before in
+    let at-vsid = at-index .before .before in
+    let then2 = at-vsid .before in
+    let at-put = marked-by (then2 .before) in
+    let at-marks = at-put .before .before in
+    let first = read-by at-marks .read-word .result in
+    let a = begin (taken1 (read-by at-marks)) .args in
+    ap (λ (t : List ℕ). (t, at-load .load .last .0)) (at-put .put-entry .ensures)
+    ∙ left-is at-put _ (at-load .load .ensures
+    ∙ ap₂ (λ (v i : ℕ). loaded (record { vsid = v; index = i }) first (at-marks .with-marks .result) (a .cache .now)) (at-vsid .vsid-of .ensures) (at-index .page-index .ensures))
 
 same-length-3 : tie.Need-same-length-3
 same-length-3 c = search needs
 
 returns-2 : tie.Need-returns-2
-returns-2 c = ?
+returns-2 c =
+    let at-put = marked-by (c .before) in
+    let at-marks = at-put .before .before in
+    let at-read = read-by at-marks in
+    let start = begin (taken1 at-read) in
+    let a = start .args in
+    let page : Page = record { vsid = bits 1 24 (at-read .read-word .result); index = pageIndex (a .address) } in
+    let load : List ℕ → List ℕ = loaded page (at-read .read-word .result) (at-marks .with-marks .result) in
+    let none = no-bytes (a .cache .now) (start .pre .1 (c .if2 .left)) in
+    ap (λ (t : List ℕ). (t, a .cache .now)) (at-put .put-entry .ensures)
+    ∙ left-is at-put (a .cache .now) (subst (λ (d : List ℕ). d ≡ load d) (sym none) (sym (never-loaded page (at-read .read-word .result) (at-marks .with-marks .result))))
 
 returns-3 : tie.Need-returns-3
-returns-3 c = ?
+unfolding takenBy
+returns-3 c = let known = c .before in rw (le-ltb (known .before .before .before .args .found .entry) 8 (c .if1 .left))
 
 pub take-spec : {M : Type 1} → statement M
 take-spec =

@@ -2,3 +2,4 @@
 pub mod Finds
 pub mod Parts
 pub mod Operands
+pub mod Calls

@@ -251,14 +251,7 @@ pub fn after_search(kind: u32, address: u32, key: bool, found: Found) -> Part
 }
 
 // Steps 2 to 6 of a translated part at an address.
-fn part_of(
-    registers: &[u8],
-    table: &[u8],
-    cache: &[u8],
-    mode: u32,
-    kind: u32,
-    address: u32,
-) -> Part
+fn part_of(registers: &[u8], table: &[u8], cache: &[u8], mode: u32, kind: u32, address: u32) -> Part
     requires { ⌜ PageAndTable (now registers) (now table) × CacheOrNone (now cache) × (relocated mode kind ≡ true) ⌝ }
     ensures { λ r. ⌜ r ≡ partBy kind address (foundBy (maskOnes (sdr1Of (setWords (now (registers .entry))))) kind (now (table .entry)) (now (cache .entry)))
         (beforeSearch (blockPairs true) (blWidth true) (setWords (now (registers .entry))) mode kind address) ⌝ }

@@ -369,8 +369,7 @@ loop-again c =
     let else2 = else3 .before .before in
     let l = first-loop else2 in
     let a = access l in
-    let inv = l .loop .inv in
-    (
+    let inv = l .loop .inv in (
       inv .0,
       inv .1,
       inv .2,

@@ -72,7 +72,6 @@ cast-t13 c =
 
 returns : tie.Need-returns
 returns c sdr1 of =
- 
     let at-secondary = c .before in
     let at-locate = at-secondary .before in
     let then2 = at-locate .before in
@@ -102,7 +101,6 @@ missing c =
 
 returns-2 : tie.Need-returns-2
 returns-2 c sdr1 of =
- 
     let joined = c .before in
     let a = joined .before .before .before .args in
     c .search-in .ensures sdr1 of

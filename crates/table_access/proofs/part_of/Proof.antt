@@ -37,8 +37,7 @@ before-search-requires c κs =
     let at-user = c .before in
     let at-side = at-user .before in
     let start = begin at-side in
-    let a = start .args in
-    (
+    let a = start .args in (
       start .pre .0 .0,
       start .pre .2,
       c .covering .ensures ∙ ap₂ (λ (side user : Bool). coveringPair 8 15 (setWords (a .registers .now)) side user (a .address)) (at-side .side-of .ensures) (at-user .user-mode .ensures),

@@ -16,7 +16,6 @@ without-page-requires c κs = search needs
 returns : tie.Need-returns
 unfolding answerOf decisionOf
 returns c kind =
- 
     c .without-page .ensures
     ∙ ap (withoutPage 0 0) (c .before .done-answer .ensures)
 

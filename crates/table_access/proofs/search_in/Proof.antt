@@ -100,7 +100,6 @@ nothing-requires c κs = search needs
 
 returns : tie.Need-returns
 returns c sdr1 of =
- 
     let then1 = c .before in
     let at-found = then1 .before in
     let at-search = at-found .before in
@@ -149,7 +148,6 @@ cast-t21 c =
 
 returns-2 : tie.Need-returns-2
 returns-2 c sdr1 of =
- 
     let at-group = c .before in
     let else1 = at-group .before .before in
     let at-found = else1 .before in

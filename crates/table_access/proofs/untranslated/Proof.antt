@@ -53,7 +53,6 @@ across-edge-requires c κs = search needs
 returns : tie.Need-returns
 unfolding overEdge
 returns c kind =
- 
     let at-second = c .before in
     let at-next = at-second .before in
     let then1 = at-next .before in
@@ -76,7 +75,6 @@ within-requires c κs = search needs
 returns-2 : tie.Need-returns-2
 unfolding overEdge
 returns-2 c kind =
- 
     let else1 = c .before in
     let at-bytes = else1 .before in
     let at-first = at-bytes .before in

@@ -100,12 +100,12 @@ module _ (k : ℕ) (t : List ℕ) (wanted : Wanted) where
   unfolding foundIn
   in-first x xs e = record { any = rw e; second = rw e; group = rw e; entry = rw e }
 
-  in-searched : searchedOf (foundIn k t wanted) ≡ searchIn k t wanted
+  pub in-searched : searchedOf (foundIn k t wanted) ≡ searchIn k t wanted
   unfolding foundIn searched
   in-searched = by-matches (matchesOf (layout k) t (wantedPage wanted)) (λ e. rw e) (λ x xs e. rw e)
 
   -- what decides is the same of what was found and of the first match's place: where there is none no entry is shown
-  in-decides : (kind : ℕ) → decisionOf (record { key = wanted .key; group = foundIn k t wanted .group; entry = foundIn k t wanted .entry })
+  pub in-decides : (kind : ℕ) → decisionOf (record { key = wanted .key; group = foundIn k t wanted .group; entry = foundIn k t wanted .entry })
       (afterSearch kind (wanted .key) (searchIn k t wanted))
       ≡ decisionOf (record { key = wanted .key; group = firstPlaceIn k t wanted .0; entry = firstPlaceIn k t wanted .1 })
       (afterSearch kind (wanted .key) (searchIn k t wanted))

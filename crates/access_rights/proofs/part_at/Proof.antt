@@ -33,7 +33,6 @@ real-part-requires c κs = search needs
 returns : tie.Need-returns
 unfolding partBy
 returns c k t is =
- 
     let then1 = c .before in
     let at-relocated = then1 .before in
     let a = at-relocated .before .before .args in
@@ -78,7 +77,6 @@ after-search-requires c κs = search needs
 
 returns-2 : tie.Need-returns-2
 returns-2 c k t is =
- 
     let known = c .before in
     let at-before = known .before .before in
     let start = begin (at-before .before) in
@@ -87,7 +85,6 @@ returns-2 c k t is =
 
 returns-3 : tie.Need-returns-3
 returns-3 c k t is =
- 
     let known = c .before .before in
     let at-before = known .before .before in
     let start = begin (at-before .before) in

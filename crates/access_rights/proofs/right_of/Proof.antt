@@ -41,7 +41,6 @@ stopped-requires c κs = search needs
 
 returns : tie.Need-returns
 returns c t stands kept =
- 
     let then1 = c .before in
     let at-part = then1 .before .before .before in
     let start = at-part .before .before in
@@ -55,7 +54,6 @@ new-marks-requires c κs = search needs
 
 returns-2 : tie.Need-returns-2
 returns-2 c t stands kept =
- 
     let else1 = c .before .before in
     let at-part = else1 .before .before .before in
     let start = at-part .before .before in

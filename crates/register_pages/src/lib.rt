@@ -533,6 +533,23 @@ pub fn covering_near(page: &[u8], begins: u64, side: bool, user: bool, address: 
     registers::BLOCK_PAIRS
 }
 
+// The first pair of a side that covers the address for the user or the supervisor, or 8 where none does.
+pub fn covering(page: &[u8], side: bool, user: bool, address: u32) -> usize
+    requires { ⌜ isPage (length (now page)) ≡ true ⌝ }
+    ensures { λ r. ⌜ r ≡ coveringPair (blockPairs true) (blWidth true) (setWords (now (page .entry))) side user address ⌝ }
+{
+    let start = side_at(page.len(), side);
+    let pairs = (page.len() - 68) / 16;
+    let mut i: usize = 0;
+    while i < pairs {
+        if register_words::block_covers(user, words::read_word(page, start + 8 * i), address) {
+            return i;
+        }
+        i += 1;
+    }
+    registers::BLOCK_PAIRS
+}
+
 // The upper word of a pair of the page.
 pub fn upper(page: &[u8], side: bool, i: usize) -> u32
     requires { ⌜ (isPage (length (now page)) ≡ true) × (i < blockPairs (isLong (length (now page)))) ⌝ }

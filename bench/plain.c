@@ -243,33 +243,34 @@ INLINE int apart(const uint8_t *pairs, uint32_t count)
     return (begins & UINT64_C(0xEEEEEEEEEEEEEEEE)) == 0 && (any & raw_of(OVER_256_MB >> 32)) == 0;
 }
 
-/* Whether a block shares an address and a V bit with one of so many pairs before it. */
-INLINE int meets(uint32_t upper, const uint8_t *pairs, uint32_t before)
+/* Whether two of a side's blocks share an address and a V bit, each compared with all before it. */
+INLINE int some_meet(const uint8_t *pairs, uint32_t count)
 {
-    uint32_t i;
-    for (i = 0; i < before; i++) {
-        uint32_t other = word_at(pairs + 8 * i);
-        if ((upper ^ other) <= (inner_bits(upper) | inner_bits(other)) && upper & other & 3)
-            return 1;
+    uint32_t i, j;
+    for (i = 1; i < count; i++) {
+        uint32_t upper = word_at(pairs + 8 * i), inner = inner_bits(upper);
+        for (j = 0; j < i; j++) {
+            uint32_t other = word_at(pairs + 8 * j);
+            if ((upper ^ other) <= (inner | inner_bits(other)) && upper & other & 3)
+                return 1;
+        }
     }
     return 0;
 }
 
 /*
- * Whether two of a side's blocks share an address and a V bit; their shapes are right by now. A block that lies behind
- * or in front of all before it is compared with none.
+ * The same; their shapes are right by now. Where each lies behind all before it or in front of them all, no two are
+ * compared.
  */
 INLINE int some_clash(const uint8_t *pairs, uint32_t count)
 {
     uint32_t first = 0xFFFFFFFF, last = 0, i;
-    if (apart(pairs, count))
-        return 0;
     for (i = 0; i < count; i++) {
         uint32_t upper = word_at(pairs + 8 * i), end = upper | inner_bits(upper);
         if (!(upper & 3))
             continue;
-        if (upper <= last && end >= first && meets(upper, pairs, i))
-            return 1;
+        if (upper <= last && end >= first)
+            return !apart(pairs, count) && some_meet(pairs, count);
         first = upper < first ? upper : first;
         last = end > last ? end : last;
     }

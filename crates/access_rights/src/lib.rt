@@ -58,8 +58,8 @@ fn standing_at(registers: &[u8], mode: u32, address: u32, table: &[u8]) -> Stand
     let segment = register_pages::segment(registers, (address >> 28) as usize);
     let wanted = translation::wanted_of(user, segment, address);
     Standing {
-        ibat: register_pages::covering(registers, false, user, address),
-        dbat: register_pages::covering(registers, true, user, address),
+        ibat: register_pages::covering_pair(registers, false, user, address),
+        dbat: register_pages::covering_pair(registers, true, user, address),
         found: table_access::search_in(table, wanted),
     }
 }

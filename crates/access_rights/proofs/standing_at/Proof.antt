@@ -51,11 +51,11 @@ in-range : (user : Bool) (segment address : ℕ) → (wantedOf user segment addr
 unfolding segmentVsid
 in-range user segment address = (omega arith, index-lt address)
 
-covering-requires : tie.Need-covering-requires
-covering-requires c κs = search needs
+covering-pair-requires : tie.Need-covering-pair-requires
+covering-pair-requires c κs = search needs
 
-covering-requires-2 : tie.Need-covering-requires-2
-covering-requires-2 c κs = search needs
+covering-pair-requires-2 : tie.Need-covering-pair-requires-2
+covering-pair-requires-2 c κs = search needs
 
 search-in-requires : tie.Need-search-in-requires
 search-in-requires c κs =
@@ -77,7 +77,7 @@ returns c =
     let k = maskOnes (sdr1Of words) in
     let pair : Bool → Bool → ℕ = λ side user. coveringPair 8 15 words side user (a .address) in
     let stand : ℕ → ℕ → Found → Standing = λ i d f. record { ibat = i; dbat = d; found = f } in
-    ap₂ (λ (i d : ℕ). stand i d (c .search-in .result)) (at-code .covering .ensures ∙ ap (pair false) (at-user .user-mode .ensures)) (at-data .covering2 .ensures ∙ ap (pair true) (at-user .user-mode .ensures))
+    ap₂ (λ (i d : ℕ). stand i d (c .search-in .result)) (at-code .covering-pair .ensures ∙ ap (pair false) (at-user .user-mode .ensures)) (at-data .covering2 .ensures ∙ ap (pair true) (at-user .user-mode .ensures))
     ∙ ap (stand (pair false (userMode (a .mode))) (pair true (userMode (a .mode)))) (c .search-in .ensures (sdr1Of words) (start .pre .1) ∙ ap (foundIn k (a .table .now)) (wanted-is at-wanted))
 
 pub standing-at-spec : {M : Type 1} → statement M
@@ -88,7 +88,7 @@ standing-at-spec =
     cast-segment
     segment-requires
     wanted-of-requires
-    covering-requires
-    covering-requires-2
+    covering-pair-requires
+    covering-pair-requires-2
     search-in-requires
     returns)

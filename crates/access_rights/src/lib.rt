@@ -61,8 +61,8 @@ fn standing_at(registers: &[u8], mode: u32, address: u32, table: &[u8]) -> Stand
     let primary = matches::in_primary(table, page);
     let told = matches::in_secondary(table, page, primary);
     Standing {
-        ibat: register_pages::covering(registers, false, user, address),
-        dbat: register_pages::covering(registers, true, user, address),
+        ibat: register_pages::covering_pair(registers, false, user, address),
+        dbat: register_pages::covering_pair(registers, true, user, address),
         found: table_access::found_in(page, told),
     }
 }

@@ -4,11 +4,10 @@ ghost use mathlib.Core.Bool.{Bool, true, false};
 ghost use Prim.Native.Nat.{_+_, _-_, _*_, _/_, _%_, _^_};
 ghost use lib.Bits.{bitAnd};
 ghost use lib.Dec.{eqb};
-ghost use Rattle.words.specs.Bits.{bits};
 ghost use Rattle.register_words.specs.Sdr1.{sdr1Shape, tableLength, hashBits};
 ghost use Rattle.register_words.specs.Asked.{pairOnes, blPlace, sideSum, zeroBits, lastOf};
 ghost use Rattle.register_words.specs.Segment.{noExecute, segmentVsid};
-ghost use Rattle.register_words.specs.Block.{blWidth, off, blockAttributes, blockPP, blockShape, lengthGood, clash, covers, inBlock, blockPhysical};
+ghost use Rattle.register_words.specs.Block.{blWidth, off, blockAttributes, blockPP, blockShape, clash, covers, inBlock, blockPhysical};
 
 // Whether SDR1 has its shape.
 pub fn sdr1_shape(sdr1: u32) -> bool
@@ -78,15 +77,6 @@ pub fn end_of(pair: u64, ones: u64) -> u64
     ensures { λ r. ⌜ r ≡ lastOf (pair / 2 ^ 32) * 2 ^ 49 + (2 ^ 49 - 1) ⌝ }
 {
     pair | ones | 0x1FFFFFFFFFFFF
-}
-
-// What a quick test asks of a pair, its upper word in the high half: its low 17 bits as they are, and above them zeros, only where BL has at most 11
-// bits and is ones at its low end with zeros of BEPI and BRPN under them.
-pub fn asked_bits(pair: u64) -> u64
-    ensures { λ r. ⌜ (r % 2 ^ 17 ≡ pair % 2 ^ 17)
-        × (r / 2 ^ 17 ≡ 0 → (lengthGood (blWidth true) (pair / 2 ^ 32) (pair % 2 ^ 32) ≡ true) × (bits 15 18 (pair / 2 ^ 32) ≡ 0)) ⌝ }
-{
-    (pair ^ 0x1FFC00000000) & ones_of(pair)
 }
 
 // Whether two blocks have a V bit in common and share an effective address. Here and below BL has 15 bits, of which a short page's blocks use 11.

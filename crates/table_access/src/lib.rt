@@ -255,7 +255,7 @@ fn part_of(registers: &[u8], table: &[u8], cache: &[u8], mode: u32, kind: u32, a
 {
     let side = protection::side_of(kind);
     let user = protection::user_mode(mode);
-    let pair = register_pages::covering(registers, side, user, address);
+    let pair = register_pages::covering_pair(registers, side, user, address);
     match before_search(registers, mode, kind, address, pair) {
         Begun::Told(part) => part,
         Begun::Wants(wanted) => {

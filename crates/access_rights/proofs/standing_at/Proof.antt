@@ -91,11 +91,11 @@ told-of c =
     let start = begin (at-wanted .before .before) in
     search-told _ (start .args .table .now) (at-wanted .wanted-of .result) _ _ _ (start .pre .1) (in-range at-wanted) (at-primary .before .locate .ensures) (at-primary .in-primary .ensures) (c .in-secondary .ensures)
 
-covering-requires : tie.Need-covering-requires
-covering-requires c κs = search needs
+covering-pair-requires : tie.Need-covering-pair-requires
+covering-pair-requires c κs = search needs
 
-covering-requires-2 : tie.Need-covering-requires-2
-covering-requires-2 c κs = search needs
+covering-pair-requires-2 : tie.Need-covering-pair-requires-2
+covering-pair-requires-2 c κs = search needs
 
 found-in-requires : tie.Need-found-in-requires
 found-in-requires c κs =
@@ -116,7 +116,7 @@ returns c =
     let k = maskOnes (sdr1Of words) in
     let pair : Bool → Bool → ℕ = λ side user. coveringPair 8 15 words side user (a .address) in
     let stand : ℕ → ℕ → Found → Standing = λ i d f. record { ibat = i; dbat = d; found = f } in
-    ap₂ (λ (i d : ℕ). stand i d (c .found-in .result)) (at-code .covering .ensures ∙ ap (pair false) (at-user .user-mode .ensures)) (at-data .covering2 .ensures ∙ ap (pair true) (at-user .user-mode .ensures))
+    ap₂ (λ (i d : ℕ). stand i d (c .found-in .result)) (at-code .covering-pair .ensures ∙ ap (pair false) (at-user .user-mode .ensures)) (at-data .covering2 .ensures ∙ ap (pair true) (at-user .user-mode .ensures))
     ∙ ap (stand (pair false (userMode (a .mode))) (pair true (userMode (a .mode))))
     (c .found-in .ensures (sdr1Of words) (a .table .now) (at-wanted .wanted-of .result) (told-of at-secondary) ∙ ap (foundIn k (a .table .now)) (wanted-is at-wanted))
 
@@ -131,7 +131,7 @@ standing-at-spec =
     locate-requires
     in-primary-requires
     in-secondary-requires
-    covering-requires
-    covering-requires-2
+    covering-pair-requires
+    covering-pair-requires-2
     found-in-requires
     returns)

@@ -26,8 +26,8 @@ side-of-requires c κs = search needs
 user-mode-requires : tie.Need-user-mode-requires
 user-mode-requires c κs = search needs
 
-covering-requires : tie.Need-covering-requires
-covering-requires c κs = search needs
+covering-pair-requires : tie.Need-covering-pair-requires
+covering-pair-requires c κs = search needs
 
 abbrev begin : tie.After-side-of → tie.Start
 begin c = c .before .before .before .before
@@ -40,7 +40,7 @@ before-search-requires c κs =
     let a = start .args in (
       start .pre .0 .0,
       start .pre .2,
-      c .covering .ensures ∙ ap₂ (λ (side user : Bool). coveringPair 8 15 (setWords (a .registers .now)) side user (a .address)) (at-side .side-of .ensures) (at-user .user-mode .ensures),
+      c .covering-pair .ensures ∙ ap₂ (λ (side user : Bool). coveringPair 8 15 (setWords (a .registers .now)) side user (a .address)) (at-side .side-of .ensures) (at-user .user-mode .ensures),
     )
 
 enum-known-part : tie.Need-enum-known-part
@@ -95,7 +95,7 @@ part-of-spec =
     (tie.spec
     side-of-requires
     user-mode-requires
-    covering-requires
+    covering-pair-requires
     before-search-requires
     enum-known-part
     enum-known-wanted

@@ -4,15 +4,15 @@ use mathlib.Core.Bool.{Bool, false, cond}
 use mathlib.Core.List.{List, [], _∷_}
 use mathlib.Core.Path.{_≡_}
 use lib.Dec.{eqb}
-use lib.ListN.{replicate}
+use lib.ListN.{length, replicate}
 use Rattle.words.specs.Words.{withWord}
 use Rattle.cache.specs.Cache.{cacheSize}
 use Rattle.calls.specs.Request.{access}
-use Rattle.calls.specs.OnBytes.{Ended}
+use Rattle.calls.specs.OnBytes.{Ended, byOption}
 use Rattle.calls.specs.Represents.{GoodTable}
 use Rattle.cached_calls.specs.Cached.{hitEntry}
 use Rattle.cached_calls.specs.Shown.{answeredByHit}
-use Rattle.histories.specs.Calls.{Asked, plain, cached, invalidate, rights, Slices, slices, State, Call, calling, lentTo, lengthsOf, lentLengths}
+use Rattle.histories.specs.Calls.{Asked, plain, cached, invalidate, rights, Slices, slices, State, Call, calling, lentTo}
 use Rattle.histories.specs.Discipline.{Disciplined, filled}
 
 -- what is asked without the cache, by the length of what is lent as one: an access asks the table; where that length is refused, it stays as it is
@@ -22,9 +22,9 @@ plainly lent (cached c) = cond (eqb lent cacheSize) (plain (access c)) (cached c
 plainly lent (invalidate index) = invalidate index
 plainly lent (rights c answer) = rights c answer
 
--- the same call without the cache
-abbrev pub withoutCache : Slices ℕ → Call → Call
-withoutCache own c = record { asked = plainly (lentLengths own c .cache) (c .asked); other = c .other }
+-- the same call without the cache, by the length of the list's own cache
+abbrev pub withoutCache : ℕ → Call → Call
+withoutCache own c = record { asked = plainly (byOption (c .other .cache) own length) (c .asked); other = c .other }
 
 -- an answer as a call with the cache gives it: the entry number, its last word, is 8 where a hit answers
 unfoldable pub shown : Asked (List ℕ) → State → List ℕ → List ℕ
@@ -33,8 +33,8 @@ shown (cached c) lent answer = cond (answeredByHit c (lent .table) (lent .cache)
 shown (invalidate index) lent answer = answer
 shown (rights c told) lent answer = answer
 
--- the lengths of the list's own slices
-module _ (own : Slices ℕ) where
+-- the length of the list's own cache
+module _ (own : ℕ) where
   -- a call is alike in both lists: result, table, and answer but for the entry number of a hit
   pub record Alike (c : Call) (s u : State) : Type 0 where
     pub number : calling c s .number ≡ calling (withoutCache own c) u .number
@@ -55,7 +55,7 @@ noneWaits set = false
 
 pub record CacheInvisible : Type 0 where
   -- a disciplined list over any table of right length and any cache is alike, call by call, to the list without the cache
-  pub alike : (k : ℕ) (s : State) → GoodTable k (s .table) → (calls : List Call) → Disciplined calls s (filled (s .cache)) → AllAlike (lengthsOf s) calls s s
+  pub alike : (k : ℕ) (s : State) → GoodTable k (s .table) → (calls : List Call) → Disciplined calls s (filled (s .cache)) → AllAlike (length (s .cache)) calls s s
   -- so it is where the cache begins as zeros
   pub from-zeros : (k : ℕ) (table : List ℕ) → GoodTable k table → (calls : List Call) → let s = slices table zeroCache in
-      Disciplined calls s noneWaits → AllAlike (lengthsOf s) calls s s
+      Disciplined calls s noneWaits → AllAlike (length (s .cache)) calls s s

@@ -38,11 +38,11 @@ module _ (h : History) where
 
   -- what the map has of a page after them
   abbrev pub mappedTo : Page → Option PageFields
-  mappedTo page = fieldsAt samePage page mapAfter
+  mappedTo page = fieldsAt samePage page (mapAfter h)
 
   -- an arrangement of the mapped pages and a new one
   abbrev pub ArrangedWith : Page → Type 0
-  ArrangedWith page = Arranged (maskOnes (h .sdr1)) (page ∷ mappedPages mapAfter)
+  ArrangedWith page = Arranged (maskOnes (h .sdr1)) (page ∷ mappedPages (mapAfter h))
 
 -- a map under the history's SDR1, its arguments in range
 pub record MapInRange (h : History) (c : MapCall) : Type 0 where

@@ -80,7 +80,7 @@ answer-length c t kind = go (eqb number 0) (eqb number 11)
 
 module _ (c : RightsCall) (answer t : List ℕ) where
   -- the lengths of a call that is not refused for them
-  lengths-right : (rightsCall c answer t .0 ≡ 11 → ⊥) → (isPage (length (c .registers)) ≡ true) × (length answer ≡ 156)
+  pub lengths-right : (rightsCall c answer t .0 ≡ 11 → ⊥) → (isPage (length (c .registers)) ≡ true) × (length answer ≡ 156)
   lengths-right n =
       by-test (isPage (length (c .registers)) && eqb (length answer) 156)
       (λ e. let (page, long) = both _ _ e in (page, eqb-true (length answer) 156 long))

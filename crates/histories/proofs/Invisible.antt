@@ -131,7 +131,7 @@ length-lent none own = refl
 length-lent (some slice) own = refl
 
 -- a slice that the call leaves as it was lent
-left-lent : (o : Option (List ℕ)) (own : List ℕ) → leftFor o own (lentFor o own) ≡ own
+pub left-lent : (o : Option (List ℕ)) (own : List ℕ) → leftFor o own (lentFor o own) ≡ own
 left-lent none own = refl
 left-lent (some slice) own = refl
 

@@ -1,3 +1,8 @@
 -- Proofs of what is said of every list of calls.
 pub mod Stale
 pub mod Invisible
+pub mod Changes
+pub mod Pages
+pub mod Follows
+pub mod Rights
+pub mod Along

@@ -43,7 +43,7 @@ module _ (sdr1 : ℕ) (own : Slices ℕ) (shape : sdr1Shape sdr1 ≡ true) (long
   made asked o = record { asked = asked; other = o }
 
   -- a call under the SDR1 that is not refused 11 brings it
-  under-brings : (c : Call) → Under sdr1 own c → (request : Request (List ℕ)) → broughtIn (c .asked) ≡ some (sdr1In request)
+  pub under-brings : (c : Call) → Under sdr1 own c → (request : Request (List ℕ)) → broughtIn (c .asked) ≡ some (sdr1In request)
       → (refusal (fed request) (lentLengths own c .table) ≡ 0 → refusalOf (c .asked) (lentLengths own c) ≡ 11 → ⊥)
       → Brings sdr1 (own .table) shape long request (c .other .table)
   under-brings c (inl eleven) request is n e = absurd (n e eleven)

@@ -6,3 +6,5 @@ pub mod Pages
 pub mod Follows
 pub mod Rights
 pub mod Along
+pub mod Acts
+pub mod Standing

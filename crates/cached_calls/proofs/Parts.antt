@@ -74,7 +74,7 @@ module _ (k : ℕ) (c : AccessCall (List ℕ)) (t cache : List ℕ) (good : Good
   kind = c .kind
 
   -- a hit is backed, and a store is hit only where C is set
-  hit-backed : (page : Page) → InRange page → (words : ℕ × ℕ) → hit (storing kind) cache page ≡ some words
+  pub hit-backed : (page : Page) → InRange page → (words : ℕ × ℕ) → hit (storing kind) cache page ≡ some words
       → Backed k t page (words .0) (words .1) × (storing kind ≡ true → changed (words .1) ≡ true)
   hit-backed page valid words e =
       let (place, held, first, second, has-c) = hit-place (storing kind) cache page (words .0) (words .1) e in

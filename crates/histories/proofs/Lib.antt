@@ -8,3 +8,5 @@ pub mod Rights
 pub mod Along
 pub mod Acts
 pub mod Standing
+pub mod Theorem
+pub mod Corollaries

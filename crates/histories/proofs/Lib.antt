@@ -10,3 +10,6 @@ pub mod Acts
 pub mod Standing
 pub mod Theorem
 pub mod Corollaries
+pub mod Computes
+pub mod Rows
+pub mod Demands

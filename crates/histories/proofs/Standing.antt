@@ -44,7 +44,7 @@ use Rattle.histories.proofs.Along.{under-brings}
 
 -- ---- what a call does to the pages that are mapped
 
-pub does : Request ℕ → Act Page
+unfoldable pub does : Request ℕ → Act Page
 does (clear c) = empty
 does (mapPage c) = insert (c .page)
 does (unmap c) = delete (c .page)
@@ -199,7 +199,7 @@ module _ (sdr1 : ℕ) (own : Slices ℕ) (shape : sdr1Shape sdr1 ≡ true) (long
   abbrev pub Standing : List ℕ → List Page → Type 0
   Standing t l = (m : Map) × represents k t m × (mappedPages m ≡ l)
 
-  size-of : (t : List ℕ) (l : List Page) → Standing t l → length t ≡ own .table
+  pub size-of : (t : List ℕ) (l : List Page) → Standing t l → length t ≡ own .table
   size-of t l (m, r, pages) = size-is sdr1 (own .table) shape long t m r
 
   -- a part of an access with a cache marks its page's first match or nothing

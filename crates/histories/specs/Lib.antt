@@ -5,3 +5,5 @@ pub mod Discipline
 pub mod Histories
 pub mod Theorem
 pub mod Invisible
+pub mod Rows
+pub mod Demands

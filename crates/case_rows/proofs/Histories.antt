@@ -5,6 +5,7 @@ use mathlib.Core.Bool.{Bool, true, _&&_}
 use mathlib.Core.List.{List, [], _∷_, map}
 use mathlib.Core.Logic.{inr}
 use mathlib.Core.Option.{Option·some-inj, Option·some-ne-none}
+use native.Mathlib.Omega.{arith}
 use lib.Dec.{eqb}
 use lib.ListN.{length, replicate}
 use borrow.Author.Tests.{eqb-true}
@@ -12,19 +13,18 @@ use Rattle.words.proofs.Tests.{both}
 use Rattle.register_words.specs.Sdr1.{tableLength}
 use Rattle.register_words.proofs.Sdr1.{made-length, made-shape}
 use Rattle.tables.specs.Runs.{run, Each}
-use Rattle.calls.specs.Made.{toClear}
 use Rattle.calls.specs.Request.{Request, sdr1In, fed}
 use Rattle.calls.specs.Answers.{seenOf}
 use Rattle.calls.specs.OnBytes.{Ended, ended}
 use Rattle.calls.specs.OnMap.{Map, onMap}
 use Rattle.calls.specs.FirstClear.{clearing, sdr1With}
 use Rattle.calls.proofs.FirstClear.{clear-is}
-use Rattle.histories.specs.Calls.{Slices, slices, State, onLent, calling, broughtIn}
+use Rattle.histories.specs.Calls.{Slices, slices, State, onLent, calling, broughtIn, Under}
 use Rattle.histories.specs.Fed.{fedAsked, fedOf, mapCalling, seenIn, bytesStep, mapStep}
 use Rattle.histories.specs.Discipline.{Disciplined}
-use Rattle.histories.specs.Histories.{Under, History}
+use Rattle.histories.specs.Histories.{History}
 use Rattle.histories.proofs.Theorem.{table-refines-map}
-use Rattle.case_rows.specs.Cases.{onTable, result, answered, Holds}
+use Rattle.case_rows.specs.Cases.{onTable, answered, Holds}
 
 -- each request of a list brings the SDR1
 abbrev pub allBring : ℕ → List (Request (List ℕ)) → Bool
@@ -35,8 +35,7 @@ all-under : (sdr1 : ℕ) (own : Slices ℕ) (requests : List (Request (List ℕ)
 unfolding broughtIn
 all-under sdr1 own [] e = tt
 all-under sdr1 own (request ∷ requests) e =
-    let (first, rest) = both (eqb (sdr1In request) sdr1) (allBring sdr1 requests) e in
-    (
+    let (first, rest) = both (eqb (sdr1In request) sdr1) (allBring sdr1 requests) e in (
       inr (λ brought is. (sym (Option·some-inj .0 is) ∙ eqb-true (sdr1In request) sdr1 first, λ other lent. absurd (Option·some-ne-none other (sym lent)))),
       all-under sdr1 own requests rest,
     )
@@ -44,7 +43,7 @@ all-under sdr1 own (request ∷ requests) e =
 -- no access goes by the cache, so its discipline is kept
 all-kept : (requests : List (Request (List ℕ))) (s : State) (waiting : ℕ → Bool) → Disciplined (map onTable requests) s waiting
 all-kept [] s waiting = tt
-all-kept (request ∷ requests) s waiting = (tt, all-kept requests (calling (onTable request) s .state) _)
+all-kept (request ∷ requests) s waiting = (λ a is. absurd (let z : _≡_ {A = ℕ} 0 1 = cc in omega arith), all-kept requests (calling (onTable request) s .state) _)
 
 -- what the finite map answers to calls that follow a clear; they are lent no cache, so its length does not count
 abbrev pub mapAnswers : ℕ → List (Request (List ℕ)) → List (ℕ × List ℕ)

@@ -16,8 +16,9 @@ use Rattle.calls.specs.Request.{Request}
 use Rattle.calls.specs.Made.{toClear, toMap, toUnmap, toLook, toAccess}
 use Rattle.calls.specs.WithoutTable.{checkCall}
 use Rattle.calls.specs.OnBytes.{onBytes}
-use Rattle.histories.specs.Calls.{Slices, State, Call, ownCall, plain}
+use Rattle.histories.specs.Calls.{Slices, State, Call, plain}
 use Rattle.histories.specs.Fed.{bytesStep}
+use Rattle.histories.specs.Histories.{ownCall}
 
 -- ---- rows, and when they hold
 

@@ -1,6 +1,6 @@
 -- The four acts on the list of mapped pages, over any pages and groups: to leave it, to empty it, to insert a page where an arrangement exists with it,
 -- and to delete one.
-use mathlib.Core.Bool.{Bool, true, false, not, cond, _||_}
+use mathlib.Core.Bool.{Bool, false, not, cond, _||_}
 use mathlib.Core.List.{List, [], _∷_}
 use mathlib.Core.Logic.{ite}
 use Prim.Native.Nat.{ℕ}

@@ -2,33 +2,31 @@
 -- answers: first for the call without the cache, then for the call itself, then for every list.
 use Prim.Native.Nat.{ℕ}
 use mathlib.Core.Path.{_≡_, refl, sym, ap, ap₂, _∙_, subst}
-use mathlib.Core.Bool.{Bool, true, false, cond}
+use mathlib.Core.Bool.{Bool, true}
 use mathlib.Core.List.{List, [], _∷_, _++_, map}
 use mathlib.Core.Logic.{inl, inr}
-use mathlib.Core.Option.{Option, none, some}
+use mathlib.Core.Option.{Option, some}
 use native.Mathlib.Omega.{arith}
 use lib.Dec.{eqb}
 use lib.ListN.{length}
-use borrow.Author.Tests.{eqb-true, eqb-false, eq-eqb, ne-eqb}
+use borrow.Author.Tests.{eqb-true, eqb-false}
 use Rattle.words.proofs.Tests.{by-test}
 use Rattle.register_words.specs.Sdr1.{sdr1Shape, tableLength, maskOnes}
-use Rattle.registers.specs.Set.{isPage}
 use Rattle.tables.specs.Runs.{run, after, Each}
 use Rattle.calls.specs.Request.{AccessCall, Request, access, sdr1In, fed}
-use Rattle.calls.specs.Rules.{rules, refusal}
+use Rattle.calls.specs.Rules.{refusal}
 use Rattle.calls.specs.Answers.{answerRefused, refusedBytes, seenOf, compared}
-use Rattle.calls.specs.OnBytes.{Ended, ended, byOption, onBytes}
-use Rattle.calls.specs.OnMap.{Map, onMap}
+use Rattle.calls.specs.OnBytes.{Ended, byOption}
+use Rattle.calls.specs.OnMap.{Map}
 use Rattle.calls.specs.Represents.{represents}
 use Rattle.calls.proofs.Histories.{size-is}
-use Rattle.cached_calls.specs.Cached.{cachedRefusal, onCached, invalidateRefusal, invalidateCall}
+use Rattle.cached_calls.specs.Cached.{invalidateCall}
 use Rattle.cached_calls.proofs.Refusals.{right-refusal, wrong-refusal, cached-refused}
 use Rattle.access_rights.specs.Rights.{RightsCall, asking, rightsRefusal, rightsCall}
 use Rattle.access_rights.proofs.Stated.{lengths-right}
-use Rattle.histories.specs.Calls.{Asked, plain, cached, invalidate, rights, Slices, slices, Call, State, onLent, lentFor, leftFor, calling, lengthsOf, lentLengths, refusalOf, broughtIn}
+use Rattle.histories.specs.Calls.{Asked, plain, cached, invalidate, rights, Slices, slices, Call, State, onLent, lentFor, calling, lengthsOf, lentLengths, refusalOf, broughtIn, Under}
 use Rattle.histories.specs.Fed.{fedAsked, fedOf, mapCalling, seenIn, bytesStep, mapStep}
-use Rattle.histories.specs.Discipline.{isOwn, waitingAfter, Invalidated, Disciplined}
-use Rattle.histories.specs.Histories.{Under}
+use Rattle.histories.specs.Discipline.{waitingAfter, Invalidated, Disciplined}
 use Rattle.histories.specs.Invisible.{plainly, withoutCache}
 use Rattle.histories.proofs.Invisible.{Sound, Goes, goes, length-left, length-lent, left-lent}
 use Rattle.histories.proofs.Follows.{Brings, TableFollows, table-follows}
@@ -107,9 +105,11 @@ module _ (sdr1 : ℕ) (own : Slices ℕ) (shape : sdr1Shape sdr1 ≡ true) (long
         (by-test (eqb number 11) (λ z. rw z (refl, r))
         (λ z.
         let page = lengths-right c answer table (λ e. eqb-false number 11 z (ap (rightsRefusal c (length answer)) (sym is) ∙ e)) .0 in
-        rw z
-        (ap (λ (seen : List ℕ). (number, seen)) (rights-seen sdr1 (own .table) shape long c page m (o .table) t r
-        (λ kind. under-brings (made (rights c answer) o) under (access (asking c kind)) refl (λ zero eleven. eqb-false number 11 z eleven)) answer), r)))
+        rw z (
+          ap (λ (seen : List ℕ). (number, seen)) (rights-seen sdr1 (own .table) shape long c page m (o .table) t r
+              (λ kind. under-brings (made (rights c answer) o) under (access (asking c kind)) refl (λ zero eleven. eqb-false number 11 z eleven)) answer),
+          r,
+        )))
 
     pub follows : (asked : Asked (List ℕ)) → Under sdr1 own (made asked o) → FollowsMap (made asked o) t other m
     follows (plain request) under = plain-follows request under
@@ -131,14 +131,14 @@ module _ (sdr1 : ℕ) (own : Slices ℕ) (shape : sdr1Shape sdr1 ≡ true) (long
     tells = mapCalling (fedAsked (c .asked)) (lentLengths own c) m
 
     abbrev pub waitingBehind : (ℕ → Bool) → ℕ → Bool
-    waitingBehind waiting = waitingAfter (c .asked) (isOwn (c .other .cache)) (eqb (calling c s .number) 0) waiting
+    waitingBehind waiting = waitingAfter (c .asked) (c .other .cache) (eqb (calling c s .number) 0) waiting
 
     pub record Steps (waiting : ℕ → Bool) : Type 0 where
       pub told : bytesStep c s .0 ≡ mapStep (fedOf own c) m .0
       pub number : calling c s .number ≡ tells .number
       pub linked : Linked (calling c s .state) (tells .state) (waitingBehind waiting)
 
-    pub steps : Under sdr1 own c → (waiting : ℕ → Bool) → Linked s m waiting → Invalidated (c .asked) (c .other) (lentLengths (lengthsOf s) c) waiting → Steps waiting
+    pub steps : Under sdr1 own c → (waiting : ℕ → Bool) → Linked s m waiting → Invalidated c (lentLengths (lengthsOf s) c) waiting → Steps waiting
     unfolding bytesStep mapStep
     steps under waiting l quiet =
         let g : Goes (own .cache) k c (s .table) (s .cache) (s .cache) waiting

@@ -2,9 +2,9 @@
 -- without the cache, gives the frame and the attributes of its last done map. Both are shown on the finite map, call by call, and carried to the bytes.
 use Prim.Native.Nat.{ℕ, _+_, _^_, _<_}
 use mathlib.Core.Path.{_≡_, refl, sym, ap, ap₂, _∙_, subst}
-use mathlib.Core.Bool.{Bool, true, false, cond, _&&_, true≢false}
+use mathlib.Core.Bool.{Bool, true, false, cond, _&&_}
 use mathlib.Core.List.{List, [], _∷_, _++_, map, append-assoc, cons≢nil}
-use mathlib.Core.Option.{Option, none, some}
+use mathlib.Core.Option.{none, some}
 use native.Mathlib.Omega.{arith}
 use lib.Dec.{eqb}
 use lib.ListN.{length}
@@ -20,7 +20,7 @@ use Rattle.entry.proofs.Packing.{SecondFields, second-packed}
 use Rattle.entry.proofs.Addresses.{physical-lt, physical-fields}
 use Rattle.groups.specs.Page.{Page, samePage}
 use Rattle.tables.specs.Runs.{after, Each}
-use Rattle.tables.proofs.Runs.{each-append, after-append}
+use Rattle.tables.proofs.Runs.{each-append}
 use Rattle.tables.proofs.Represented.{unmapped-matches}
 use Rattle.protection.specs.Access.{fetching, storing}
 use Rattle.protection.specs.Protection.{pageAllows, guarded}
@@ -32,23 +32,20 @@ use Rattle.translation.specs.declared.Answer.{Answer}
 use Rattle.translation.specs.declared.decision.Decision.{Decision}
 use Rattle.translation.specs.declared.operand.OperandAnswer.{OperandAnswer}
 use Rattle.translation.specs.declared.Wanted.{Wanted}
-use Rattle.translation.specs.declared.Early.{Early}
 use Rattle.translation.specs.declared.Early.the-variants.{Search}
-use Rattle.translation.specs.declared.Outcome.{Outcome}
 use Rattle.translation.specs.declared.Outcome.the-variants.{NoMatch, Guarded, Protection, Done}
 use Rattle.translation.specs.declared.Searched.{Searched}
 use Rattle.translation.specs.declared.Searched.the-variants.{Nothing, At}
 use Rattle.translation.proofs.Steps.{after-nothing, after-at, outcome-searched}
-use Rattle.translation.proofs.Parts.{first-stops, second-stops, one-done, both-done, parts-done, operand-same}
+use Rattle.translation.proofs.Parts.{first-stops, second-stops, one-done, both-done, parts-done}
 use Rattle.cache.specs.Cache.{setOf, hit}
 use Rattle.cache.proofs.Cache.{set-lt}
 use Rattle.calls.specs.Made.{fedAccess}
-use Rattle.calls.specs.Request.{MapCall, AccessCall, Request, mapPage, access, fed, sdr1In}
-use Rattle.calls.specs.Rules.{refusal}
+use Rattle.calls.specs.Request.{MapCall, AccessCall, Request, mapPage, access, fed}
 use Rattle.calls.specs.Answers.{accessAnswer}
-use Rattle.calls.specs.OnBytes.{Ended, byOption, startOf, earlyOf, partAnswer, usedBy, partDecision, wantedPage, searchIn, firstPlaceIn, bytesDo, onBytes}
+use Rattle.calls.specs.OnBytes.{Ended, startOf, earlyOf, partAnswer, usedBy, partDecision, wantedPage, searchIn, firstPlaceIn, bytesDo, onBytes}
 use Rattle.calls.specs.OnMap.{PageFields, Map, fieldsWord, foundIn, onMap}
-use Rattle.calls.specs.Represents.{FieldsInRange, represents, GoodTable}
+use Rattle.calls.specs.Represents.{FieldsInRange, represents}
 use Rattle.calls.proofs.Fields.{oneIf-lt}
 use Rattle.calls.proofs.Access.{fault-number, wanted-valid}
 use Rattle.calls.proofs.TableLaws.{layout-laws}
@@ -57,17 +54,17 @@ use Rattle.calls.proofs.Step.{outcome-same, part-same}
 use Rattle.cached_calls.specs.Cached.{cachedSearch, cachedPlace, cachedDoes, cachedRefusal, onCached}
 use Rattle.cached_calls.specs.Shown.{isHit}
 use Rattle.cached_calls.proofs.Found.{by-cases}
-use Rattle.cached_calls.proofs.Refusals.{right-refusal, wrong-refusal, cached-taken}
+use Rattle.cached_calls.proofs.Refusals.{cached-taken}
 use Rattle.cached_calls.proofs.Parts as cached-parts
 use Rattle.cached_calls.proofs.Parts.{AllBacked}
-use Rattle.histories.specs.Calls.{Asked, plain, cached, invalidate, rights, Slices, Call, ownCall, State, onLent, calling, lentLengths, lengthsOf, refusalOf}
+use Rattle.histories.specs.Calls.{Asked, plain, cached, invalidate, rights, Slices, Call, State, onLent, calling, lentLengths, refusalOf, Under}
 use Rattle.histories.specs.Fed.{fedAsked, fedOf, mapCalling, bytesStep, mapStep}
 use Rattle.histories.specs.Discipline.{Disciplined, filled}
-use Rattle.histories.specs.Histories.{Under, History, own, begun, stateAfter, mapAfter, next}
+use Rattle.histories.specs.Histories.{ownCall, History, own, begun, stateAfter, mapAfter, next}
 use Rattle.histories.specs.Theorem.{mappedTo, Maps, by-map, TakesOut, by-clear, by-unmap, NoneDone, DoneSince, Accesses, by-table, with-cache, Reaches, answeredAfter, addressByte, attributesByte, AccessFollowsHistory}
 use Rattle.histories.proofs.Changes.{changed}
 use Rattle.histories.proofs.Pages.{Has, stays-out, stays-in, maps-fed, takes-fed, fed-takes, taken-out, put-in}
-use Rattle.histories.proofs.Along.{Linked, Goes-along, along, Steps, steps, tells, waitingBehind}
+use Rattle.histories.proofs.Along.{Linked, Goes-along, along, Steps, steps, tells}
 use Rattle.histories.proofs.Theorem.{ones, fits, begins, all-along}
 
 -- ---- a page along a list of calls
@@ -410,7 +407,7 @@ module _ (h : History) (c : AccessCall (List ℕ)) (second : Bool) (page : Page)
   unfolding refusalOf
   backed p v b held =
       let g = all h (cached c) c second page reaches in
-      let (own-table, own-cache, none-waits) = g .kept .0 zero in
+      let (own-table, own-cache, none-waits) = g .kept .0 c refl zero in
       g .linked .sound .backed p v b (none-waits (setOf (p .index)) (set-lt (p .index))) held
 
   does : onCached c (t, d) ≡ cachedDoes (ones h) c (t, d)

@@ -1,16 +1,15 @@
 -- Nobody can tell a disciplined list of calls from the same list without the cache: along the list every place of a set that does not wait for an
 -- invalidate is backed by the table, each call keeps this, and an access with such a cache is alike.
-use Prim.Native.Nat.{ℕ, _+_, _*_, _-_, _^_, _<_, _≤_}
+use Prim.Native.Nat.{ℕ, _+_, _*_, _-_, _^_, _<_}
 use mathlib.Core.Path.{_≡_, refl, sym, ap, _∙_, subst}
 use mathlib.Core.Bool.{Bool, true, false, not, cond, _&&_, _||_, true≢false}
 use mathlib.Core.List.{List, [], _∷_}
-use mathlib.Core.Option.{Option, none, some}
+use mathlib.Core.Option.{Option, none, some, Option·some-ne-none}
 use native.Mathlib.Omega.{arith}
 use lib.Dec.{eqb}
-use lib.ListN.{length, getD, replicate}
+use lib.ListN.{length, getD}
 use borrow.Author.Tests.{eqb-true, eqb-false, eq-eqb, ne-eqb}
 use lib.Ieee.{size}
-use Rattle.words.specs.Below.{everyBelow}
 use Rattle.words.specs.Words.{wordAt}
 use Rattle.words.proofs.Below.{every-not}
 use Rattle.words.proofs.Ones.{size-ones}
@@ -21,12 +20,12 @@ use Rattle.tables.specs.Layout.{matchesOf}
 use Rattle.translation.specs.Operand.{overEdge}
 use Rattle.translation.specs.declared.Early.{Early}
 use Rattle.translation.specs.declared.Early.the-variants.{Decided, Search}
-use Rattle.cache.specs.Cache.{setOf, placeAt, firstIn, secondIn, holds, loaded, setZeroed}
+use Rattle.cache.specs.Cache.{setOf, placeAt, firstIn, secondIn, holds, setZeroed}
 use Rattle.cache.proofs.Cache.{holds-zeros, length-loaded, length-zeroed, zeroed-holds, set-lt}
 use Rattle.calls.specs.Request.{AccessCall, Request, access, sdr1In, fed}
 use Rattle.calls.specs.Rules.{refusal}
-use Rattle.calls.specs.Answers.{refusedBytes, answerRefused, withoutPlace, seenOf, compared}
-use Rattle.calls.specs.OnBytes.{Ended, ended, byOption, layout, wantedPage, earlyOf, bytesDo, onBytes}
+use Rattle.calls.specs.Answers.{refusedBytes, answerRefused, seenOf, compared}
+use Rattle.calls.specs.OnBytes.{byOption, layout, wantedPage, earlyOf, bytesDo, onBytes}
 use Rattle.calls.specs.Represents.{GoodTable}
 use Rattle.calls.proofs.OnBytes.{taken, refused}
 use Rattle.calls.proofs.AnyEntries.{by-matches}
@@ -37,9 +36,9 @@ use Rattle.cached_calls.proofs.AnyCache.{by-refusal}
 use Rattle.cached_calls.proofs.Backed.{Backed}
 use Rattle.cached_calls.proofs.Refusals.{right-refusal, wrong-refusal, cached-taken, cached-refused}
 use Rattle.cached_calls.proofs.Parts.{AllBacked, result-same, answer-same, compared-alike, whole-left, Midway}
-use Rattle.histories.specs.Calls.{Asked, plain, cached, invalidate, rights, Slices, slices, Call, State, onLent, lentFor, leftFor, lentTo, calling, lengthsOf, lentLengths, refusalOf}
+use Rattle.histories.specs.Calls.{Asked, plain, cached, invalidate, rights, Slices, slices, Call, State, onLent, lentFor, leftFor, calling, lentLengths, refusalOf}
 use Rattle.histories.specs.Fed.{seenIn}
-use Rattle.histories.specs.Discipline.{leavesStale, isOwn, waitingAfter, Invalidated, Disciplined, filled}
+use Rattle.histories.specs.Discipline.{leavesStale, waitingAfter, Invalidated, Disciplined, filled}
 use Rattle.histories.specs.Invisible.{plainly, withoutCache, shown, Alike, AllAlike, zeroCache, noneWaits, CacheInvisible}
 use Rattle.histories.proofs.Stale.{Keeps, keeps}
 
@@ -146,7 +145,7 @@ pub record Goes (own k : ℕ) (c : Call) (t cache other : List ℕ) (waiting : �
   pub told : let e = calling c (slices t cache) in let d = calling (withoutCache own c) (slices t other) in
       compared (seenIn (c .asked)) (e .number) (e .answer) ≡ compared (seenIn (withoutCache own c .asked)) (d .number) (d .answer)
   pub sound : let e = calling c (slices t cache) in
-      Sound k (e .state .table) (e .state .cache) (waitingAfter (c .asked) (isOwn (c .other .cache)) (eqb (e .number) 0) waiting)
+      Sound k (e .state .table) (e .state .cache) (waitingAfter (c .asked) (c .other .cache) (eqb (e .number) 0) waiting)
 
 module _ (k : ℕ) (t cache other : List ℕ) (waiting : ℕ → Bool) (s : Sound k t cache waiting) (same : length other ≡ length cache) where
   abbrev own : Slices ℕ
@@ -293,7 +292,7 @@ module _ (k : ℕ) (t cache other : List ℕ) (waiting : ℕ → Bool) (s : Soun
           tested : (b : Bool) → eqb (length lentCache) 2048 ≡ b → eqb (byOption (o .cache) (length cache) length) 2048 ≡ b
           tested b z = ap (λ (n : ℕ). eqb n 2048) (sym (length-lent (o .cache) cache)) ∙ z
 
-    cached-goes : (o : Slices (Option (List ℕ))) → Invalidated asks o (lentLengths own (record { asked = asks; other = o })) waiting → Going asks o
+    cached-goes : (o : Slices (Option (List ℕ))) → Invalidated (record { asked = asks; other = o }) (lentLengths own (record { asked = asks; other = o })) waiting → Going asks o
     unfolding refusalOf
     cached-goes o quiet =
         let lent : cachedRefusal c (length (lentTable o)) (length (lentCache o)) ≡ cachedRefusal c (byOption (o .table) (length t) length) (byOption (o .cache) (length cache) length)
@@ -301,15 +300,15 @@ module _ (k : ℕ) (t cache other : List ℕ) (waiting : ℕ → Bool) (s : Soun
         by-test (eqb (cachedRefusal c (length (lentTable o)) (length (lentCache o))) 0)
         (λ z.
         let zero = eqb-true (cachedRefusal c (length (lentTable o)) (length (lentCache o))) 0 z in
-        let (own-table, own-cache, none-waits) = quiet (sym lent ∙ zero) in
+        let (own-table, own-cache, none-waits) = quiet c refl (sym lent ∙ zero) in
         go (o .table) (o .cache) own-table own-cache zero none-waits)
         (λ z. refused-goes o (eqb-false (cachedRefusal c (length (lentTable o)) (length (lentCache o))) 0 z))
       where
-        go : (x y : Option (List ℕ)) → isOwn x ≡ true → isOwn y ≡ true → cachedRefusal c (length (lentFor x t)) (length (lentFor y cache)) ≡ 0
+        go : (x y : Option (List ℕ)) → x ≡ none → y ≡ none → cachedRefusal c (length (lentFor x t)) (length (lentFor y cache)) ≡ 0
             → ((set : ℕ) → set < 64 → waiting set ≡ false) → Going asks (slices x y)
         go none none a b zero none-waits = done-goes zero none-waits
-        go (some slice) y a b zero none-waits = absurd (true≢false (sym a))
-        go none (some slice) a b zero none-waits = absurd (true≢false (sym b))
+        go (some slice) y a b zero none-waits = absurd (Option·some-ne-none slice a)
+        go none (some slice) a b zero none-waits = absurd (Option·some-ne-none slice b)
 
   -- ---- an invalidate, and what three accesses would come to
 
@@ -367,7 +366,7 @@ module _ (k : ℕ) (t cache other : List ℕ) (waiting : ℕ → Bool) (s : Soun
 
   -- ---- any call
 
-  pub goes : (asked : Asked (List ℕ)) (o : Slices (Option (List ℕ))) → Invalidated asked o (lentLengths own (record { asked = asked; other = o })) waiting → Going asked o
+  pub goes : (asked : Asked (List ℕ)) (o : Slices (Option (List ℕ))) → Invalidated (record { asked = asked; other = o }) (lentLengths own (record { asked = asked; other = o })) waiting → Going asked o
   unfolding calling onLent plainly shown
   goes (plain request) o quiet = plain-goes request o
   goes (cached c) o quiet = cached-goes c o quiet

@@ -1,13 +1,12 @@
 -- What three accesses would come to on a table that represents a map is what the map tells of them: each answer but for its place, and the marks.
-use Prim.Native.Nat.{ℕ, _+_}
+use Prim.Native.Nat.{ℕ}
 use mathlib.Core.Path.{_≡_, refl, sym, ap, _∙_}
-use mathlib.Core.Bool.{Bool, true, false, cond, true≢false}
+use mathlib.Core.Bool.{true, false, cond, true≢false}
 use mathlib.Core.List.{List, [], _∷_, _++_, map}
 use mathlib.Core.Option.{Option, none, some}
-use native.Mathlib.Omega.{arith}
 use lib.Dec.{eqb}
-use lib.ListN.{length, drop}
-use borrow.Author.Tests.{eqb-true, eqb-false, eq-eqb, ne-eqb}
+use lib.ListN.{length}
+use borrow.Author.Tests.{eqb-true, eqb-false, ne-eqb}
 use Rattle.words.specs.Words.{wordBytes, bytesOf}
 use Rattle.words.proofs.Tests.{by-test}
 use Rattle.placement.specs.FiniteMap.{fieldsAt}
@@ -18,14 +17,14 @@ use Rattle.groups.specs.Page.{samePage}
 use Rattle.tables.specs.Matches.{Match}
 use Rattle.tables.specs.Represents.{wordsOf}
 use Rattle.protection.specs.Access.{storing}
-use Rattle.translation.specs.Steps.{outcomeOf, afterSearch, answerOf}
-use Rattle.translation.specs.declared.Early.the-variants.{Decided, Search}
+use Rattle.translation.specs.Steps.{outcomeOf}
+use Rattle.translation.specs.declared.Early.the-variants.{Search}
 use Rattle.translation.specs.declared.Wanted.{Wanted}
 use Rattle.translation.proofs.Parts.{parts-done}
 use Rattle.calls.specs.Request.{access, fed, sdr1In}
 use Rattle.calls.specs.Rules.{refusal}
-use Rattle.calls.specs.Answers.{accessAnswer, refusedBytes, answerRefused, withoutPlace, seenOf, compared}
-use Rattle.calls.specs.OnBytes.{Ended, ended, byOption, startOf, earlyOf, partAnswer, partDecision, wantedPage, searchIn, firstPlaceIn, bytesDo, onBytes}
+use Rattle.calls.specs.Answers.{accessAnswer, refusedBytes, answerRefused, withoutPlace, seenOf}
+use Rattle.calls.specs.OnBytes.{Ended, byOption, startOf, earlyOf, partAnswer, partDecision, wantedPage, bytesDo}
 use Rattle.calls.specs.OnMap.{PageFields, Map, fieldsWord, foundIn, mapDoes, onMap}
 use Rattle.calls.specs.Represents.{represents}
 use Rattle.calls.proofs.Access.{by-early, then-not-11}
@@ -35,7 +34,6 @@ use Rattle.calls.proofs.OnBytes.{taken, refused}
 use Rattle.calls.proofs.Refusals.{refusals-leave, whole-fits}
 use Rattle.cached_calls.proofs.Found.{by-cases, done-at}
 use Rattle.access_rights.specs.Rights.{RightsCall, asking, wouldEnd, newMarks, threeTold, rightsTold}
-use Rattle.access_rights.specs.Stated.{answerTold}
 use Rattle.access_rights.proofs.Marks.{unchanged-none}
 use Rattle.access_rights.proofs.Shared.{own-rules}
 use Rattle.access_rights.proofs.Words.{lacking, lacking-fields}
@@ -44,7 +42,7 @@ use Rattle.access_rights.proofs.Stated.{first-part, second-part, third-part, re
 use Rattle.histories.specs.Calls.{rights, lentFor}
 use Rattle.histories.specs.Fed.{lackedBy, lackedAt, rightsOnMap, seenIn}
 use Rattle.histories.proofs.Pages.{done-taken, done-does}
-use Rattle.histories.proofs.Follows.{ones, Brings, TableFollows, table-follows}
+use Rattle.histories.proofs.Follows.{Brings, TableFollows, table-follows}
 
 -- what is seen of three answers of 48 bytes and the marks behind them
 abbrev joined : (ℕ → List ℕ) → (ℕ → ℕ) → List ℕ

@@ -1,16 +1,15 @@
 -- A call that is lent no cache keeps every place of the cache backed but those of the sets that it leaves to be invalidated: another page's matches are
 -- as before, a page that is mapped anew had no match, and a mark keeps an entry backed.
-use Prim.Native.Nat.{ℕ, _+_, _^_, _<_}
-use mathlib.Core.Path.{_≡_, refl, sym, ap, ap₂, _∙_, subst}
-use mathlib.Core.Bool.{Bool, true, false, cond, _&&_, true≢false}
-use mathlib.Core.List.{List, [], _∷_, cons≢nil}
+use Prim.Native.Nat.{ℕ, _^_, _<_}
+use mathlib.Core.Path.{_≡_, refl, sym, ap, _∙_}
+use mathlib.Core.Bool.{Bool, true, false, _&&_, true≢false}
+use mathlib.Core.List.{List, cons≢nil}
 use mathlib.Core.Logic.{inl, inr}
-use mathlib.Core.Option.{Option, none, some}
 use lib.Dec.{eqb, lit<}
-use lib.ListN.{length, replicate}
+use lib.ListN.{length}
 use borrow.Author.Tests.{eq-eqb}
 use Rattle.words.proofs.Tests.{by-test}
-use Rattle.entry.specs.Entry.{apiOf, secondWord, withPP}
+use Rattle.entry.specs.Entry.{secondWord, withPP}
 use Rattle.entry.proofs.Marks.{withPP-lt}
 use Rattle.entry.proofs.Matches.{free-zero}
 use Rattle.entry.proofs.Packing.{second-lt}
@@ -25,7 +24,6 @@ use Rattle.tables.proofs.Places.{freePlace-some}
 use Rattle.tables.proofs.Overwrites.{OwnWord, put-other-page}
 use Rattle.tables.proofs.Edits.{each-edited, edited-other}
 use Rattle.translation.specs.Operand.{overEdge}
-use Rattle.translation.specs.declared.Early.the-variants.{Search}
 use Rattle.cache.specs.Cache.{setOf}
 use Rattle.calls.specs.Made.{fedAnswered}
 use Rattle.calls.specs.Request.{ClearCall, MapCall, ProtectCall, AnsweredCall, AccessCall, Request, clear, mapPage, unmap, protect, look, access, fed}

@@ -1,7 +1,7 @@
 -- Which pages are mapped goes by the calls' arguments alone: a call does to the list of mapped pages one of four acts, on the finite map and on a table that
 -- represents some map with these pages. Marks do not count, so nothing is asked of the cache.
 use Prim.Native.Nat.{ℕ, _+_}
-use mathlib.Core.Path.{_≡_, refl, sym, ap, _∙_, subst}
+use mathlib.Core.Path.{_≡_, refl, sym, ap, _∙_}
 use mathlib.Core.Bool.{Bool, true, false, not, cond, _||_, true≢false}
 use mathlib.Core.List.{List, [], _∷_, map}
 use mathlib.Core.Logic.{ite, inl, inr}
@@ -26,17 +26,15 @@ use Rattle.calls.specs.Request.{AccessCall, Request, clear, mapPage, unmap, pro
 use Rattle.calls.specs.Made.{fedAccess}
 use Rattle.calls.specs.Rules.{refusal}
 use Rattle.calls.specs.Answers.{wordAnswer}
-use Rattle.calls.specs.OnBytes.{Ended, ended, byOption, wholeAnswer, earlyOf, wantedPage, onBytes}
+use Rattle.calls.specs.OnBytes.{ended, byOption, wholeAnswer, earlyOf, wantedPage, onBytes}
 use Rattle.calls.specs.OnMap.{PageFields, Map, markFields, protectFields, fieldsWord, Arranged, arranged?, foundIn, mapMarked, mapDoes, onMap}
 use Rattle.calls.specs.Represents.{represents}
 use Rattle.calls.proofs.Histories.{map-taken, map-refused, sdr1-fed, size-is}
 use Rattle.calls.proofs.Step.{part-marks}
 use Rattle.cached_calls.specs.Cached.{cachedSearch, cachedPlace, missed, taken, takenPart, cachedDoes, cachedRefusal, onCached}
 use Rattle.cached_calls.proofs.AnyCache.{by-refusal}
-use Rattle.cached_calls.proofs.Refusals.{right-refusal, wrong-refusal}
-use Rattle.histories.specs.Calls.{Asked, plain, cached, invalidate, rights, Slices, slices, Call, State, onLent, lentFor, leftFor, calling, lentLengths, refusalOf, broughtIn}
+use Rattle.histories.specs.Calls.{Asked, plain, cached, invalidate, rights, Slices, slices, Call, State, onLent, lentFor, leftFor, calling, lentLengths, refusalOf, broughtIn, Under}
 use Rattle.histories.specs.Fed.{fedAsked, fedOf, mapCalling, bytesStep, mapStep}
-use Rattle.histories.specs.Histories.{Under}
 use Rattle.histories.proofs.Acts.{Act, leave, empty, insert, delete, has, act, acts}
 use Rattle.histories.proofs.Invisible.{length-left, length-lent, left-lent}
 use Rattle.histories.proofs.Follows.{table-follows}
@@ -234,8 +232,7 @@ module _ (sdr1 : ℕ) (own : Slices ℕ) (shape : sdr1Shape sdr1 ≡ true) (long
         let (m, r, pages) = s in
         let lent = byOption (o .table) (own .table) length in
         let brings = under-brings sdr1 own shape long (record { asked = plain request; other = o }) under request refl
-        (λ zero eleven. let z : _≡_ {A = ℕ} 0 11 = sym zero ∙ eleven in omega arith) in
-        (
+        (λ zero eleven. let z : _≡_ {A = ℕ} 0 11 = sym zero ∙ eleven in omega arith) in (
           onMap (fed request) lent m .state,
           table-follows sdr1 (own .table) shape long request (o .table) t m r brings .related,
           request-pages request lent m (λ e. brings e .0) ∙ ap (acting k (actIn (plain request) lent)) pages,

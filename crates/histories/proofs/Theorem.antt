@@ -2,17 +2,17 @@
 -- goes by which pages are mapped alone.
 use Prim.Native.Nat.{ℕ, _<_}
 use mathlib.Core.Path.{_≡_, refl, sym, ap, _∙_, subst}
-use mathlib.Core.Bool.{Bool, true, false, true≢false}
+use mathlib.Core.Bool.{true, false, true≢false}
 use mathlib.Core.List.{List, [], _∷_, _++_, append-nil}
 use mathlib.Core.Logic.{ite, if-pos, if-neg, inr}
 use mathlib.Core.Option.{Option, none, some, Option·some-inj, Option·some-ne-none}
+use native.Mathlib.Omega.{arith}
 use lib.ListN.{length}
 use Rattle.placement.specs.FiniteMap.{fieldsAt, putIn, mappedPages}
 use Rattle.register_words.specs.Sdr1.{originOf, maskOnes}
-use Rattle.tables.specs.Runs.{run, after, Each}
 use Rattle.groups.specs.Page.{Page, InRange, samePage}
 use Rattle.calls.specs.Made.{fedAnswered}
-use Rattle.calls.specs.Request.{MapCall, AnsweredCall, ProtectCall, Request, mapPage, unmap, protect, look, access, fed, sdr1In}
+use Rattle.calls.specs.Request.{MapCall, AnsweredCall, ProtectCall, Request, mapPage, unmap, protect, look, fed, sdr1In}
 use Rattle.calls.specs.Rules.{refusal}
 use Rattle.calls.specs.OnBytes.{Ended, ended, byOption}
 use Rattle.calls.specs.OnMap.{PageFields, Map, Arranged, arranged?, mapDoes}
@@ -22,15 +22,13 @@ use Rattle.calls.proofs.Rules.{Fitting}
 use Rattle.calls.proofs.FirstClear.{start-done, done-fits, cleared-represents, done-made, done-starts}
 use Rattle.calls.proofs.Histories.{done-plain}
 use Rattle.cached_calls.proofs.Found.{by-cases}
-use Rattle.access_rights.specs.Rights.{asking}
-use Rattle.histories.specs.Calls.{Slices, Call, ownCall, plain, rights, onLent, calling, refusalOf, broughtIn}
-use Rattle.histories.specs.Fed.{fedOf, bytesStep, mapStep}
+use Rattle.histories.specs.Calls.{Slices, Call, rights, onLent, calling, broughtIn}
 use Rattle.histories.specs.Discipline.{Disciplined, filled}
-use Rattle.histories.specs.Histories.{History, own, begun, stateAfter, mapAfter, CacheKept}
+use Rattle.histories.specs.Histories.{ownCall, History, own, begun, stateAfter, mapAfter, CacheKept}
 use Rattle.histories.specs.Theorem.{nextNumber, mappedTo, ArrangedWith, MapInRange, MappedAnswers, TableRefinesMap, RightsFollowHistory}
 use Rattle.histories.proofs.Acts.{has}
 use Rattle.histories.proofs.Invisible.{filled-sound}
-use Rattle.histories.proofs.Along.{Linked, Goes-along, along, Steps, steps}
+use Rattle.histories.proofs.Along.{Linked, Goes-along, along, steps}
 use Rattle.histories.proofs.Standing.{has-page, Standing, runs-pages, runs-stand}
 
 module _ (h : History) where
@@ -115,8 +113,7 @@ module _ (h : History) where
       map-number (mapPage c) (a .same-sdr1) (in-range-taken c a)
       ∙ ap (λ (found : Option PageFields). byOption found (ite d placed full) (λ f. ended 7 m []) .number) (also-none (c .page) e) in
       let there : ArrangedWith h (c .page) → Arranged ones (c .page ∷ mappedPages m) = subst (λ (l : List Page). Arranged ones (c .page ∷ l)) (sym same-pages) in
-      let back : Arranged ones (c .page ∷ mappedPages m) → ArrangedWith h (c .page) = subst (λ (l : List Page). Arranged ones (c .page ∷ l)) same-pages in
-      (
+      let back : Arranged ones (c .page ∷ mappedPages m) → ArrangedWith h (c .page) = subst (λ (l : List Page). Arranged ones (c .page ∷ l)) same-pages in (
         (λ yes. number ∙ ap (λ (x : Ended Map). x .number) (if-pos d (there yes) placed full)),
         (λ n. number ∙ ap (λ (x : Ended Map). x .number) (if-neg d (λ y. n (back y)) placed full)),
       )
@@ -169,4 +166,4 @@ rights-follow-history h kept c answer same =
     let all = nothing-left h kept in
     steps (h .sdr1) (own h) (fits h .shape) (fits h .long) (ownCall (rights c answer)) (stateAfter h) (mapAfter h)
     (inr (λ brought is. (sym (Option·some-inj .0 is) ∙ same, λ other none-there. absurd (Option·some-ne-none other (sym none-there)))))
-    (all .waits) (all .linked) tt .told
+    (all .waits) (all .linked) (λ a is. absurd (let z : _≡_ {A = ℕ} 0 1 = cc in omega arith)) .told

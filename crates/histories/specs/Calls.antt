@@ -1,8 +1,11 @@
 -- The one list of calls: what a call asks, what it is lent, and what it does to the list's own table and cache.
 use Prim.Native.Nat.{ℕ}
 use mathlib.Core.List.{List, []}
+use mathlib.Core.Logic.{_⊎_}
 use mathlib.Core.Option.{Option, none, some}
+use mathlib.Core.Path.{_≡_}
 use lib.ListN.{length}
+use Rattle.numbers.specs.Numbers.{refusedLentLength}
 use Rattle.calls.specs.Request.{AccessCall, Request, access, sdr1In, fed}
 use Rattle.calls.specs.Rules.{refusal}
 use Rattle.calls.specs.OnBytes.{Ended, ended, byOption, onBytes}
@@ -29,10 +32,6 @@ slices table cache = record { table = table; cache = cache }
 pub record Call : Type 0 where
   pub asked : Asked (List ℕ)
   pub other : Slices (Option (List ℕ))
-
--- a call that is lent the list's own slices
-abbrev pub ownCall : Asked (List ℕ) → Call
-ownCall asked = record { asked = asked; other = slices none none }
 
 -- ---- on bytes
 
@@ -85,3 +84,11 @@ broughtIn (plain request) = some (sdr1In request)
 broughtIn (cached c) = some (sdr1In (access c))
 broughtIn (invalidate index) = none
 broughtIn (rights c answer) = some (sdr1In (access (asking c 0)))
+
+-- a call under one SDR1, by the lengths of the list's own slices: a length of it is refused, and it may then bring anything; or it brings that SDR1, if it
+-- is lent a table, and another slice in the table's place only of another length
+abbrev pub Under : ℕ → Slices ℕ → Call → Type 0
+Under sdr1 own c =
+    (refusalOf (c .asked) (lentLengths own c) ≡ refusedLentLength)
+    ⊎ ((brought : ℕ) → broughtIn (c .asked) ≡ some brought
+    → (brought ≡ sdr1) × ((other : List ℕ) → c .other .table ≡ some other → length other ≡ own .table → ⊥))

@@ -1,6 +1,6 @@
 -- What the plain finite map is fed of a call of the list, and what it answers (rules 8).
 use Prim.Native.Nat.{ℕ, _+_, _*_}
-use mathlib.Core.Bool.{Bool, false, cond, not, _&&_}
+use mathlib.Core.Bool.{false, cond, not, _&&_}
 use mathlib.Core.List.{List, [], _++_}
 use lib.Dec.{eqb}
 use lib.ListN.{length, drop}
@@ -11,7 +11,7 @@ use Rattle.protection.specs.Access.{storing}
 use Rattle.translation.specs.declared.Early.{Early}
 use Rattle.translation.specs.declared.Early.the-variants.{Decided, Search}
 use Rattle.cache.specs.Cache.{cacheSize}
-use Rattle.calls.specs.Request.{Request, access, fed}
+use Rattle.calls.specs.Request.{access, fed}
 use Rattle.calls.specs.Made.{fedAccess}
 use Rattle.calls.specs.Answers.{withoutPlace, seenOf, compared}
 use Rattle.calls.specs.OnBytes.{Ended, ended, byOption, earlyOf, wantedPage}
@@ -28,14 +28,9 @@ fedAsked (cached c) = cached (fedAccess c)
 fedAsked (invalidate index) = invalidate index
 fedAsked (rights c answer) = rights c (length answer)
 
--- what is fed: what is asked, and the lengths of what is lent
-pub record Fed : Type 0 where
-  pub asked : Asked ℕ
-  pub lent : Slices ℕ
-
--- by the lengths of the list's own slices
-abbrev pub fedOf : Slices ℕ → Call → Fed
-fedOf own c = record { asked = fedAsked (c .asked); lent = lentLengths own c }
+-- what is fed of a call: what is asked, and the lengths of what is lent, by those of the list's own slices
+abbrev pub fedOf : Slices ℕ → Call → Asked ℕ × Slices ℕ
+fedOf own c = (fedAsked (c .asked), lentLengths own c)
 
 -- ---- what three accesses would come to on the map
 
@@ -76,5 +71,5 @@ seenIn (rights c lent) told =
 unfoldable pub bytesStep : Call → State → (ℕ × List ℕ) × State
 bytesStep c s = let e = calling c s in (compared (seenIn (c .asked)) (e .number) (e .answer), e .state)
 
-unfoldable pub mapStep : Fed → Map → (ℕ × List ℕ) × Map
-mapStep f m = let e = mapCalling (f .asked) (f .lent) m in (compared (seenIn (f .asked)) (e .number) (e .answer), e .state)
+unfoldable pub mapStep : Asked ℕ × Slices ℕ → Map → (ℕ × List ℕ) × Map
+mapStep f m = let e = mapCalling (f .0) (f .1) m in (compared (seenIn (f .0)) (e .number) (e .answer), e .state)

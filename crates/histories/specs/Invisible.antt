@@ -8,7 +8,7 @@ use lib.ListN.{length, replicate}
 use Rattle.words.specs.Words.{withWord}
 use Rattle.cache.specs.Cache.{cacheSize}
 use Rattle.calls.specs.Request.{access}
-use Rattle.calls.specs.OnBytes.{Ended, byOption}
+use Rattle.calls.specs.OnBytes.{byOption}
 use Rattle.calls.specs.Represents.{GoodTable}
 use Rattle.cached_calls.specs.Cached.{hitEntry}
 use Rattle.cached_calls.specs.Shown.{answeredByHit}

@@ -5,7 +5,7 @@ use mathlib.Core.Bool.{Bool, true, false}
 use mathlib.Core.List.{List, [], _∷_, _++_, map}
 use mathlib.Core.Option.{Option, none, some}
 use lib.Dec.{eqb}
-use lib.ListN.{length, replicate}
+use lib.ListN.{replicate}
 use Rattle.numbers.specs.Numbers.{done}
 use Rattle.words.specs.Rows.{Hold}
 use Rattle.words.specs.Words.{bytesOf}
@@ -15,8 +15,9 @@ use Rattle.calls.specs.Made.{toClear, toMap, toUnmap, toProtect, toLook}
 use Rattle.calls.specs.OnBytes.{Ended}
 use Rattle.calls.specs.PageRows.{pageOf}
 use Rattle.cached_calls.specs.Rows.{load, store, place}
-use Rattle.histories.specs.Calls.{Asked, plain, cached, invalidate, Slices, slices, Call, ownCall, State, calling, lengthsOf, lentLengths}
-use Rattle.histories.specs.Discipline.{isOwn, waitingAfter, Invalidated, filled}
+use Rattle.histories.specs.Calls.{Asked, plain, cached, invalidate, Slices, slices, Call, State, calling, lengthsOf, lentLengths}
+use Rattle.histories.specs.Histories.{ownCall}
+use Rattle.histories.specs.Discipline.{waitingAfter, Invalidated, filled}
 use Rattle.histories.specs.Invisible.{withoutCache, zeroCache, noneWaits}
 
 -- page 0x01E3 is of set 35 and has groups 0x1FF and 0x200
@@ -74,7 +75,7 @@ lent table cache asked = record { asked = asked; other = slices table cache }
 
 -- an access with the cache is allowed by the discipline, where these sets wait
 abbrev pub Allowed : Call → (ℕ → Bool) → Type 0
-Allowed call waiting = Invalidated (call .asked) (call .other) (lentLengths (lengthsOf (slices unmapped zeroCache)) call) waiting
+Allowed call waiting = Invalidated call (lentLengths (lengthsOf (slices unmapped zeroCache)) call) waiting
 
 -- both lists answer these numbers
 abbrev pub alike : List ℕ → List ℕ × List ℕ
@@ -82,7 +83,7 @@ alike stated = (stated, stated)
 
 -- the sets that wait after a call on a table and a cache of zeros
 abbrev pub waitingBehind : Call → List ℕ → (ℕ → Bool) → ℕ → Bool
-waitingBehind call table = waitingAfter (call .asked) (isOwn (call .other .cache)) (eqb (calling call (slices table zeroCache) .number) done)
+waitingBehind call table = waitingAfter (call .asked) (call .other .cache) (eqb (calling call (slices table zeroCache) .number) done)
 
 -- which of sets 35 and 63 wait after a call where none waited, and which of five where all did
 abbrev pub waits : Call → List ℕ → List Bool

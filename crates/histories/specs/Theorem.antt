@@ -22,14 +22,14 @@ use Rattle.translation.specs.declared.Outcome.the-variants.{NoMatch}
 use Rattle.translation.specs.declared.Wanted.{Wanted}
 use Rattle.calls.specs.Request.{ClearCall, MapCall, AnsweredCall, AccessCall, Request, clear, mapPage, unmap, protect, look, access, sdr1In}
 use Rattle.calls.specs.Answers.{accessAnswer}
-use Rattle.calls.specs.OnBytes.{Ended, startOf, earlyOf, partAnswer, wantedPage, searchIn}
+use Rattle.calls.specs.OnBytes.{startOf, earlyOf, partAnswer, wantedPage, searchIn}
 use Rattle.calls.specs.OnMap.{PageFields, Arranged}
 use Rattle.calls.specs.FirstClear.{clearing, sdr1With, Start}
 use Rattle.access_rights.specs.Rights.{RightsCall, asking}
-use Rattle.histories.specs.Calls.{Asked, plain, cached, rights, Slices, State, Call, ownCall, calling, refusalOf}
+use Rattle.histories.specs.Calls.{Asked, plain, cached, rights, Slices, State, Call, calling, refusalOf}
 use Rattle.histories.specs.Fed.{fedOf, bytesStep, mapStep}
 use Rattle.histories.specs.Discipline.{Disciplined, filled}
-use Rattle.histories.specs.Histories.{History, own, begun, stateAfter, fedCalls, mapAfter, CacheKept, next}
+use Rattle.histories.specs.Histories.{ownCall, History, own, begun, stateAfter, fedCalls, mapAfter, CacheKept, next}
 
 module _ (h : History) where
   -- a request that follows a history

@@ -8,7 +8,7 @@ use Prim.Native.Nat.{ℕ, suc, _+_, _-_, _≤_, _<_}
 use native.Mathlib.Omega.{arith}
 use lib.Dec.{eqb, ltb}
 use borrow.Author.Tests.{eqb-true, ltb-true, ltb-false}
-use Rattle.placement.specs.Lists.{oneIf, selected}
+use Rattle.placement.specs.Lists.{oneIf}
 use Rattle.placement.specs.Placement.{Arrangement}
 use Rattle.placement.specs.Pairs.{ofPair, pagesOfPair}
 use Rattle.placement.proofs.Lists.{selected-sublist}

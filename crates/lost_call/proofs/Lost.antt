@@ -19,7 +19,7 @@ use Rattle.tables.proofs.Runs.{each-append}
 use Rattle.groups.specs.Page.{Page, samePage}
 use Rattle.groups.specs.Hash.{groupNumber}
 use Rattle.groups.proofs.Hash.{group-mirror, samePage-refl, samePage-eq}
-use Rattle.calls.specs.Request.{Request, mapPage, unmap, look, fed, sdr1In}
+use Rattle.calls.specs.Request.{Request, look, fed, sdr1In}
 use Rattle.calls.specs.Rules.{pageInRange, rules, refusal}
 use Rattle.calls.specs.Answers.{wordAnswer}
 use Rattle.calls.specs.OnBytes.{Ended, ended, byOption, onBytes}
@@ -29,9 +29,9 @@ use Rattle.calls.proofs.FirstClear.{cleared-represents}
 use Rattle.calls.proofs.OnBytes.{refused}
 use Rattle.calls.proofs.OnBytes as on-bytes
 use Rattle.calls.proofs.Step.{step}
-use Rattle.histories.specs.Calls.{Asked, plain, Slices, Call, lentLengths}
-use Rattle.histories.specs.Histories.{Under, History, own, begun}
-use Rattle.histories.proofs.Acts.{Act, leave, has}
+use Rattle.histories.specs.Calls.{Asked, plain, Slices, Call, lentLengths, Under}
+use Rattle.histories.specs.Histories.{History, own, begun}
+use Rattle.histories.proofs.Acts.{leave, has}
 use Rattle.histories.proofs.Standing.{does, has-page, actIn, actOf, pagesBy, Standing, size-of, runs-pages, runs-stand}
 use Rattle.histories.proofs.Theorem.{fits}
 use Rattle.lost_call.specs.Lost.{MapOrUnmap, a-map, an-unmap, LostCall, lacking, mapAfterRun, tableAfterRun, lookedUp, OneLostCall, Mapped, AtMostOneMore}

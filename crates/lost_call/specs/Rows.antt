@@ -9,8 +9,9 @@ use Rattle.tables.specs.Runs.{after}
 use Rattle.groups.specs.Page.{Page}
 use Rattle.calls.specs.Made.{toMap, toUnmap}
 use Rattle.calls.specs.OnMap.{PageFields}
-use Rattle.histories.specs.Calls.{Call, slices, ownCall, plain}
+use Rattle.histories.specs.Calls.{Call, slices, plain}
 use Rattle.histories.specs.Fed.{fedOf, mapStep}
+use Rattle.histories.specs.Histories.{ownCall}
 
 -- page i of the pair, its map to a frame, and its unmap
 abbrev pub pageNumber : ℕ → Page

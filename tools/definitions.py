@@ -27,11 +27,9 @@ PAGE = os.path.join(TOP, "docs", "DEFINITIONS.md")
 START = [
     ("calls", "OnBytes", ["ended", "onBytes"]),
     ("calls", "WithoutTable", ["checkCall", "setRegisterCall", "packCall", "unpackCall"]),
-    ("calls", "Demands", ["Demands"]),
     ("access_rights", "Rights", ["rightsCall"]),
-    ("access_rights", "Stated", ["RightsStated"]),
     ("cached_calls", "Cached", ["onCached", "invalidateCall"]),
-    ("cached_calls", "Demands", ["CachedDemands"]),
+    ("histories", "Demands", ["Demands"]),
     ("lost_call", "Lost", ["OneLostCall"]),
 ]
 ROWS = {"Tables", "PageRows", "OperandRows", "FourGroups", "Rows", "Cases"}
@@ -43,11 +41,12 @@ ORDER = [
     ("Registers", ["register_words/Sdr1", "register_words/Segment", "register_words/Block", "registers/Rules", "registers/Set"]),
     ("Access", ["protection/Access", "protection/Protection", "protection/Fault", "translation/Steps", "translation/Decision", "translation/Operand"]),
     ("Groups and matches", ["groups/Page", "groups/Hash", "groups/Group", "tables/Matches", "tables/Layout", "matches/Search"]),
-    ("Calls on bytes", ["calls/Request", "calls/Rules", "calls/Answers", "calls/OnBytes", "calls/Lent", "calls/WithoutTable", "access_rights/Rights"]),
-    ("The cache", ["cache/Cache", "cached_calls/Cached", "cached_calls/Discipline"]),
-    ("The finite map", ["placement/Lists", "placement/FiniteMap", "placement/Placement", "calls/OnMap", "tables/Runs", "calls/Histories"]),
-    (STATEMENTS, ["entry/RoundTrip", "registers/Blocks", "translation/Stated", "calls/AnyTable", "calls/Refusals", "calls/Widened", "calls/Theorem", "calls/Demands", "calls/Represents", "access_rights/Stated", "cache/Placed",
-        "cached_calls/AnyCache", "cached_calls/Invisible", "cached_calls/Demands", "lost_call/Lost"]),
+    ("Calls on bytes", ["calls/Request", "calls/Made", "calls/Rules", "calls/Answers", "calls/OnBytes", "calls/Lent", "calls/WithoutTable", "access_rights/Rights"]),
+    ("Calls with a cache", ["cache/Cache", "cached_calls/Cached"]),
+    ("The finite map", ["placement/Lists", "placement/FiniteMap", "placement/Placement", "calls/OnMap"]),
+    ("The list", ["tables/Runs", "histories/Calls", "histories/Fed", "histories/Discipline"]),
+    (STATEMENTS, ["entry/RoundTrip", "registers/Blocks", "translation/Stated", "calls/AnyTable", "calls/Refusals", "calls/Widened", "calls/Represents", "access_rights/Stated", "cache/Placed",
+        "cached_calls/Shown", "cached_calls/AnyCache", "calls/FirstClear", "histories/Histories", "histories/Theorem", "histories/Invisible", "histories/Demands", "lost_call/Lost"]),
 ]
 
 WORD = re.compile(r"[^\s(){},;.]+")

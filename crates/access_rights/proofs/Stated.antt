@@ -1,10 +1,8 @@
--- What is told of any table, each answer and each word at its place; and that after a history the finite map answers so.
+-- What is told of any table, each answer and each word at its place.
 use Prim.Native.Nat.{ℕ, zero, suc, _+_, _*_, _^_, _<_}
 use mathlib.Core.Path.{_≡_, refl, sym, ap, _∙_}
-use mathlib.Core.Bool.{Bool, true, false, cond, not, _&&_, true≢false}
-use mathlib.Core.Logic.{inr}
-use mathlib.Core.List.{List, [], _∷_, _++_, append-assoc, map}
-use mathlib.Core.Option.{none, some}
+use mathlib.Core.Bool.{Bool, true, false, cond, _&&_}
+use mathlib.Core.List.{List, [], _∷_, _++_, append-assoc}
 use native.Mathlib.Omega.{arith}
 use lib.Dec.{eqb, lit<}
 use lib.ListN.{length, getD, take, drop, replicate, length-append}
@@ -16,30 +14,18 @@ use Rattle.words.proofs.Tests.{both, by-test}
 use Rattle.registers.specs.Rules.{firstBroken}
 use Rattle.register_words.specs.Sdr1.{maskOnes}
 use Rattle.register_words.specs.Block.{blWidth}
-use Rattle.registers.specs.Set.{isPage, isLong, blockPairs, sdr1Of, registerWords}
-use Rattle.tables.specs.Matches.{Match}
-use Rattle.tables.specs.Represents.{wordsOf}
-use Rattle.protection.specs.Access.{storing}
-use Rattle.translation.specs.declared.Early.the-variants.{Search}
-use Rattle.translation.specs.declared.Wanted.{Wanted}
+use Rattle.registers.specs.Set.{isPage, isLong, blockPairs, registerWords}
 use Rattle.calls.specs.Request.{access, sdr1In, fed}
 use Rattle.calls.specs.Rules.{refusal}
-use Rattle.calls.specs.Answers.{accessAnswer, refusedBytes, answerRefused, compared}
-use Rattle.calls.specs.OnBytes.{ended, earlyOf, wantedPage, bytesDo, onBytes}
-use Rattle.calls.specs.OnMap.{PageFields, fieldsWord, onMap}
-use Rattle.calls.specs.Histories.{bytesStep, mapStep}
-use Rattle.calls.specs.Theorem.{History, tableAfter, mapAfter, mappedTo}
+use Rattle.calls.specs.Answers.{accessAnswer, refusedBytes, answerRefused}
+use Rattle.calls.specs.OnBytes.{ended, bytesDo, onBytes}
 use Rattle.calls.proofs.Access.{then-not-11}
-use Rattle.calls.proofs.AnyEntries.{by-matches, own}
-use Rattle.calls.proofs.Histories.{keeps}
-use Rattle.calls.proofs.Theorem.{ones, fits, history-represents}
 use Rattle.access_rights.specs.Rights.{RightsCall, asking, wouldEnd, newMarks, rightsTold, rightsRefusal, rightsCall}
 use Rattle.access_rights.specs.Stated.{answerTold, marksTold, ToldOnAny, RightsStated}
 use Rattle.access_rights.proofs.Shared.{ownRules, own-rules}
 use Rattle.access_rights.proofs.Call.{wrong-length, right-lengths}
-use Rattle.access_rights.proofs.Words.{lacking, lacking-fields}
 use Rattle.access_rights.proofs.Rows.{rights-rows}
-use Rattle.access_rights.proofs.AnyMarks.{few-marks, matched-marks, marks-on-any}
+use Rattle.access_rights.proofs.AnyMarks.{few-marks, marks-on-any}
 
 -- ---- the places
 
@@ -55,16 +41,21 @@ module _ (a b c d : List ℕ) (la : length a ≡ 48) (lb : length b ≡ 48) (lc 
   abbrev all : List ℕ
   all = a ++ (b ++ (c ++ d))
 
-  first-part : answerTold all 0 ≡ a
+  pub first-part : answerTold all 0 ≡ a
   first-part = take-at a (b ++ (c ++ d)) 48 la
 
-  second-part : answerTold all 1 ≡ b
+  pub second-part : answerTold all 1 ≡ b
   second-part = ap (take 48) (drop-at a (b ++ (c ++ d)) 48 la) ∙ take-at b (c ++ d) 48 lb
 
-  third-part : answerTold all 2 ≡ c
+  pub third-part : answerTold all 2 ≡ c
   third-part =
       ap (take 48) (ap (drop 96) (sym (append-assoc a b (c ++ d))) ∙ drop-at (a ++ b) (c ++ d) 96 (omega (arith, length-append a b)))
       ∙ take-at c d 48 lc
+
+  pub rest-part : drop 144 all ≡ d
+  rest-part =
+      ap (drop 144) (sym (append-assoc a b (c ++ d)) ∙ sym (append-assoc (a ++ b) c d))
+      ∙ drop-at ((a ++ b) ++ c) d 144 (omega (arith, length-append a b, length-append (a ++ b) c))
 
   last-words : (j : ℕ) → wordAt all (144 + j) ≡ wordAt d j
   last-words j =
@@ -74,7 +65,7 @@ module _ (a b c d : List ℕ) (la : length a ≡ 48) (lb : length b ≡ 48) (lc 
 -- ---- any table
 
 -- an answer has 48 bytes, whatever the access comes to
-answer-length : (c : RightsCall) (t : List ℕ) (kind : ℕ) → length (wouldEnd c t kind .answer) ≡ 48
+pub answer-length : (c : RightsCall) (t : List ℕ) (kind : ℕ) → length (wouldEnd c t kind .answer) ≡ 48
 unfolding onBytes bytesDo answerRefused refusedBytes accessAnswer bytesOf wordBytes
 answer-length c t kind = go (eqb number 0) (eqb number 11)
   where
@@ -89,7 +80,7 @@ answer-length c t kind = go (eqb number 0) (eqb number 11)
 
 module _ (c : RightsCall) (answer t : List ℕ) where
   -- the lengths of a call that is not refused for them
-  lengths-right : (rightsCall c answer t .0 ≡ 11 → ⊥) → (isPage (length (c .registers)) ≡ true) × (length answer ≡ 156)
+  pub lengths-right : (rightsCall c answer t .0 ≡ 11 → ⊥) → (isPage (length (c .registers)) ≡ true) × (length answer ≡ 156)
   lengths-right n =
       by-test (isPage (length (c .registers)) && eqb (length answer) 156)
       (λ e. let (page, long) = both _ _ e in (page, eqb-true (length answer) 156 long))
@@ -166,40 +157,9 @@ module _ (c : RightsCall) (answer t : List ℕ) where
     );
   }
 
--- ---- after a history
-
-module _ (h : History) (c : RightsCall) (same : sdr1Of (registerWords (c .registers)) ≡ h .sdr1) (kind : ℕ) where
-  brings : sdr1In (access (asking c kind)) ≡ h .sdr1
-  unfolding sdr1In
-  brings = same
-
-  follows : let e = wouldEnd c (tableAfter h) kind in
-      let m = onMap (fed (access (asking c kind))) (length (h .table)) (mapAfter h) in
-      compared (e .number) (e .answer) ≡ compared (m .number) (m .answer)
-  unfolding bytesStep mapStep
-  follows =
-      keeps (h .sdr1) (length (h .table)) (fits h .shape) (fits h .long) (record { request = access (asking c kind); lent = none })
-      (inr (brings, λ other e long. absurd (true≢false (cc)))) (tableAfter h) (mapAfter h) (history-represents h) .0
-
-  mapped-marks : wouldEnd c (tableAfter h) kind .number ≡ 0 → (wanted : Wanted) → earlyOf (asking c kind) false ≡ Search wanted
-      → (f : PageFields) → mappedTo h (wantedPage wanted) ≡ some f
-      → newMarks (tableAfter h) (wouldEnd c (tableAfter h) kind) ≡ cond (f .referenced) 0 0x100 + cond (storing kind && not (f .changed)) 0x080 0
-  mapped-marks z wanted reaches f mapped =
-      let r = history-represents h in
-      let (valid, range) = r .valid (wantedPage wanted) f mapped in
-      let words = r .found (wantedPage wanted) valid ∙ ap (wordsOf fieldsWord) mapped in
-      by-matches (own (ones h) (tableAfter h) (wantedPage wanted))
-      (λ missing. let no : [] ≡ fieldsWord f ∷ [] = sym (ap (map (λ (x : Match). x .second)) missing) ∙ words in absurd (true≢false (cc)))
-      (λ x xs are.
-      let some : x .second ∷ map (λ (y : Match). y .second) xs ≡ fieldsWord f ∷ [] = sym (ap (map (λ (y : Match). y .second)) are) ∙ words in
-      let word : x .second ≡ fieldsWord f = cc in
-      matched-marks c (tableAfter h) (r .good .bytes) kind z wanted reaches x xs (rw brings are)
-      ∙ ap (lacking (storing kind)) word ∙ lacking-fields f range (storing kind))
-
 pub rights-stated : RightsStated
 rights-stated = record {
   told = told-on-any;
   marks = λ c t bytes kind. marks-on-any c t bytes kind;
-  follows = record { answers = follows; marks = mapped-marks };
   rows = rights-rows;
 }

@@ -39,10 +39,11 @@ abbrev pub rightsSize : ℕ
 rightsSize = 156
 
 -- the answers of a fetch, a load and a store, and then the marks of each
+abbrev pub threeTold : (ℕ → List ℕ) → (ℕ → ℕ) → List ℕ
+threeTold answers marks = answers fetch ++ (answers load ++ (answers store ++ bytesOf (marks fetch ∷ marks load ∷ marks store ∷ [])))
+
 unfoldable pub rightsTold : RightsCall → List ℕ → List ℕ
-rightsTold c t =
-    let marks : ℕ → ℕ = λ kind. newMarks t (wouldEnd c t kind) in
-    wouldEnd c t fetch .answer ++ (wouldEnd c t load .answer ++ (wouldEnd c t store .answer ++ bytesOf (marks fetch ∷ marks load ∷ marks store ∷ [])))
+rightsTold c t = threeTold (λ kind. wouldEnd c t kind .answer) (λ kind. newMarks t (wouldEnd c t kind))
 
 -- the first broken rule of those that the three share, the length of what is lent for the answer among them
 unfoldable pub rightsRefusal : RightsCall → ℕ → ℕ → ℕ

@@ -1,27 +1,23 @@
--- What is stated of the call: on any table of bytes what it tells of each access, and after a history that the finite map answers so.
+-- What is stated of the call on any table of bytes: what it tells of each access.
 use Prim.Native.Nat.{ℕ, _+_, _-_, _*_, _^_, _<_}
-use mathlib.Core.Bool.{Bool, true, false, cond, not, _&&_}
+use mathlib.Core.Bool.{Bool, true, false, cond}
 use mathlib.Core.List.{List}
 use mathlib.Core.Logic.{_↔_}
-use mathlib.Core.Option.{some}
 use mathlib.Core.Path.{_≡_}
 use lib.ListN.{length, getD, take, drop}
 use Rattle.numbers.specs.Numbers.{done, refusedLentLength, accessAnswerSize}
 use Rattle.words.specs.Bits.{bits}
 use Rattle.words.specs.Words.{wordAt}
 use Rattle.register_words.specs.Sdr1.{maskOnes}
-use Rattle.registers.specs.Set.{isPage, sdr1Of, registerWords}
+use Rattle.registers.specs.Set.{isPage}
 use Rattle.protection.specs.Access.{storing}
 use Rattle.translation.specs.declared.Early.the-variants.{Decided, Search}
 use Rattle.translation.specs.declared.Outcome.{Outcome}
 use Rattle.translation.specs.declared.Wanted.{Wanted}
 use Rattle.calls.specs.Request.{access, sdr1In, fed}
 use Rattle.calls.specs.Rules.{refusal}
-use Rattle.calls.specs.Answers.{compared}
-use Rattle.calls.specs.OnBytes.{Ended, onBytes, earlyOf, wantedPage}
-use Rattle.calls.specs.OnMap.{PageFields, Map, onMap}
+use Rattle.calls.specs.OnBytes.{onBytes, earlyOf, wantedPage}
 use Rattle.calls.specs.AnyTable.{secondHere, FirstMatch}
-use Rattle.calls.specs.Theorem.{History, tableAfter, mapAfter, mappedTo}
 use Rattle.access_rights.specs.Rights.{RightsCall, asking, wouldEnd, newMarks, rightsSize, rightsCall}
 use Rattle.access_rights.specs.Rows.{RightsRows}
 
@@ -71,23 +67,8 @@ module _ (c : RightsCall) (t : List ℕ) (kind : ℕ) where
     -- no bits but R and C
     pub only : (bits 0 22 newlySet ≡ 0) × (bits 25 31 newlySet ≡ 0)
 
--- ---- after a history
-
-pub record RightsFollowHistory : Type 0 where
-  -- what is compared of the access of each kind is what the finite map answers
-  pub answers : (h : History) (c : RightsCall) → sdr1Of (registerWords (c .registers)) ≡ h .sdr1 → (kind : ℕ)
-      → let e : Ended (List ℕ) = wouldEnd c (tableAfter h) kind in
-      let m : Ended Map = onMap (fed (access (asking c kind))) (length (h .table)) (mapAfter h) in
-      compared (e .number) (e .answer) ≡ compared (m .number) (m .answer)
-  -- and the marks of one that is done by a page are those that the map's fields of it lack
-  pub marks : (h : History) (c : RightsCall) → sdr1Of (registerWords (c .registers)) ≡ h .sdr1 → (kind : ℕ)
-      → wouldEnd c (tableAfter h) kind .number ≡ done → (wanted : Wanted) → earlyOf (asking c kind) false ≡ Search wanted
-      → (f : PageFields) → mappedTo h (wantedPage wanted) ≡ some f
-      → newMarks (tableAfter h) (wouldEnd c (tableAfter h) kind) ≡ cond (f .referenced) 0 0x100 + cond (storing kind && not (f .changed)) 0x080 0
-
 pub record RightsStated : Type 0 where
   pub told : (c : RightsCall) (answer t : List ℕ) → ToldOnAny c answer t
   pub marks : (c : RightsCall) (t : List ℕ) → ((i : ℕ) → getD t i 0 < 2 ^ 8) → (kind : ℕ) → MarksOnAny c t kind
-  pub follows : RightsFollowHistory
   -- rows of the whole call
   pub rows : RightsRows

@@ -34,11 +34,11 @@ use Rattle.calls.proofs.TakenCalls.{good-table}
 use Rattle.calls.proofs.Refusals.{whole-fits, whole-zeros}
 use Rattle.calls.proofs.Access.{by-early, unmarked, unmarked-decided}
 use Rattle.cached_calls.specs.Cached.{cachedSearch, cachedPlace, missed, loadedBy, taken as takenFrom, takenPart, cachedDoes, cachedRefusal, onCached, invalidateCall, invalidateRefusal}
-use Rattle.cached_calls.specs.Invisible.{isHit}
+use Rattle.cached_calls.specs.Shown.{isHit}
 use Rattle.cached_calls.specs.AnyCache.{goesToTable, FromTable, IsLoaded, CallsOnAnyCache}
 use Rattle.cached_calls.proofs.Found.{by-cases}
 use Rattle.cached_calls.proofs.Loads.{missing, going, kept-part, bytes-left, stands-first, pages-stand}
-use Rattle.cached_calls.proofs.Invisible.{right-refusal, wrong-refusal, cached-taken, cached-refused}
+use Rattle.cached_calls.proofs.Refusals.{right-refusal, wrong-refusal, cached-taken, cached-refused}
 
 module _ (k : ℕ) (c : AccessCall (List ℕ)) (lent : List ℕ × List ℕ) (result : ℕ) where
   -- a part of an operand that is not done leaves what is there

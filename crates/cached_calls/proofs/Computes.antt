@@ -2,8 +2,7 @@
 use Rattle.cache.proofs.Computes.{cache-computes}
 use Rattle.calls.proofs.Computes.{calls-compute}
 use Rattle.cached_calls.specs.Cached.{cachedSearch, cachedPlace, missed, loadedBy, taken, takenPart, cachedDoes, cachedRefusal, onCached, invalidateRefusal, invalidateCall}
-use Rattle.cached_calls.specs.Discipline.{withCache, withoutCache}
 
 unfoldable pub cached-calls-compute : Unit {0}
-unfolding cache-computes calls-compute cachedSearch cachedPlace missed loadedBy taken takenPart cachedDoes cachedRefusal onCached invalidateRefusal invalidateCall withCache withoutCache
+unfolding cache-computes calls-compute cachedSearch cachedPlace missed loadedBy taken takenPart cachedDoes cachedRefusal onCached invalidateRefusal invalidateCall
 cached-calls-compute = tt

@@ -4,11 +4,8 @@ pub mod Hits
 pub mod Operands
 pub mod Found
 pub mod Parts
-pub mod Plain
-pub mod Invisible
-pub mod Theorem
+pub mod Refusals
 pub mod Loads
 pub mod AnyCache
 pub mod Computes
 pub mod Rows
-pub mod Demands

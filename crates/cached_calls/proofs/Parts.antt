@@ -39,14 +39,14 @@ use Rattle.cache.specs.Cache.{firstIn, secondIn, holds, hit, loaded}
 use Rattle.cache.proofs.Cache.{hit-place, length-loaded, loaded-holds}
 use Rattle.calls.specs.Request.{AccessCall}
 use Rattle.calls.specs.Rules.{onLongPage}
-use Rattle.calls.specs.Answers.{accessAnswer, compared}
+use Rattle.calls.specs.Answers.{accessAnswer, withoutPlace, compared}
 use Rattle.calls.specs.OnBytes.{layout, byMatches, startOf, earlyOf, partAnswer, usedBy, partDecision, wholeAnswer, eachPart, wantedPage, searchIn, firstPlaceIn, markedBy}
 use Rattle.calls.specs.Represents.{GoodTable}
 use Rattle.calls.proofs.Access.{by-early, wanted-valid, unmarked-decided}
 use Rattle.calls.proofs.Compared.{compared-same}
 use Rattle.calls.proofs.TwoMarks.{mark-good, second-kept}
 use Rattle.cached_calls.specs.Cached.{cachedSearch, cachedPlace, missed, loadedBy, taken, takenPart}
-use Rattle.cached_calls.specs.Invisible.{isHit}
+use Rattle.cached_calls.specs.Shown.{isHit}
 use Rattle.cached_calls.proofs.Backed.{Backed, backed-marked, contradict-marks}
 use Rattle.cached_calls.proofs.Found.{by-cases, Found, done-at, found-at, now as markedFirst, now-are, now-fits, now-fields}
 use Rattle.cached_calls.proofs.Hits.{answer-agrees, decision-agrees, search-is, place-is, group-is, mark-idle}
@@ -74,7 +74,7 @@ module _ (k : ℕ) (c : AccessCall (List ℕ)) (t cache : List ℕ) (good : Good
   kind = c .kind
 
   -- a hit is backed, and a store is hit only where C is set
-  hit-backed : (page : Page) → InRange page → (words : ℕ × ℕ) → hit (storing kind) cache page ≡ some words
+  pub hit-backed : (page : Page) → InRange page → (words : ℕ × ℕ) → hit (storing kind) cache page ≡ some words
       → Backed k t page (words .0) (words .1) × (storing kind ≡ true → changed (words .1) ≡ true)
   hit-backed page valid words e =
       let (place, held, first, second, has-c) = hit-place (storing kind) cache page (words .0) (words .1) e in
@@ -273,10 +273,10 @@ module _ (k : ℕ) (c : AccessCall (List ℕ)) (t cache : List ℕ) (good : Good
       ∙ operand-told (c .address) (c .length) (partAnswer c (searchIn k t)) plainly throughCache (λ second. isHit c t cache (earlyOf c second)) decision-same)
 
   -- what is compared of the answer is the same
-  pub compared-alike : compared (cachedWhole .part .result) (accessAnswer cachedWhole) ≡ compared (plainWhole .part .result) (accessAnswer plainWhole)
+  pub compared-alike : compared withoutPlace (cachedWhole .part .result) (accessAnswer cachedWhole) ≡ compared withoutPlace (plainWhole .part .result) (accessAnswer plainWhole)
   compared-alike =
-      ap (λ (a : OperandAnswer). compared (a .part .result) (accessAnswer a)) parts-same
-      ∙ operand-related (λ x y. compared (x .part .result) (accessAnswer x) ≡ compared (y .part .result) (accessAnswer y)) (c .address) (c .length)
+      ap (λ (a : OperandAnswer). compared withoutPlace (a .part .result) (accessAnswer a)) parts-same
+      ∙ operand-related (λ x y. compared withoutPlace (x .part .result) (accessAnswer x) ≡ compared withoutPlace (y .part .result) (accessAnswer y)) (c .address) (c .length)
       (partAnswer c (searchIn k t)) throughCache plainly
       (λ second part physical attributes bytes rest. compared-same part physical attributes bytes rest (part .result) (throughCache second) (plainly second) (decision-related second))
 

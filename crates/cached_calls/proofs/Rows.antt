@@ -1,8 +1,6 @@
 -- Every row of calls with a cache holds: both sides compute to the same.
-use mathlib.Core.Bool.{true≢false}
 use mathlib.Core.Path.{refl}
-use native.Mathlib.Omega.{arith}
-use Rattle.cached_calls.specs.Rows.{CachedRows, SliceRows, WaitingRows}
+use Rattle.cached_calls.specs.Rows.{CachedRows}
 use Rattle.cached_calls.proofs.Computes.{cached-calls-compute}
 
 pub cached-rows : CachedRows
@@ -30,20 +28,4 @@ cached-rows = record {
   refusals = record { equal = refl };
   whole-tables = record { equal = refl };
   invalidates = record { equal = refl };
-}
-
-pub slice-rows : SliceRows
-unfolding cached-calls-compute
-slice-rows = record {
-  other-slices = record { equal = refl };
-}
-
-pub waiting-rows : WaitingRows
-unfolding cached-calls-compute
-waiting-rows = record {
-  waiting = record { equal = refl };
-  waiting-ends = record { equal = refl };
-  not-while-the-first-waits = λ quiet. true≢false (quiet 0 (omega arith));
-  not-while-the-last-waits = λ quiet. true≢false (quiet 63 (omega arith));
-  while-none-waits = λ set small. refl;
 }

@@ -17,7 +17,7 @@ use Rattle.calls.specs.Request.{AccessCall, access}
 use Rattle.calls.specs.OnBytes.{Ended, earlyOf, onBytes, wantedPage}
 use Rattle.calls.specs.AnyTable.{firstHere, secondHere, FirstMatch, HasPart}
 use Rattle.cached_calls.specs.Cached.{missed, onCached, invalidateCall}
-use Rattle.cached_calls.specs.Invisible.{mask, isHit}
+use Rattle.cached_calls.specs.Shown.{mask, isHit}
 
 module _ (c : AccessCall (List ℕ)) (table cache : List ℕ) where
   abbrev pub finished : Ended (List ℕ × List ℕ)

@@ -1,7 +1,5 @@
--- An access with a cache, runs of calls with one cache, and the statement that nobody can tell it from none.
+-- An access with a cache and an invalidate, and what is said of them on any table and any cache.
 pub mod Cached
-pub mod Discipline
-pub mod Invisible
+pub mod Shown
 pub mod AnyCache
 pub mod Rows
-pub mod Demands

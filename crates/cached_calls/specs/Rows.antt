@@ -1,24 +1,18 @@
--- Rows of whole calls with a cache (request 7): what an access answers, every byte that it leaves in table and cache, what an invalidate zeroes, and
--- short runs with and without a cache. Each closes by computation.
+-- Rows of whole calls with a cache (request 7): what an access answers, every byte that it leaves in table and cache, and what an invalidate zeroes.
+-- Each closes by computation.
 -- In most rows a table is group 0, or groups 0 and 1; what lies past its end reads as zero. The access is then one that its arguments do not refuse.
 use Prim.Native.Nat.{ℕ}
-use mathlib.Core.Bool.{Bool, true, false}
 use mathlib.Core.List.{List, [], _∷_, _++_, map, foldl}
-use mathlib.Core.Option.{none, some}
-use lib.Dec.{eqb}
 use lib.ListN.{replicate, take, drop}
 use Rattle.numbers.specs.Numbers.{done, dataStorageFault, instructionStorageFault, refusedTableLength, refusedSdr1, refusedSegment, refusedArgument}
 use Rattle.numbers.specs.Numbers.{refusedContradiction, refusedLentLength, refusedOperandLength}
 use Rattle.words.specs.Rows.{Hold}
 use Rattle.words.specs.Words.{withWord, bytesOf}
-use Rattle.groups.specs.Page.{Page}
-use Rattle.calls.specs.Request.{AccessCall, Request, access}
-use Rattle.calls.specs.Made.{toClear, toMap, toUnmap, toProtect, toLook}
+use Rattle.calls.specs.Request.{AccessCall, access}
 use Rattle.calls.specs.OnBytes.{Ended, ended}
-use Rattle.calls.specs.PageRows.{zeroRegisters, rule, noRule, stop, oneByte, pageOf}
+use Rattle.calls.specs.PageRows.{zeroRegisters, rule, noRule, stop, oneByte}
 use Rattle.calls.specs.OperandRows.{inTwo, twoSegments}
 use Rattle.cached_calls.specs.Cached.{cachedDoes, onCached, invalidateCall}
-use Rattle.cached_calls.specs.Discipline.{CacheCall, plain, cached, invalidate, withCache, withoutCache, waitingAfter, Invalidated, noneWaits}
 
 -- ---- accesses
 
@@ -155,87 +149,6 @@ refusedLength lent = ended refusedLentLength lent lentAnswer
 -- one byte lent as the table, and a cache that has page 0x001C
 abbrev pub wrongTable : List ℕ × List ℕ
 wrongTable = (7 ∷ [], set28 (page₀ 0x12345112 1) empty)
-
--- ---- runs
-
--- page 0x01E3 is of set 35 and has groups 0x1FF and 0x200
-abbrev pub thePage : Page
-thePage = pageOf 0x0C701C 0x01E3
-
-abbrev pub on : Request (List ℕ) → CacheCall
-on request = plain (record { request = request; lent = none })
-
-abbrev pub clearAll : CacheCall
-clearAll = on (toClear 0)
-
-abbrev pub mapIt : CacheCall
-mapIt = on (toMap 0 thePage 0x12345 2 2)
-
-abbrev pub unmapIt : CacheCall
-unmapIt = on (toUnmap 0 thePage (replicate 16 255))
-
-abbrev pub protectIt : CacheCall
-protectIt = on (toProtect 0 thePage 3)
-
-abbrev pub loadIt : CacheCall
-loadIt = cached (load 0x001E3123) none none
-
-abbrev pub storeIt : CacheCall
-storeIt = cached (store 0x001E3123) none none
-
-abbrev pub invalidateSetOf : ℕ → CacheCall
-invalidateSetOf index = invalidate index none
-
--- the table in which it is mapped alone, with this second word; and one without it
-abbrev pub mapped : ℕ → List ℕ
-mapped second = replicate 32704 0 ++ bytesOf (0x86380E00 ∷ second ∷ []) ++ replicate 32824 0
-
-abbrev pub unmapped : List ℕ
-unmapped = replicate 65536 0
-
--- table and cache after a store to it
-abbrev pub stored : List ℕ × List ℕ
-stored = (mapped 0x12345192, replicate 1120 0 ++ bytesOf (place 0x86380E00 0x12345192 0x01E3 1) ++ replicate 912 0)
-
--- the result numbers of the calls of a run with a cache, and of the run without, from what the call before left
-abbrev pub numbersWith : List CacheCall → Ended (List ℕ × List ℕ) → List ℕ
-numbersWith [] e = e .number ∷ []
-numbersWith (call ∷ calls) e = e .number ∷ numbersWith calls (withCache call (e .state))
-
-abbrev pub numbersWithout : List CacheCall → Ended (List ℕ) → List ℕ
-numbersWithout [] e = e .number ∷ []
-numbersWithout (call ∷ calls) e = e .number ∷ numbersWithout calls (withoutCache call (e .state))
-
--- both, of a list of calls from a table and a cache
-abbrev pub numbers : List CacheCall → List ℕ × List ℕ → List ℕ × List ℕ
-numbers [] s = ([], [])
-numbers (call ∷ calls) s = (numbersWith calls (withCache call s), numbersWithout calls (withoutCache call (s .0)))
-
--- both runs answer these numbers
-abbrev pub alike : List ℕ → List ℕ × List ℕ
-alike stated = (stated, stated)
-
--- which of sets 35 and 63 wait after a call on a table where none waited, and which of five where all did
-abbrev pub waits : CacheCall → List ℕ → List Bool
-waits call table = map (waitingAfter call table noneWaits) (35 ∷ 63 ∷ [])
-
-abbrev pub stillWaits : CacheCall → List Bool
-stillWaits call = map (waitingAfter call unmapped (λ set. true)) (0 ∷ 34 ∷ 35 ∷ 36 ∷ 63 ∷ [])
-
-abbrev pub noSet : List Bool
-noSet = replicate 2 false
-
-abbrev pub only35 : List Bool
-only35 = true ∷ false ∷ []
-
-abbrev pub bothSets : List Bool
-bothSets = replicate 2 true
-
-abbrev pub allSets : List Bool
-allSets = replicate 5 true
-
-abbrev pub allBut35 : List Bool
-allBut35 = true ∷ true ∷ false ∷ true ∷ true ∷ []
 
 pub record CachedRows : Type 0 where
   -- a first load goes into place 0: the entry's words once marked, ignored bits as they stand, the page index, and 1; of twoEntries the first is loaded
@@ -579,43 +492,3 @@ pub record CachedRows : Type 0 where
       ∷ (invalidateCall 65536 [], (refusedLentLength, []))
       ∷ []
       )
-
--- Runs with a cache beside the same runs without, by their result numbers, of calls that are lent another slice.
-pub record SliceRows : Type 0 where
-  -- a slice in the place of the cache, or of the table: its length is refused in both runs (P7 a), and the own cache stays
-  pub other-slices : Hold ((
-    numbers (cached (load 0x001E3123) none (some []) ∷ cached (load 0x001E3123) (some []) none ∷ invalidate 0x01E3 (some []) ∷ loadIt ∷ []) stored,
-    alike (11 ∷ 1 ∷ 11 ∷ 0 ∷ []),
-  )
-      ∷ []
-      )
-
--- Which sets wait for an invalidate.
-pub record WaitingRows : Type 0 where
-  -- the sets that wait: that of a done unmap's or protect's page, and every set after a done clear; none after a refused one, a map or an access
-  pub waiting : Hold (
-      (waits unmapIt (mapped 0x12345012), only35)
-      ∷ (waits protectIt (mapped 0x12345012), only35)
-      ∷ (waits clearAll unmapped, bothSets)
-      ∷ (waits unmapIt unmapped, noSet)
-      ∷ (waits clearAll (7 ∷ []), noSet)
-      ∷ (waits mapIt unmapped, noSet)
-      ∷ (waits (on (toLook 0 thePage (replicate 16 255))) (mapped 0x12345012), noSet)
-      ∷ (waits (on (access (load 0x001E3123))) (mapped 0x12345012), noSet)
-      ∷ (waits loadIt (mapped 0x12345012), noSet)
-      ∷ []
-      )
-  -- a done invalidate ends the waiting of its own set; a refused one, and any other call, of none
-  pub waiting-ends : Hold (
-      (stillWaits (invalidateSetOf 0x01E3), allBut35)
-      ∷ (stillWaits (invalidateSetOf 0x0223), allBut35)
-      ∷ (stillWaits (invalidateSetOf 0x000101E3), allSets)
-      ∷ (stillWaits (invalidate 0x01E3 (some [])), allSets)
-      ∷ (stillWaits loadIt, allSets)
-      ∷ (stillWaits mapIt, allSets)
-      ∷ []
-      )
-  -- an access with the cache is not allowed while a set waits, the first or the last; where none waits it is
-  pub not-while-the-first-waits : Invalidated loadIt (λ set. eqb 0 set) → ⊥
-  pub not-while-the-last-waits : Invalidated loadIt (λ set. eqb 63 set) → ⊥
-  pub while-none-waits : Invalidated loadIt noneWaits

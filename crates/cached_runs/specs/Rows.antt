@@ -1,8 +1,10 @@
--- Runs with a cache beside the same runs without, by their result numbers: where an invalidate is missing, they differ (P7). Each closes by computation.
+-- Lists of calls with a cache beside the same lists without, by their result numbers: where an invalidate is missing, they differ (P7). Each closes by computation.
 use mathlib.Core.List.{[], _∷_}
 use lib.ListN.{replicate}
 use Rattle.words.specs.Rows.{Hold}
-use Rattle.cached_calls.specs.Rows.{zeroCache, clearAll, mapIt, unmapIt, protectIt, loadIt, storeIt, invalidateSetOf, unmapped, stored, numbers}
+use Rattle.histories.specs.Calls.{Slices, slices}
+use Rattle.histories.specs.Invisible.{zeroCache}
+use Rattle.histories.specs.Rows.{clearAll, mapIt, unmapIt, protectIt, loadIt, storeIt, invalidateSetOf, unmapped, stored, numbers}
 
 pub record RunRows : Type 0 where
   -- from a clear and zeros: an invalidate before the unmap with an access between (P7 e), and after it one of another set and one that is refused
@@ -11,7 +13,7 @@ pub record RunRows : Type 0 where
     numbers (
         clearAll ∷ mapIt ∷ invalidateSetOf 0x01E3 ∷ loadIt ∷ unmapIt ∷ invalidateSetOf 0x01E4 ∷ invalidateSetOf 0x000101E3 ∷ loadIt
         ∷ invalidateSetOf 0x0223 ∷ loadIt ∷ []
-        ) (replicate 65536 255, zeroCache),
+        ) (slices (replicate 65536 255) zeroCache),
     (0 ∷ 0 ∷ 0 ∷ 0 ∷ 0 ∷ 0 ∷ 6 ∷ 0 ∷ 0 ∷ 64 ∷ [], 0 ∷ 0 ∷ 0 ∷ 0 ∷ 0 ∷ 0 ∷ 6 ∷ 64 ∷ 0 ∷ 64 ∷ []),
   )
       ∷ []
@@ -25,6 +27,6 @@ pub record RunRows : Type 0 where
   -- after a clear with no invalidate; and a cache that was not zeros (P7 f)
   pub other-runs : Hold (
       (numbers (clearAll ∷ loadIt ∷ []) stored, (0 ∷ 0 ∷ [], 0 ∷ 64 ∷ []))
-      ∷ (numbers (loadIt ∷ []) (unmapped, stored .1), (0 ∷ [], 64 ∷ []))
+      ∷ (numbers (loadIt ∷ []) (slices unmapped (stored .cache)), (0 ∷ [], 64 ∷ []))
       ∷ []
       )

@@ -13,7 +13,7 @@ use Rattle.translation.specs.declared.Answer.{Answer}
 use Rattle.translation.specs.declared.decision.Decision.{Decision}
 use Rattle.translation.specs.declared.operand.OperandAnswer.{OperandAnswer}
 use Rattle.translation.proofs.Parts.{SameButPlace}
-use Rattle.calls.specs.Answers.{accessAnswer, compared}
+use Rattle.calls.specs.Answers.{accessAnswer, withoutPlace, compared}
 
 module _ (part : Answer) (physical attributes bytes rest : ℕ) where
   abbrev deciding : Decision → OperandAnswer
@@ -29,8 +29,8 @@ module _ (part : Answer) (physical attributes bytes rest : ℕ) where
   front-same d e s =
       ap₂ (λ (r x : ℕ). take 40 (accessAnswer (deciding (record { rule = r; detail = x; group = 0; entry = 0 })))) (s .rule) (s .detail)
 
-  pub compared-same : (number : ℕ) (d e : Decision) → SameButPlace d e → compared number (accessAnswer (deciding d)) ≡ compared number (accessAnswer (deciding e))
-  unfolding compared
+  pub compared-same : (number : ℕ) (d e : Decision) → SameButPlace d e → compared withoutPlace number (accessAnswer (deciding d)) ≡ compared withoutPlace number (accessAnswer (deciding e))
+  unfolding withoutPlace
   compared-same number d e s =
       let few : e .rule < 7 = omega (arith, s .rule, s .few) in
       let same : leb 4 (wordAt (accessAnswer (deciding e)) 32) ≡ leb 4 (d .rule) = ap (leb 4) (rule-read e few ∙ sym (s .rule)) in

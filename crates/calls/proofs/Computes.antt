@@ -5,12 +5,11 @@ use Rattle.calls.specs.Lent.{ofLength}
 use Rattle.calls.specs.WithoutTable.{checkCall, setRegisterCall, packCall, unpackCall}
 use Rattle.calls.specs.Request.{sdr1In, fed}
 use Rattle.calls.specs.Rules.{pageInRange, writeThroughInhibited, rules, refusal}
-use Rattle.calls.specs.Answers.{wordAnswer, accessAnswer, refusedBytes, answerRefused, compared}
+use Rattle.calls.specs.Answers.{wordAnswer, accessAnswer, refusedBytes, answerRefused, withoutPlace, seenOf}
 use Rattle.calls.specs.OnBytes.{entryWord, searched, markedBy, bytesDo, onBytes}
 use Rattle.calls.specs.OnMap.{fieldsWord, arranged?, foundIn, mapMarked, mapDoes, onMap}
-use Rattle.calls.specs.Histories.{bytesStep, mapStep}
 use Rattle.calls.specs.PageRows.{groupWith}
 
 unfoldable pub calls-compute : Unit {0}
-unfolding matches-compute translation-computes ofLength checkCall setRegisterCall packCall unpackCall sdr1In fed pageInRange writeThroughInhibited rules refusal wordAnswer accessAnswer refusedBytes answerRefused compared entryWord searched markedBy bytesDo onBytes fieldsWord arranged? foundIn mapMarked mapDoes onMap bytesStep mapStep groupWith
+unfolding matches-compute translation-computes ofLength checkCall setRegisterCall packCall unpackCall sdr1In fed pageInRange writeThroughInhibited rules refusal wordAnswer accessAnswer refusedBytes answerRefused withoutPlace seenOf entryWord searched markedBy bytesDo onBytes fieldsWord arranged? foundIn mapMarked mapDoes onMap groupWith
 calls-compute = tt

@@ -16,7 +16,7 @@ use Rattle.calls.specs.Request.{clear, fed, sdr1In}
 use Rattle.calls.specs.Rules.{refusal}
 use Rattle.calls.specs.OnBytes.{Ended, ended, bytesDo, onBytes}
 use Rattle.calls.specs.Represents.{represents}
-use Rattle.calls.specs.Theorem.{clearing, sdr1With, Start}
+use Rattle.calls.specs.FirstClear.{clearing, sdr1With, Start}
 use Rattle.calls.proofs.OnBytes.{taken, refused}
 use Rattle.calls.proofs.Rules.{Fitting, fitting, clear-taken}
 use Rattle.calls.proofs.TableLaws.{represents-zeros}

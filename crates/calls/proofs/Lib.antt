@@ -1,4 +1,4 @@
--- What the exported functions' proofs cite of the calls, and the proof of the theorem.
+-- What the exported functions' proofs cite of the calls, and the laws of one call.
 pub mod Lent
 pub mod OnBytes
 pub mod TableLaws
@@ -7,7 +7,6 @@ pub mod Fields
 pub mod Step
 pub mod FirstClear
 pub mod Histories
-pub mod Theorem
 pub mod TakenCalls
 pub mod Compared
 pub mod AnyEntries
@@ -16,12 +15,9 @@ pub mod AnyRule
 pub mod AnyAccess
 pub mod AnyTable
 pub mod Refusals
-pub mod Changes
-pub mod Corollaries
 pub mod PageCalls
 pub mod Access
 pub mod Pages
 pub mod WidenedPages
 pub mod Computes
 pub mod Tables
-pub mod Demands

@@ -37,7 +37,7 @@ use Rattle.translation.proofs.Parts.{SameButPlace, operand-same, operand-relate
 use Rattle.calls.specs.Made.{fedAnswered, fedAccess}
 use Rattle.calls.specs.Request.{ClearCall, MapCall, ProtectCall, AnsweredCall, AccessCall, Request, clear, mapPage, unmap, protect, look, access, fed}
 use Rattle.calls.specs.Rules.{refusal}
-use Rattle.calls.specs.Answers.{wordAnswer, accessAnswer, compared}
+use Rattle.calls.specs.Answers.{wordAnswer, accessAnswer, withoutPlace, seenOf, compared}
 use Rattle.calls.specs.OnBytes.{layout, Ended, entryWord, startOf, earlyOf, partAnswer, usedBy, partDecision, eachPart, wantedPage, searched, searchIn, firstPlaceIn, markedBy, bytesDo}
 use Rattle.calls.specs.OnMap.{PageFields, Map, fieldsWord, markFields, protectFields, arranged?, foundIn, mapMarked, mapDoes}
 use Rattle.calls.specs.Represents.{FieldsInRange, represents}
@@ -48,9 +48,9 @@ use Rattle.calls.proofs.Compared.{compared-same}
 use Rattle.calls.proofs.Fields.{oneIf-lt, word-fits, marked-word, protected-word, mark-range, protect-range}
 
 -- the same number, the same compared of the answer, and a table that represents the map
-pub record Alike (k : ℕ) (e : Ended (List ℕ)) (d : Ended Map) : Type 0 where
+pub record Alike (k : ℕ) (request : Request (List ℕ)) (e : Ended (List ℕ)) (d : Ended Map) : Type 0 where
   pub number : e .number ≡ d .number
-  pub told : compared (e .number) (e .answer) ≡ compared (d .number) (d .answer)
+  pub told : compared (seenOf request) (e .number) (e .answer) ≡ compared (seenOf (fed request)) (d .number) (d .answer)
   pub related : represents k (e .state) (d .state)
 
 -- by the case of an option
@@ -69,12 +69,12 @@ module _ (b : Bool) (page : Page) (valid : InRange page) where
   own-fits = first-lt 1 (page .vsid) (hOf b) (apiOf (page .index)) (lit< tt) (valid .vsid-lt) (oneIf-lt b) (api-lt (page .index) (valid .index-lt))
 
 module _ (k : ℕ) (t : List ℕ) (m : Map) (r : represents k t m) where
-  clear-step : (c : ClearCall) → Alike k (bytesDo k (clear c) t) (mapDoes k (clear c) m)
-  unfolding bytesDo mapDoes
+  clear-step : (c : ClearCall) → Alike k (clear c) (bytesDo k (clear c) t) (mapDoes k (clear c) m)
+  unfolding bytesDo mapDoes seenOf fed
   clear-step c = record { number = refl; told = refl; related = represents-zeros k (length t) (r .good .long) }
 
-  map-step : (c : MapCall) → InRange (c .page) → c .rpn < 2 ^ 20 → c .wimg < 2 ^ 4 → c .pp < 2 ^ 2 → Alike k (bytesDo k (mapPage c) t) (mapDoes k (mapPage c) m)
-  unfolding bytesDo mapDoes fieldsWord
+  map-step : (c : MapCall) → InRange (c .page) → c .rpn < 2 ^ 20 → c .wimg < 2 ^ 4 → c .pp < 2 ^ 2 → Alike k (mapPage c) (bytesDo k (mapPage c) t) (mapDoes k (mapPage c) m)
+  unfolding bytesDo mapDoes fieldsWord seenOf fed
   map-step c valid hr hw hp =
       let page = c .page in
       let new : PageFields = record { frame = c .rpn; attributes = c .wimg; protection = c .pp; referenced = false; changed = false } in
@@ -103,8 +103,8 @@ module _ (k : ℕ) (t : List ℕ) (m : Map) (r : represents k t m) where
     range-of : FieldsInRange f
     range-of = r .valid page f e .1
 
-  unmap-step : (c : AnsweredCall (List ℕ)) → InRange (c .page) → Alike k (bytesDo k (unmap c) t) (mapDoes k (unmap (fedAnswered c)) m)
-  unfolding bytesDo mapDoes
+  unmap-step : (c : AnsweredCall (List ℕ)) → InRange (c .page) → Alike k (unmap c) (bytesDo k (unmap c) t) (mapDoes k (unmap (fedAnswered c)) m)
+  unfolding bytesDo mapDoes seenOf fed
   unmap-step c valid =
       let page = c .page in
       by-cases (fieldsAt samePage page m)
@@ -114,14 +114,14 @@ module _ (k : ℕ) (t : List ℕ) (m : Map) (r : represents k t m) where
       rw (o .only, e)
       (record {
         number = refl;
-        told = ap (λ (w : ℕ). compared 0 (wordAnswer 0 w)) (merged-one (o .match) ∙ o .second-is);
+        told = ap (λ (w : ℕ). compared (λ answer. answer) 0 (wordAnswer 0 w)) (merged-one (o .match) ∙ o .second-is);
         related =
             subst (λ xs. represents k (overwriteEach (layout k) page (λ y. (0, 0)) xs t) (takeOut samePage page m)) (o .only)
             (represents-takeOut (layout-laws k) r page f e 0 0 free-zero (lit< tt) (lit< tt));
       }))
 
-  protect-step : (c : ProtectCall) → InRange (c .page) → c .pp < 2 ^ 2 → Alike k (bytesDo k (protect c) t) (mapDoes k (protect c) m)
-  unfolding bytesDo mapDoes
+  protect-step : (c : ProtectCall) → InRange (c .page) → c .pp < 2 ^ 2 → Alike k (protect c) (bytesDo k (protect c) t) (mapDoes k (protect c) m)
+  unfolding bytesDo mapDoes seenOf fed
   protect-step c valid fits =
       let page = c .page in
       let pp = c .pp in
@@ -140,13 +140,13 @@ module _ (k : ℕ) (t : List ℕ) (m : Map) (r : represents k t m) where
             (represents-revise (layout-laws k) r page f e (withPP pp) (protectFields pp) (protected-word f range pp fits) more (word-fits (protectFields pp f) more));
       }))
 
-  look-step : (c : AnsweredCall (List ℕ)) → InRange (c .page) → Alike k (bytesDo k (look c) t) (mapDoes k (look (fedAnswered c)) m)
-  unfolding bytesDo mapDoes contradict
+  look-step : (c : AnsweredCall (List ℕ)) → InRange (c .page) → Alike k (look c) (bytesDo k (look c) t) (mapDoes k (look (fedAnswered c)) m)
+  unfolding bytesDo mapDoes contradict seenOf fed
   look-step c valid =
       let page = c .page in
       by-cases (fieldsAt samePage page m)
       (λ e. rw (unmapped-matches (layout-laws k) r page valid e, e) (record { number = refl; told = refl; related = r }))
-      (λ f e. let o = one page f e in rw (o .only, e) (record { number = refl; told = ap (λ (w : ℕ). compared 0 (wordAnswer 0 w)) (o .second-is); related = r }))
+      (λ f e. let o = one page f e in rw (o .only, e) (record { number = refl; told = ap (λ (w : ℕ). compared (λ answer. answer) 0 (wordAnswer 0 w)) (o .second-is); related = r }))
 
   -- ---- the access
 
@@ -221,8 +221,8 @@ parts-mark k t m r c result =
     (λ one. rw one first)
 
 module _ (k : ℕ) (t : List ℕ) (m : Map) (r : represents k t m) where
-  access-step : (c : AccessCall (List ℕ)) → Alike k (bytesDo k (access c) t) (mapDoes k (access (fedAccess c)) m)
-  unfolding bytesDo mapDoes
+  access-step : (c : AccessCall (List ℕ)) → Alike k (access c) (bytesDo k (access c) t) (mapDoes k (access (fedAccess c)) m)
+  unfolding bytesDo mapDoes seenOf fed
   access-step c =
       let search : Wanted → Searched = onMapSearch k t m r in
       let plain : Bool → Answer = partAnswer c search in
@@ -235,14 +235,14 @@ module _ (k : ℕ) (t : List ℕ) (m : Map) (r : represents k t m) where
       (record {
         number = number;
         told =
-            operand-related (λ x y. compared (x .part .result) (accessAnswer x) ≡ compared (y .part .result) (accessAnswer y)) (c .address) (c .length) plain placed unplaced
+            operand-related (λ x y. compared withoutPlace (x .part .result) (accessAnswer x) ≡ compared withoutPlace (y .part .result) (accessAnswer y)) (c .address) (c .length) plain placed unplaced
             (λ second part physical attributes bytes rest.
             compared-same part physical attributes bytes rest (part .result) (placed second) (unplaced second) (decision-same k t m r c second));
         related = rw number (parts-mark k t m r c (operandAnswer (c .address) (c .length) plain unplaced .part .result));
       })
 
   -- each call that its arguments do not refuse
-  pub step : (request : Request (List ℕ)) (lent : ℕ) → refusal (fed request) lent ≡ 0 → Alike k (bytesDo k request t) (mapDoes k (fed request) m)
+  pub step : (request : Request (List ℕ)) (lent : ℕ) → refusal (fed request) lent ≡ 0 → Alike k request (bytesDo k request t) (mapDoes k (fed request) m)
   unfolding fed
   step (clear c) lent e = clear-step k t m r c
   step (mapPage c) lent e = let kept = map-kept lent c e in map-step k t m r c (kept .0) (kept .1 .0) (kept .1 .1 .0) (kept .1 .1 .1)

@@ -41,7 +41,20 @@ answerRefused lent (protect c) number = []
 answerRefused lent (look c) number = refusedBytes 3 number (lent (c .answer))
 answerRefused lent (access c) number = refusedBytes 11 number (lent (c .answer))
 
--- what is compared of an answer: its result number and, unless a length was refused, every byte; but where the rule, the word at byte 32, is 4 to 6,
--- not the group and the entry number behind byte 40, which follow from the table
-unfoldable pub compared : ℕ → List ℕ → ℕ × List ℕ
-compared number answer = (number, cond (eqb number refusedLentLength) [] (cond (leb ruleGuarded (wordAt answer 32)) (take 40 answer) answer))
+-- the answer of an access without its place: where the rule, the word at byte 32, is 4 to 6, not the group and the entry number behind byte 40, which
+-- follow from the table
+unfoldable pub withoutPlace : List ℕ → List ℕ
+withoutPlace answer = cond (leb ruleGuarded (wordAt answer 32)) (take 40 answer) answer
+
+-- what is seen of a request's answer: every byte, but of an access not the place
+unfoldable pub seenOf : {A : Type 0} → Request A → List ℕ → List ℕ
+seenOf (clear c) answer = answer
+seenOf (mapPage c) answer = answer
+seenOf (unmap c) answer = answer
+seenOf (protect c) answer = answer
+seenOf (look c) answer = answer
+seenOf (access c) answer = withoutPlace answer
+
+-- what is compared of a call: its result number and, unless a length was refused, what is seen of its answer
+abbrev pub compared : (List ℕ → List ℕ) → ℕ → List ℕ → ℕ × List ℕ
+compared seen number answer = (number, cond (eqb number refusedLentLength) [] (seen answer))

@@ -1,4 +1,4 @@
--- What each exported call answers and leaves in what it was lent; the plain finite map; and the theorem that joins the two over every history.
+-- What each exported call on a table answers and leaves in what it was lent; the plain finite map; and what is said of each call on any table.
 pub mod Lent
 pub mod WithoutTable
 pub mod Request
@@ -8,12 +8,10 @@ pub mod Answers
 pub mod OnBytes
 pub mod OnMap
 pub mod Represents
-pub mod Histories
-pub mod Theorem
+pub mod FirstClear
 pub mod AnyTable
 pub mod Refusals
 pub mod Widened
 pub mod Tables
 pub mod PageRows
 pub mod OperandRows
-pub mod Demands

@@ -6,10 +6,10 @@ use lib.ListN.{replicate}
 use Rattle.numbers.specs.Numbers.{done, dataStorageFault, instructionStorageFault, refusedContradiction, refusedLentLength}
 use Rattle.words.specs.Rows.{Hold}
 use Rattle.words.specs.Words.{withWord, bytesOf}
-use Rattle.calls.specs.Made.{toAccess}
-use Rattle.calls.specs.Answers.{wordAnswer, compared}
+use Rattle.calls.specs.Made.{toLook, toAccess}
+use Rattle.calls.specs.Answers.{wordAnswer, withoutPlace, seenOf, compared}
 use Rattle.calls.specs.OnBytes.{ended, bytesDo}
-use Rattle.calls.specs.PageRows.{zeroRegisters, rule, noRule, stop, oneByte}
+use Rattle.calls.specs.PageRows.{pageOf, zeroRegisters, rule, noRule, stop, oneByte}
 
 -- the pages with VSID 0 and page index 0 and 1, whose groups are 0 and 1: one entry each, by its second word
 abbrev pub group : ℕ → ℕ → ℕ → ℕ → List ℕ
@@ -154,12 +154,12 @@ pub record OperandRows : Type 0 where
       )
   -- what is compared of an answer: every byte; not the place of an entry in rules 4 to 6; nothing where a length is refused
   pub compared-bytes : Hold (
-      (compared done (oneByte 1 2 3 (rule 6 2 7 1)), (done, bytesOf (done ∷ 1 ∷ 2 ∷ 3 ∷ 0 ∷ 0 ∷ 1 ∷ 0 ∷ 6 ∷ 2 ∷ [])))
-      ∷ (compared dataStorageFault (stop dataStorageFault 1 2 3 (rule 5 7 7 1)), (dataStorageFault, bytesOf (dataStorageFault ∷ 1 ∷ 2 ∷ 3 ∷ 0 ∷ 0 ∷ 0 ∷ 0 ∷ 5 ∷ 7 ∷ [])))
-      ∷ (compared dataStorageFault (stop dataStorageFault 1 2 3 (rule 4 0 7 1)), (dataStorageFault, bytesOf (dataStorageFault ∷ 1 ∷ 2 ∷ 3 ∷ 0 ∷ 0 ∷ 0 ∷ 0 ∷ 4 ∷ 0 ∷ [])))
-      ∷ (compared dataStorageFault (stop dataStorageFault 1 2 3 (rule 3 0 7 1)), (dataStorageFault, stop dataStorageFault 1 2 3 (rule 3 0 7 1)))
-      ∷ (compared done (oneByte 1 2 3 (rule 1 3 7 1)), (done, oneByte 1 2 3 (rule 1 3 7 1)))
-      ∷ (compared done (wordAnswer done 0x12345012), (done, wordAnswer done 0x12345012))
-      ∷ (compared refusedLentLength (oneByte 1 2 3 noRule), (refusedLentLength, []))
+      (compared (seenOf {A = ℕ} (toAccess [] 0 0 0 1 48)) done (oneByte 1 2 3 (rule 6 2 7 1)), (done, bytesOf (done ∷ 1 ∷ 2 ∷ 3 ∷ 0 ∷ 0 ∷ 1 ∷ 0 ∷ 6 ∷ 2 ∷ [])))
+      ∷ (compared withoutPlace dataStorageFault (stop dataStorageFault 1 2 3 (rule 5 7 7 1)), (dataStorageFault, bytesOf (dataStorageFault ∷ 1 ∷ 2 ∷ 3 ∷ 0 ∷ 0 ∷ 0 ∷ 0 ∷ 5 ∷ 7 ∷ [])))
+      ∷ (compared withoutPlace dataStorageFault (stop dataStorageFault 1 2 3 (rule 4 0 7 1)), (dataStorageFault, bytesOf (dataStorageFault ∷ 1 ∷ 2 ∷ 3 ∷ 0 ∷ 0 ∷ 0 ∷ 0 ∷ 4 ∷ 0 ∷ [])))
+      ∷ (compared withoutPlace dataStorageFault (stop dataStorageFault 1 2 3 (rule 3 0 7 1)), (dataStorageFault, stop dataStorageFault 1 2 3 (rule 3 0 7 1)))
+      ∷ (compared withoutPlace done (oneByte 1 2 3 (rule 1 3 7 1)), (done, oneByte 1 2 3 (rule 1 3 7 1)))
+      ∷ (compared (seenOf {A = ℕ} (toLook 0 (pageOf 0 0) 16)) done (wordAnswer done 0x12345012), (done, wordAnswer done 0x12345012))
+      ∷ (compared withoutPlace refusedLentLength (oneByte 1 2 3 noRule), (refusedLentLength, []))
       ∷ []
       )

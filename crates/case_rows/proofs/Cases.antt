@@ -1,7 +1,7 @@
 -- Every row of the twelve cases holds: what there is to compute for it computes.
 use mathlib.Core.Path.{refl}
 use native.Mathlib.Omega.{arith}
-use Rattle.calls.proofs.Computes.{calls-compute}
+use Rattle.histories.proofs.Computes.{histories-compute}
 use Rattle.case_rows.specs.Cases.{case1, cases2to5, case6, case7, cases8to10, case11, case12, oneMore, exchanged, TwelveCases}
 use Rattle.case_rows.proofs.Pair.{pairMarked, pairDo}
 use Rattle.case_rows.proofs.Rows.{Setting, rows-hold}
@@ -17,7 +17,7 @@ first : Setting 0 0 0 0x3FF
 first = record { few = omega arith; whole = refl; mirror = refl }
 
 pub twelve-cases : TwelveCases
-unfolding calls-compute pairDo pairMarked
+unfolding histories-compute pairDo pairMarked
 twelve-cases =
     let hash = rows-hold 0x0F98 3 0x1FE6 0x0019 large case1 (refl, (refl, (refl, (refl, (refl, (refl, tt)))))) in
     let page-8192 = rows-hold 0x0F98 3 0x1FE6 0x0019 large (cases2to5 0x0F980007 0x1FE6 0x0019) (refl, (refl, (refl, (refl, (refl, (refl, (refl, (refl, (refl, tt))))))))) in

@@ -36,10 +36,11 @@ use Rattle.calls.specs.Request.{MapCall, AnsweredCall, Request, clear, mapPage,
 use Rattle.calls.specs.Rules.{refusal}
 use Rattle.calls.specs.Answers.{wordAnswer}
 use Rattle.calls.specs.OnBytes.{layout, Ended, ended, byMatches, byOption, entryWord, startOf, earlyOf, partAnswer, partDecision, wantedPage, searched, searchIn, firstPlaceIn, markedBy, bytesDo, onBytes}
-use Rattle.calls.specs.Histories.{bytesStep}
-use Rattle.calls.specs.Theorem.{sdr1With}
+use Rattle.calls.specs.FirstClear.{sdr1With}
 use Rattle.calls.proofs.OnBytes.{taken}
-use Rattle.case_rows.specs.Cases.{onTable, history, stored, Holds}
+use Rattle.histories.specs.Calls.{Slices, State, onLent, calling}
+use Rattle.histories.specs.Fed.{bytesStep}
+use Rattle.case_rows.specs.Cases.{onTable, clearThen, stored, Holds}
 
 -- ---- the step on two groups
 
@@ -287,11 +288,12 @@ module _ (k p s : ℕ) where
           rw (one, one-answers (c .address) (c .length) (partAnswer c (searchIn k t)) (partDecision c (searchIn k t) (firstPlaceIn k t)) one) (marked-shows (c .kind) (startOf c false) (earlyOf c false) early)
 
     module _ (o : ℕ) (few : k ≤ 9) (whole : o % 2 ^ k ≡ 0) where
-      after-shows : (requests : List (Request (List ℕ))) → allOwn (sdr1With o k) requests ≡ true → (t : List ℕ) → length t ≡ 65536 * 2 ^ k
-          → Shows (after bytesStep (map onTable requests) t) (pairAfter requests (pairOf t))
-      unfolding bytesStep
-      after-shows [] own t long = stays t long
-      after-shows (request ∷ requests) own t long =
+      after-shows : (requests : List (Request (List ℕ))) → allOwn (sdr1With o k) requests ≡ true → (s : State) → length (s .table) ≡ 65536 * 2 ^ k
+          → Shows (after bytesStep (map onTable requests) s .table) (pairAfter requests (pairOf (s .table)))
+      unfolding bytesStep calling onLent
+      after-shows [] own s long = stays (s .table) long
+      after-shows (request ∷ requests) own s long =
+          let t = s .table in
           let (here, rest) = both (ownCall request && (eqb (sdr1In request) (sdr1With o k) && eqb (refusal (fed request) (65536 * 2 ^ k)) 0)) (allOwn (sdr1With o k) requests) own in
           let (mine, more) = both (ownCall request) (eqb (sdr1In request) (sdr1With o k) && eqb (refusal (fed request) (65536 * 2 ^ k)) 0) here in
           let (same, kept) = both (eqb (sdr1In request) (sdr1With o k)) (eqb (refusal (fed request) (65536 * 2 ^ k)) 0) more in
@@ -300,18 +302,18 @@ module _ (k p s : ℕ) where
           taken request t (ap (refusal (fed request)) long ∙ eqb-true (refusal (fed request) (65536 * 2 ^ k)) 0 kept)
           ∙ ap (λ (n : ℕ). bytesDo n request t) ones in
           let next : Shows (onBytes request t .state) (pairDo request (pairOf t)) = rw does (do-shows t long request mine) in
-          subst (λ x. Shows (after bytesStep (map onTable requests) (onBytes request t .state)) (pairAfter requests x)) (next .groups)
-          (after-shows requests rest (onBytes request t .state) (next .long))
+          let left = calling (onTable request) s .state in
+          subst (λ x. Shows (after bytesStep (map onTable requests) left .table) (pairAfter requests x)) (next .groups) (after-shows requests rest left (next .long))
 
       -- the two groups after a clear and calls of theirs
       module _ (requests : List (Request (List ℕ))) (stated : List ℕ) (own : allOwn (sdr1With o k) (toClear (sdr1With o k) ∷ requests) ≡ true) where
-        groups-after : (t : List ℕ) → length t ≡ tableLength (sdr1With o k)
-            → pairOf (after bytesStep (history (sdr1With o k) requests) t) ≡ pairAfter requests zeros
+        groups-after : (s : State) → length (s .table) ≡ tableLength (sdr1With o k)
+            → pairOf (after bytesStep (clearThen (sdr1With o k) requests) s .table) ≡ pairAfter requests zeros
         unfolding pairDo
-        groups-after t long = after-shows (toClear (sdr1With o k) ∷ requests) own t (long ∙ made-length o k few whole) .groups
+        groups-after s long = after-shows (toClear (sdr1With o k) ∷ requests) own s (long ∙ made-length o k few whole) .groups
 
         pub primary-holds : pairAfter requests zeros .0 ≡ bytesOf stated → Holds (stored (sdr1With o k) requests p stated)
-        primary-holds e t long = ap (λ (x : Pair). x .0) (groups-after t long) ∙ e
+        primary-holds e s long = ap (λ (x : Pair). x .0) (groups-after s long) ∙ e
 
         pub secondary-holds : pairAfter requests zeros .1 ≡ bytesOf stated → Holds (stored (sdr1With o k) requests s stated)
-        secondary-holds e t long = ap (λ (x : Pair). x .1) (groups-after t long) ∙ e
+        secondary-holds e s long = ap (λ (x : Pair). x .1) (groups-after s long) ∙ e

@@ -12,7 +12,7 @@ use Rattle.tables.proofs.Runs.{each-weaker}
 use Rattle.calls.specs.Made.{toClear}
 use Rattle.calls.specs.Request.{Request, fed}
 use Rattle.calls.specs.Rules.{refusal}
-use Rattle.calls.specs.Theorem.{sdr1With}
+use Rattle.calls.specs.FirstClear.{sdr1With}
 use Rattle.calls.proofs.OnBytes as call
 use Rattle.case_rows.specs.Cases.{Claim, computes, refused, answered, stored, Holds, Row, AllHold}
 use Rattle.case_rows.proofs.Histories.{allBring, mapAnswers, answered-holds}

@@ -2,7 +2,6 @@
 use Prim.Native.Nat.{ℕ, _+_, _*_}
 use mathlib.Core.Bool.{Bool, true, false}
 use mathlib.Core.List.{List, [], _∷_, _++_, map}
-use mathlib.Core.Option.{none}
 use mathlib.Core.Path.{_≡_}
 use lib.ListN.{length, replicate}
 use Rattle.numbers.specs.Numbers.{done, dataStorageFault, refusedSdr1, refusedBlock, refusedFull, answerSize, accessAnswerSize}
@@ -17,7 +16,9 @@ use Rattle.calls.specs.Request.{Request}
 use Rattle.calls.specs.Made.{toClear, toMap, toUnmap, toLook, toAccess}
 use Rattle.calls.specs.WithoutTable.{checkCall}
 use Rattle.calls.specs.OnBytes.{onBytes}
-use Rattle.calls.specs.Histories.{Call, bytesStep}
+use Rattle.histories.specs.Calls.{Slices, State, Call, plain}
+use Rattle.histories.specs.Fed.{bytesStep}
+use Rattle.histories.specs.Histories.{ownCall}
 
 -- ---- rows, and when they hold
 
@@ -34,10 +35,10 @@ pub data Claim : Type 0 where
 
 -- a clear and the calls that follow it, each on the table as the one before left it
 abbrev pub onTable : Request (List ℕ) → Call
-onTable request = record { request = request; lent = none }
+onTable request = ownCall (plain request)
 
-abbrev pub history : ℕ → List (Request (List ℕ)) → List Call
-history sdr1 requests = map onTable (toClear sdr1 ∷ requests)
+abbrev pub clearThen : ℕ → List (Request (List ℕ)) → List Call
+clearThen sdr1 requests = map onTable (toClear sdr1 ∷ requests)
 
 -- what clear, map and protect answer: a result number alone
 abbrev pub result : ℕ → ℕ × List ℕ
@@ -72,9 +73,10 @@ byFirstBlock = 1 ∷ 0 ∷ 0 ∷ 0 ∷ []
 abbrev pub Holds : Claim → Type 0
 Holds (computes computed stated) = computed ≡ stated
 Holds (refused request stated) = (t : List ℕ) → (onBytes request t .number ≡ stated) × (onBytes request t .state ≡ t)
-Holds (answered sdr1 requests stated) = (t : List ℕ) → length t ≡ tableLength sdr1 → run bytesStep (history sdr1 requests) t ≡ result done ∷ stated
+Holds (answered sdr1 requests stated) =
+    (s : State) → length (s .table) ≡ tableLength sdr1 → run bytesStep (clearThen sdr1 requests) s ≡ result done ∷ stated
 Holds (stored sdr1 requests group stated) =
-    (t : List ℕ) → length t ≡ tableLength sdr1 → groupOf (after bytesStep (history sdr1 requests) t) group ≡ bytesOf stated
+    (s : State) → length (s .table) ≡ tableLength sdr1 → groupOf (after bytesStep (clearThen sdr1 requests) s .table) group ≡ bytesOf stated
 
 abbrev pub Row : Type 0
 Row = ℕ × Claim

@@ -8,7 +8,7 @@ use Prim.Native.Nat.{ℕ, suc, _+_, _-_, _≤_, _<_}
 use native.Mathlib.Omega.{arith}
 use lib.Dec.{eqb, ltb}
 use borrow.Author.Tests.{eqb-true, ltb-true, ltb-false}
-use Rattle.placement.specs.Lists.{oneIf, selected}
+use Rattle.placement.specs.Lists.{oneIf}
 use Rattle.placement.specs.Placement.{Arrangement}
 use Rattle.placement.specs.Pairs.{ofPair, pagesOfPair}
 use Rattle.placement.proofs.Lists.{selected-sublist}
@@ -16,13 +16,7 @@ use Rattle.placement.proofs.Perm.{Perm, pnil, pcons, pswap, ptrans, prefl, pof,
 use Rattle.placement.proofs.Decision.{own-pair, ofPair-by, primary-in-range, pair-bound}
 use Rattle.placement.proofs.FiniteMap.{same-false}
 use Rattle.placement.proofs.Arrangements.{arrangement-exists, arrangement-sublist}
-
--- what a call does to the list of mapped pages
-pub data Act (P : Type 0) : Type 0 where
-  leave : Act P
-  empty : Act P
-  insert : P → Act P
-  delete : P → Act P
+use Rattle.histories.proofs.Acts.{Act, leave, empty, insert, delete, has, without, act, acts}
 
 -- every act but `empty`
 abbrev pub NotEmpty : {P : Type 0} → Act P → Type 0
@@ -32,36 +26,14 @@ NotEmpty (insert p) = Unit {0}
 NotEmpty (delete p) = Unit {0}
 
 module _ {P : Type 0} (same : P → P → Bool) where
-  -- the page is in the list
-  abbrev pub has : P → List P → Bool
-  has p [] = false
-  has p (x ∷ l) = same p x || has p l
-
   -- at most one page is in the first list that the second lacks
   abbrev pub AtMostOne : List P → List P → Type 0
-  AtMostOne l m = (p q : P) → has p l ≡ true → has p m ≡ false → has q l ≡ true → has q m ≡ false → p ≡ q
-
-  -- the list without the page
-  abbrev pub without : P → List P → List P
-  without p l = selected (λ q. not (same p q)) l
+  AtMostOne l m = (p q : P) → has same p l ≡ true → has same p m ≡ false → has same q l ≡ true → has same q m ≡ false → p ≡ q
 
   -- no page is in the list twice
   abbrev Distinct : List P → Type 0
   Distinct [] = Unit {0}
-  Distinct (x ∷ l) = (has x l ≡ false) × Distinct l
-
-  module _ (group : Bool → P → ℕ) (capacity : ℕ) (arranged? : (ps : List P) → Dec (Arrangement group capacity ps)) where
-    -- a page is inserted once, and only where an arrangement exists with it
-    abbrev pub act : Act P → List P → List P
-    act leave l = l
-    act empty l = []
-    act (insert p) l = cond (has p l) l (ite (arranged? (p ∷ l)) (p ∷ l) l)
-    act (delete p) l = without p l
-
-    -- the acts one after the other, from the left
-    abbrev pub acts : List (Act P) → List P → List P
-    acts [] l = l
-    acts (a ∷ rest) l = acts rest (act a l)
+  Distinct (x ∷ l) = (has same x l ≡ false) × Distinct l
 
 or-none : (a b : Bool) → (a || b) ≡ false → (a ≡ false) × (b ≡ false)
 or-none true b e = absurd (true≢false e)

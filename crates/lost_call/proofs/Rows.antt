@@ -1,11 +1,11 @@
 -- Every row of the false readings holds: it computes.
 use mathlib.Core.Path.{refl}
 use Rattle.placement.proofs.Decision.{arrangement?}
-use Rattle.cached_calls.proofs.Computes.{cached-calls-compute}
+use Rattle.histories.proofs.Computes.{histories-compute}
 use Rattle.lost_call.specs.Rows.{LostRows}
 
 pub lost-rows : LostRows
-unfolding cached-calls-compute arrangement?
+unfolding histories-compute arrangement?
 lost-rows = record {
   not-one-in-all = record { equal = refl };
   not-none = record { equal = refl };

@@ -2,7 +2,6 @@
 -- computation. Under SDR1 0 the pages here have primary group 0, so sixteen of them are as many as their pair of groups takes.
 use Prim.Native.Nat.{ℕ, _*_, _/_}
 use mathlib.Core.List.{List, [], _∷_, _++_, map}
-use mathlib.Core.Option.{none}
 use lib.ListN.{replicate}
 use Rattle.numbers.specs.Numbers.{answerSize}
 use Rattle.words.specs.Rows.{Hold}
@@ -10,25 +9,26 @@ use Rattle.tables.specs.Runs.{after}
 use Rattle.groups.specs.Page.{Page}
 use Rattle.calls.specs.Made.{toMap, toUnmap}
 use Rattle.calls.specs.OnMap.{PageFields}
-use Rattle.cached_calls.specs.Discipline.{CacheCall, plain}
-use Rattle.cached_calls.specs.Invisible.{mapCached}
+use Rattle.histories.specs.Calls.{Call, slices, plain}
+use Rattle.histories.specs.Fed.{fedOf, mapStep}
+use Rattle.histories.specs.Histories.{ownCall}
 
 -- page i of the pair, its map to a frame, and its unmap
 abbrev pub pageNumber : ℕ → Page
 pageNumber i = record { vsid = 0; index = 1024 * i }
 
-abbrev pub mapTo : ℕ → ℕ → CacheCall
-mapTo frame i = plain (record { request = toMap 0 (pageNumber i) frame 0 2; lent = none })
+abbrev pub mapTo : ℕ → ℕ → Call
+mapTo frame i = ownCall (plain (toMap 0 (pageNumber i) frame 0 2))
 
-abbrev pub unmapIt : ℕ → CacheCall
-unmapIt i = plain (record { request = toUnmap 0 (pageNumber i) (replicate answerSize 0); lent = none })
+abbrev pub unmapIt : ℕ → Call
+unmapIt i = ownCall (plain (toUnmap 0 (pageNumber i) (replicate answerSize 0)))
 
 -- the pages that are mapped after a run, the newest first, each with its frame
-abbrev pub mappedAfter : List CacheCall → List (ℕ × ℕ)
-mappedAfter calls = map (λ (x : Page × PageFields). (x .0 .index / 1024, x .1 .frame)) (after (mapCached 65536) calls [])
+abbrev pub mappedAfter : List Call → List (ℕ × ℕ)
+mappedAfter calls = map (λ (x : Page × PageFields). (x .0 .index / 1024, x .1 .frame)) (after mapStep (map (fedOf (slices 65536 2048)) calls) [])
 
 -- fifteen pages of the pair, in frame 1
-abbrev pub fifteen : List CacheCall
+abbrev pub fifteen : List Call
 fifteen = map (mapTo 1) (1 ∷ 2 ∷ 3 ∷ 4 ∷ 5 ∷ 6 ∷ 7 ∷ 8 ∷ 9 ∷ 10 ∷ 11 ∷ 12 ∷ 13 ∷ 14 ∷ 15 ∷ [])
 
 abbrev pub inFrame1 : List (ℕ × ℕ)

@@ -1,0 +1,51 @@
+-- The demands, each with its statement, and the rows that pin what the statements are made of.
+use Rattle.placement.specs.Tables.{PlacementTables}
+use Rattle.tables.specs.FourGroups.{FourGroupsTables}
+use Rattle.groups.specs.Tables.{GroupsTables}
+use Rattle.matches.specs.Tables.{MatchesTables}
+use Rattle.edits.specs.Tables.{EditsTables}
+use Rattle.cache.specs.Tables.{CacheTables}
+use Rattle.calls.specs.Refusals.{RefusalsLeave}
+use Rattle.calls.specs.AnyTable.{CallsOnAnyTable, AccessStated}
+use Rattle.calls.specs.Widened.{PagesWiden}
+use Rattle.calls.specs.Tables.{WithoutTableTables}
+use Rattle.calls.specs.PageRows.{PageRows}
+use Rattle.calls.specs.OperandRows.{OperandRows}
+use Rattle.cached_calls.specs.AnyCache.{CallsOnAnyCache}
+use Rattle.cached_calls.specs.Rows.{CachedRows}
+use Rattle.access_rights.specs.Stated.{RightsStated}
+use Rattle.histories.specs.Theorem.{TableRefinesMap, AccessFollowsHistory, RightsFollowHistory}
+use Rattle.histories.specs.Invisible.{CacheInvisible}
+use Rattle.histories.specs.Rows.{SliceRows, WaitingRows}
+
+pub record Demands : Type 0 where
+  -- 1: a refusal leaves what was lent; of calls with a cache that stands in what they do to any
+  pub refusals : RefusalsLeave
+  -- 2: each access gives the address, attributes and marks, or the fault, of the rules
+  pub accesses : AccessStated
+  -- 3: over every history after a first clear that was done, the table answers as the finite map; and what that means for a page
+  pub histories : TableRefinesMap
+  pub pages : AccessFollowsHistory
+  -- over every disciplined list nobody can tell the cache from none
+  pub invisible : CacheInvisible
+  -- what each call does to any table and any cache, whoever wrote them
+  pub any-table : CallsOnAnyTable
+  pub any-cache : CallsOnAnyCache
+  -- what is told of three accesses, on any table and after a history
+  pub rights : RightsStated
+  pub rights-follow : RightsFollowHistory
+  -- a short register page answers as the same page widened
+  pub register-pages : PagesWiden
+  -- rows; those of numbers, words, entries, registers and the steps of an access stand in 2, those of rights in what is stated of them
+  pub maps : PlacementTables
+  pub small-tables : FourGroupsTables
+  pub groups : GroupsTables
+  pub matches : MatchesTables
+  pub edits : EditsTables
+  pub cache : CacheTables
+  pub without-table : WithoutTableTables
+  pub page-calls : PageRows
+  pub operands : OperandRows
+  pub cached-calls : CachedRows
+  pub slices : SliceRows
+  pub waiting : WaitingRows

@@ -138,6 +138,11 @@ module _ (pairs width : ℕ) (wide : width ≤ 15) (words : List ℕ) where
 pub check-decides : (pairs width : ℕ) → width ≤ 15 → CheckDecides pairs width
 check-decides pairs width wide words = (passed-good pairs width wide words, good-passed pairs width wide words)
 
+-- BL has at most 15 bits
+pub at-most-15 : (long : Bool) → blWidth long ≤ 15
+at-most-15 true = lit≤ tt
+at-most-15 false = lit≤ tt
+
 pub replacing-decides : ReplacingDecides
 unfolding replacing
 replacing-decides long words number word = (
@@ -145,9 +150,5 @@ replacing-decides long words number word = (
   (λ g. rw (lt-ltb number (registerCount long) (g .0)) (decides .1 (g .1))),
 )
   where
-    within : (t : Bool) → blWidth t ≤ 15
-    within true = lit≤ tt
-    within false = lit≤ tt
-
     decides : (checkWords (blockPairs long) (blWidth long) (set words number word) ≡ 0) ↔ SetGood (blockPairs long) (blWidth long) (set words number word)
-    decides = check-decides (blockPairs long) (blWidth long) (within long) (set words number word)
+    decides = check-decides (blockPairs long) (blWidth long) (at-most-15 long) (set words number word)

@@ -36,12 +36,12 @@ use Rattle.translation.specs.declared.Wanted.{Wanted}
 use Rattle.translation.proofs.Stated.{access-as-stated}
 use Rattle.translation.proofs.Steps.{page-by, after-nothing, after-at, outcome-searched}
 use Rattle.calls.specs.Made.{fedAnswered}
-use Rattle.calls.specs.Request.{MapCall, ProtectCall, AnsweredCall, AccessCall, Request, mapPage, unmap, protect, look, access, sdr1In, fed}
+use Rattle.calls.specs.Request.{ClearCall, MapCall, ProtectCall, AnsweredCall, AccessCall, Request, clear, mapPage, unmap, protect, look, access, sdr1In, fed}
 use Rattle.calls.specs.Answers.{wordAnswer, accessAnswer}
 use Rattle.calls.specs.OnBytes.{layout, Ended, ended, byMatches, entryWord, earlyOf, wantedPage, searched, markedBy, bytesDo, onBytes}
 use Rattle.calls.specs.Represents.{GoodTable}
 use Rattle.calls.specs.AnyTable.{groupAt, firstHere, secondHere, Matching, SomeMatch, SomeMatchHas, Disagreeing, FirstMatch, Free, FirstFree, Marked, Taken}
-use Rattle.calls.specs.AnyTable.{MapOnAny, UnmapOnAny, ProtectOnAny, LookOnAny, SearchOnAny, AccessOnAny, CallsOnAnyTable, AccessStated}
+use Rattle.calls.specs.AnyTable.{ClearOnAny, MapOnAny, UnmapOnAny, ProtectOnAny, LookOnAny, SearchOnAny, AccessOnAny, CallsOnAnyTable, AccessStated}
 use Rattle.calls.proofs.TakenCalls.{good-table, does, number-of, state-of, answer-of, bit-set, r-is, c-is}
 use Rattle.calls.proofs.Rules.{fitting, map-kept, unmap-kept, look-kept, protect-kept}
 use Rattle.calls.proofs.Histories.{sdr1-fed}
@@ -322,10 +322,16 @@ module _ (c : AnsweredCall (List ℕ)) (t : List ℕ) (a : Taken (look c) t) whe
     left = look-by (λ e. state-of (look-none e)) (λ x xs e d. state-of (look-ten x xs e d)) (λ x xs e d. state-of (look-one x xs e d));
   }
 
+-- ---- clear
+
+clear-on-any : (c : ClearCall) (t : List ℕ) → Taken (clear c) t → ClearOnAny c t
+unfolding bytesDo
+clear-on-any c t was = let left = does (clear c) t was in record { is-done = number-of left; zeroed = state-of left }
+
 -- ---- every call
 
 pub calls-on-any-table : CallsOnAnyTable
-calls-on-any-table = record { maps = map-on-any; unmaps = unmap-on-any; protects = protect-on-any; looks = look-on-any; accesses = access-on-any }
+calls-on-any-table = record { clears = clear-on-any; maps = map-on-any; unmaps = unmap-on-any; protects = protect-on-any; looks = look-on-any; accesses = access-on-any }
 
 pub access-stated : AccessStated
 access-stated = record { steps = access-as-stated; on-tables = access-on-any }

@@ -6,6 +6,7 @@ use Rattle.matches.proofs.Tables.{matches-tables}
 use Rattle.edits.proofs.Tables.{edits-tables}
 use Rattle.calls.specs.Demands.{Demands}
 use Rattle.calls.proofs.Refusals.{refusals-leave}
+use Rattle.calls.proofs.Arguments.{arguments-decide}
 use Rattle.calls.proofs.AnyTable.{calls-on-any-table, access-stated}
 use Rattle.calls.proofs.WidenedPages.{pages-widen}
 use Rattle.calls.proofs.Theorem.{table-refines-map}
@@ -28,4 +29,5 @@ all-demands = record {
   without-table = without-table-tables;
   page-calls = page-rows;
   operands = operand-rows;
+  arguments = arguments-decide;
 }

@@ -16,6 +16,7 @@ pub mod AnyRule
 pub mod AnyAccess
 pub mod AnyTable
 pub mod Refusals
+pub mod Arguments
 pub mod Changes
 pub mod Corollaries
 pub mod PageCalls

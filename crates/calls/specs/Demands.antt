@@ -5,6 +5,7 @@ use Rattle.groups.specs.Tables.{GroupsTables}
 use Rattle.matches.specs.Tables.{MatchesTables}
 use Rattle.edits.specs.Tables.{EditsTables}
 use Rattle.calls.specs.Refusals.{RefusalsLeave}
+use Rattle.calls.specs.Arguments.{ArgumentsDecide}
 use Rattle.calls.specs.AnyTable.{CallsOnAnyTable, AccessStated}
 use Rattle.calls.specs.Widened.{PagesWiden}
 use Rattle.calls.specs.Theorem.{TableRefinesMap, AccessFollowsHistory}
@@ -33,3 +34,5 @@ pub record Demands : Type 0 where
   pub without-table : WithoutTableTables
   pub page-calls : PageRows
   pub operands : OperandRows
+  -- exactly when none of the refusals before the search is given
+  pub arguments : ArgumentsDecide

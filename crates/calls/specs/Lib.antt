@@ -12,6 +12,7 @@ pub mod Histories
 pub mod Theorem
 pub mod AnyTable
 pub mod Refusals
+pub mod Arguments
 pub mod Widened
 pub mod Tables
 pub mod PageRows

@@ -41,11 +41,11 @@ use Rattle.calls.proofs.Refusals.{done-past, does-past}
 -- ---- a list of rules
 
 -- no rule's number is past the rules
-abbrev Numbered : List (Bool × ℕ) → Type 0
+abbrev pub Numbered : List (Bool × ℕ) → Type 0
 Numbered rules = Each (λ (rule : Bool × ℕ). PastRules (rule .1) → ⊥) rules
 
 -- no rule is broken
-abbrev Kept : List (Bool × ℕ) → Type 0
+abbrev pub Kept : List (Bool × ℕ) → Type 0
 Kept rules = Each (λ (rule : Bool × ℕ). rule .0 ≡ false) rules
 
 -- a number past the rules is the number of no broken rule, and then each is kept
@@ -53,25 +53,25 @@ first-past : (broken : Bool) (number rest : ℕ) → (PastRules number → ⊥) 
 first-past true number rest n p = absurd (n p)
 first-past false number rest n p = (refl, p)
 
-past-kept : (rules : List (Bool × ℕ)) → Numbered rules → PastRules (firstBroken rules) → Kept rules
+pub past-kept : (rules : List (Bool × ℕ)) → Numbered rules → PastRules (firstBroken rules) → Kept rules
 past-kept [] n p = tt
 past-kept (rule ∷ rest) n p = let (kept, more) = first-past (rule .0) (rule .1) (firstBroken rest) (n .0) p in (kept, past-kept rest (n .1) more)
 
-kept-none : (rules : List (Bool × ℕ)) → Kept rules → firstBroken rules ≡ 0
+pub kept-none : (rules : List (Bool × ℕ)) → Kept rules → firstBroken rules ≡ 0
 kept-none [] k = refl
 kept-none (rule ∷ rest) k = rw (k .0) (kept-none rest (k .1))
 
-none-kept : (rules : List (Bool × ℕ)) → Numbered rules → firstBroken rules ≡ 0 → Kept rules
+pub none-kept : (rules : List (Bool × ℕ)) → Numbered rules → firstBroken rules ≡ 0 → Kept rules
 none-kept rules n e = past-kept rules n (rw e done-past)
 
 -- the numbers of the rules: 1 to 6, 11 and 12
-low : (n : ℕ) → ltb 0 n ≡ true → leb n 6 ≡ true → PastRules n → ⊥
+pub low : (n : ℕ) → ltb 0 n ≡ true → leb n 6 ≡ true → PastRules n → ⊥
 low n some few p = omega (arith, p .not-1-to-6 (ltb-true 0 n some), leb-true n 6 few)
 
-eleven : PastRules 11 → ⊥
+pub eleven : PastRules 11 → ⊥
 eleven p = p .not-11 refl
 
-numbered : (request : Request ℕ) (lent : ℕ) → Numbered (rules request lent)
+pub numbered : (request : Request ℕ) (lent : ℕ) → Numbered (rules request lent)
 unfolding rules
 numbered (clear c) lent = (low 2 refl refl, (low 1 refl refl, tt))
 numbered (mapPage c) lent = (low 6 refl refl, (low 2 refl refl, (low 1 refl refl, tt)))

@@ -46,7 +46,7 @@ ORDER = [
     ("Calls on bytes", ["calls/Request", "calls/Rules", "calls/Answers", "calls/OnBytes", "calls/Lent", "calls/WithoutTable", "access_rights/Rights"]),
     ("The cache", ["cache/Cache", "cached_calls/Cached", "cached_calls/Discipline"]),
     ("The finite map", ["placement/Lists", "placement/FiniteMap", "placement/Placement", "calls/OnMap", "tables/Runs", "calls/Histories"]),
-    (STATEMENTS, ["entry/RoundTrip", "registers/Blocks", "translation/Stated", "calls/AnyTable", "calls/Refusals", "calls/Widened", "calls/Theorem", "calls/Demands", "calls/Represents", "access_rights/Stated", "cache/Placed",
+    (STATEMENTS, ["entry/RoundTrip", "registers/Blocks", "registers/Check", "translation/Stated", "calls/AnyTable", "calls/Refusals", "calls/Arguments", "calls/Widened", "calls/Theorem", "calls/Demands", "calls/Represents", "access_rights/Stated", "cache/Placed",
         "cached_calls/AnyCache", "cached_calls/Invisible", "cached_calls/Demands", "lost_call/Lost"]),
 ]
 

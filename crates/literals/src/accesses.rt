@@ -17,7 +17,7 @@ fn answers(
     asked: Asked,
     table: [u8; 65536],
     result: u32,
-    expected: [u8; 48],
+    expected: &[u8],
     after: [u8; 65536],
 ) -> bool {
     let page = registers();
@@ -32,18 +32,10 @@ fn answers(
         &mut lent,
         &mut answer,
     );
-    (number == result) & check::same(&answer, &expected) & check::same(&lent, &after)
+    (number == result) & check::same(&answer, expected) & check::same(&lent, &after)
 }
 
-// What the byte at 00FFA01B answers, done by entry 0 of group 998: 1234501B, WIMG 2.
-fn byte_by_page() -> [u8; 48] {
-    [
-        0, 0, 0, 0, 0x12, 0x34, 0x50, 0x1B, 0, 0, 0, 2, 0x00, 0xFF, 0xA0, 0x1B, 0, 0, 0, 0, 0, 0,
-        0, 0, 0, 0, 0, 1, 0, 0, 0, 0, 0, 0, 0, 6, 0, 0, 0, 2, 0, 0, 3, 0xE6, 0, 0, 0, 0,
-    ]
-}
-
-// Whether an access of that byte is done and leaves these last bytes of the entry.
+// Whether an access of the byte at 00FFA01B is done by entry 0 of group 998, 1234501B with WIMG 2, and leaves these last bytes of the entry.
 fn byte(mode: u32, kind: u32, seventh: u8, eighth: u8) -> bool {
     let asked = Asked {
         mode: mode,
@@ -51,11 +43,13 @@ fn byte(mode: u32, kind: u32, seventh: u8, eighth: u8) -> bool {
         address: 0x00FFA01B,
         length: 1,
     };
+    let expected =
+        b"\x00\x00\x00\x00\x12\x34\x50\x1B\x00\x00\x00\x02\x00\xFF\xA0\x1B\x00\x00\x00\x00\x00\x00\x00\x00\x00\x00\x00\x01\x00\x00\x00\x00\x00\x00\x00\x06\x00\x00\x00\x02\x00\x00\x03\xE6\x00\x00\x00\x00";
     answers(
         asked,
         table_with(0x50, 0x12),
         0,
-        byte_by_page(),
+        expected,
         table_with(seventh, eighth),
     )
 }
@@ -68,10 +62,8 @@ fn over_an_edge() -> bool {
         address: 0x00FFAFFE,
         length: 4,
     };
-    let expected = [
-        0, 0, 0, 0, 0x12, 0x34, 0x5F, 0xFE, 0, 0, 0, 2, 0x00, 0xFF, 0xAF, 0xFE, 0x54, 0x32, 0x10,
-        0x00, 0, 0, 0, 0, 0, 0, 0, 2, 0, 0, 0, 2, 0, 0, 0, 6, 0, 0, 0, 2, 0, 0, 3, 0xE6, 0, 0, 0, 0,
-    ];
+    let expected =
+        b"\x00\x00\x00\x00\x12\x34\x5F\xFE\x00\x00\x00\x02\x00\xFF\xAF\xFE\x54\x32\x10\x00\x00\x00\x00\x00\x00\x00\x00\x02\x00\x00\x00\x02\x00\x00\x00\x06\x00\x00\x00\x02\x00\x00\x03\xE6\x00\x00\x00\x00";
     answers(
         asked,
         table_with_next(0x50, 0x10),
@@ -81,52 +73,16 @@ fn over_an_edge() -> bool {
     )
 }
 
-// A store by the data block at 80000000: 1FFFFFFF, WIMG 11.
-fn by_block() -> bool {
+// Whether an access of the byte at an address has this result, answers these bytes and leaves the table.
+fn leaves(mode: u32, kind: u32, address: u32, result: u32, expected: &[u8]) -> bool {
     let asked = Asked {
-        mode: 1,
-        kind: 2,
-        address: 0x8FFFFFFF,
+        mode: mode,
+        kind: kind,
+        address: address,
         length: 1,
     };
-    let expected = [
-        0, 0, 0, 0, 0x1F, 0xFF, 0xFF, 0xFF, 0, 0, 0, 11, 0x8F, 0xFF, 0xFF, 0xFF, 0, 0, 0, 0, 0, 0,
-        0, 0, 0, 0, 0, 1, 0, 0, 0, 0, 0, 0, 0, 1, 0, 0, 0, 0, 0, 0, 0, 0, 0, 0, 0, 0,
-    ];
     let table = table_with(0x50, 0x12);
-    answers(asked, table, 0, expected, table)
-}
-
-// A fetch in real mode: the address itself, WIMG 3.
-fn real_mode() -> bool {
-    let asked = Asked {
-        mode: 0,
-        kind: 0,
-        address: 0x00FFA01B,
-        length: 1,
-    };
-    let expected = [
-        0, 0, 0, 0, 0x00, 0xFF, 0xA0, 0x1B, 0, 0, 0, 3, 0x00, 0xFF, 0xA0, 0x1B, 0, 0, 0, 0, 0, 0,
-        0, 0, 0, 0, 0, 1, 0, 0, 0, 0, 0, 0, 0, 0, 0, 0, 0, 0, 0, 0, 0, 0, 0, 0, 0, 0,
-    ];
-    let table = table_with(0x50, 0x12);
-    answers(asked, table, 0, expected, table)
-}
-
-// A store to page 0FFB, which has no entry: 64, the word 42000000, the offset 300.
-fn fault() -> bool {
-    let asked = Asked {
-        mode: 1,
-        kind: 2,
-        address: 0x00FFB01B,
-        length: 1,
-    };
-    let expected = [
-        0, 0, 0, 64, 0x42, 0, 0, 0, 0, 0, 3, 0, 0x00, 0xFF, 0xB0, 0x1B, 0, 0, 0, 0, 0, 0, 0, 0, 0,
-        0, 0, 0, 0, 0, 0, 0, 0, 0, 0, 3, 0, 0, 0, 0, 0, 0, 0, 0, 0, 0, 0, 0,
-    ];
-    let table = table_with(0x50, 0x12);
-    answers(asked, table, 64, expected, table)
+    answers(asked, table, result, expected, table)
 }
 
 // By one page, the marks in the entry's last two bytes; by two. Source: rules 5.
@@ -137,9 +93,15 @@ pub fn pages() {
     line(1238, over_an_edge());
 }
 
-// By a block, in real mode, and a fault. Source: rules 5.
+// A store by the data block at 80000000, 1FFFFFFF with WIMG 11; a fetch in real mode; a store to page 0FFB, which has no entry. Source: rules 5.
 pub fn others() {
-    line(1239, by_block());
-    line(1240, real_mode());
-    line(1241, fault());
+    let by_block =
+        b"\x00\x00\x00\x00\x1F\xFF\xFF\xFF\x00\x00\x00\x0B\x8F\xFF\xFF\xFF\x00\x00\x00\x00\x00\x00\x00\x00\x00\x00\x00\x01\x00\x00\x00\x00\x00\x00\x00\x01\x00\x00\x00\x00\x00\x00\x00\x00\x00\x00\x00\x00";
+    line(1239, leaves(1, 2, 0x8FFFFFFF, 0, by_block));
+    let in_real_mode =
+        b"\x00\x00\x00\x00\x00\xFF\xA0\x1B\x00\x00\x00\x03\x00\xFF\xA0\x1B\x00\x00\x00\x00\x00\x00\x00\x00\x00\x00\x00\x01\x00\x00\x00\x00\x00\x00\x00\x00\x00\x00\x00\x00\x00\x00\x00\x00\x00\x00\x00\x00";
+    line(1240, leaves(0, 0, 0x00FFA01B, 0, in_real_mode));
+    let no_match =
+        b"\x00\x00\x00\x40\x42\x00\x00\x00\x00\x00\x03\x00\x00\xFF\xB0\x1B\x00\x00\x00\x00\x00\x00\x00\x00\x00\x00\x00\x00\x00\x00\x00\x00\x00\x00\x00\x03\x00\x00\x00\x00\x00\x00\x00\x00\x00\x00\x00\x00";
+    line(1241, leaves(1, 2, 0x00FFB01B, 64, no_match));
 }

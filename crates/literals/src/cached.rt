@@ -43,12 +43,12 @@ fn loads(
         &mut held,
         &mut answer,
     );
-    let expected = [
-        0, 0, 0, 0, 0x12, 0x34, 0x50, 0x1B, 0, 0, 0, 2, 0x00, 0xFF, 0xA0, 0x1B, 0, 0, 0, 0, 0, 0,
-        0, 0, 0, 0, 0, 1, 0, 0, 0, 0, 0, 0, 0, 6, 0, 0, 0, 2, 0, 0, 3, 0xE6, 0, 0, 0, entry,
-    ];
+    let expected =
+        b"\x00\x00\x00\x00\x12\x34\x50\x1B\x00\x00\x00\x02\x00\xFF\xA0\x1B\x00\x00\x00\x00\x00\x00\x00\x00\x00\x00\x00\x01\x00\x00\x00\x00\x00\x00\x00\x06\x00\x00\x00\x02\x00\x00\x03\xE6\x00\x00\x00";
+    let whole = &answer[..];
     (number == 0)
-        & check::same(&answer, &expected)
+        & check::same(&whole[0..47], expected)
+        & (whole[47] == entry)
         & check::same(&lent, &table_after)
         & check::same(&held, &cache_after)
 }
@@ -86,16 +86,9 @@ fn told() -> bool {
     let table = table_with(0x50, 0x12);
     let mut answer = [0xAAu8; 156];
     let number = mmu::mmu_rights(&page, 1, 0x00FFA01B, &table, &mut answer);
-    let expected = [
-        0, 0, 0, 0, 0x00, 0xFF, 0xA0, 0x1B, 0, 0, 0, 3, 0x00, 0xFF, 0xA0, 0x1B, 0, 0, 0, 0, 0, 0,
-        0, 0, 0, 0, 0, 1, 0, 0, 0, 0, 0, 0, 0, 0, 0, 0, 0, 0, 0, 0, 0, 0, 0, 0, 0, 0, 0, 0, 0, 0,
-        0x12, 0x34, 0x50, 0x1B, 0, 0, 0, 2, 0x00, 0xFF, 0xA0, 0x1B, 0, 0, 0, 0, 0, 0, 0, 0, 0, 0,
-        0, 1, 0, 0, 0, 0, 0, 0, 0, 6, 0, 0, 0, 2, 0, 0, 3, 0xE6, 0, 0, 0, 0, 0, 0, 0, 0, 0x12,
-        0x34, 0x50, 0x1B, 0, 0, 0, 2, 0x00, 0xFF, 0xA0, 0x1B, 0, 0, 0, 0, 0, 0, 0, 0, 0, 0, 0, 1,
-        0, 0, 0, 0, 0, 0, 0, 6, 0, 0, 0, 2, 0, 0, 3, 0xE6, 0, 0, 0, 0, 0, 0, 0, 0, 0, 0, 1, 0, 0,
-        0, 1, 0x80,
-    ];
-    (number == 0) & check::same(&answer, &expected)
+    let expected =
+        b"\x00\x00\x00\x00\x00\xFF\xA0\x1B\x00\x00\x00\x03\x00\xFF\xA0\x1B\x00\x00\x00\x00\x00\x00\x00\x00\x00\x00\x00\x01\x00\x00\x00\x00\x00\x00\x00\x00\x00\x00\x00\x00\x00\x00\x00\x00\x00\x00\x00\x00\x00\x00\x00\x00\x12\x34\x50\x1B\x00\x00\x00\x02\x00\xFF\xA0\x1B\x00\x00\x00\x00\x00\x00\x00\x00\x00\x00\x00\x01\x00\x00\x00\x00\x00\x00\x00\x06\x00\x00\x00\x02\x00\x00\x03\xE6\x00\x00\x00\x00\x00\x00\x00\x00\x12\x34\x50\x1B\x00\x00\x00\x02\x00\xFF\xA0\x1B\x00\x00\x00\x00\x00\x00\x00\x00\x00\x00\x00\x01\x00\x00\x00\x00\x00\x00\x00\x06\x00\x00\x00\x02\x00\x00\x03\xE6\x00\x00\x00\x00\x00\x00\x00\x00\x00\x00\x01\x00\x00\x00\x01\x80";
+    (number == 0) & check::same(&answer, expected)
 }
 
 // A load into the cache, a hit, an invalidate. Source: request 7.

@@ -4,15 +4,15 @@ mod accesses;
 mod cached;
 mod lent;
 mod pages;
-mod words;
+mod without_table;
 
 fn main() {
     pages::tables();
     pages::answers();
     accesses::pages();
     accesses::others();
-    words::pages();
-    words::entries();
+    without_table::pages();
+    without_table::entries();
     cached::caches();
     cached::rights();
 }

@@ -27,23 +27,23 @@ fn unmap() -> bool {
     let mut table = table_with(0x51, 0x92);
     let mut answer = [0xAAu8; 16];
     let number = mmu::mmu_unmap(SDR1, VSID, INDEX, &mut table, &mut answer);
-    let expected = [0, 0, 0, 0, 0x12, 0x34, 0x51, 0x92, 0, 0, 0, 0, 0, 0, 0, 0];
-    (number == 0) & check::same(&answer, &expected) & check::same(&table, &[0; 65536])
+    let expected = b"\x00\x00\x00\x00\x12\x34\x51\x92\x00\x00\x00\x00\x00\x00\x00\x00";
+    (number == 0) & check::same(&answer, expected) & check::same(&table, &[0; 65536])
 }
 
 fn look() -> bool {
     let table = table_with(0x5F, 0x16);
     let mut answer = [0xAAu8; 16];
     let number = mmu::mmu_look(SDR1, VSID, INDEX, &table, &mut answer);
-    let expected = [0, 0, 0, 0, 0x12, 0x34, 0x5F, 0x16, 0, 0, 0, 0, 0, 0, 0, 0];
-    (number == 0) & check::same(&answer, &expected)
+    let expected = b"\x00\x00\x00\x00\x12\x34\x5F\x16\x00\x00\x00\x00\x00\x00\x00\x00";
+    (number == 0) & check::same(&answer, expected)
 }
 
 fn look_in_vain() -> bool {
     let mut answer = [0xAAu8; 16];
     let number = mmu::mmu_look(SDR1, VSID, INDEX, &[0; 65536], &mut answer);
-    let expected = [0, 0, 0, 8, 0, 0, 0, 0, 0, 0, 0, 0, 0, 0, 0, 0];
-    (number == 8) & check::same(&answer, &expected)
+    let expected = b"\x00\x00\x00\x08\x00\x00\x00\x00\x00\x00\x00\x00\x00\x00\x00\x00";
+    (number == 8) & check::same(&answer, expected)
 }
 
 // Calls that answer by the table alone. Source: rules 6.

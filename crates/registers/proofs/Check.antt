@@ -135,7 +135,7 @@ module _ (pairs width : ℕ) (wide : width ≤ 15) (words : List ℕ) where
         every-all (λ i. segmentShape (segmentOf words i)) 16 (good .segments),
       )
 
-pub check-decides : (pairs width : ℕ) → width ≤ 15 → CheckDecides pairs width
+pub check-decides : CheckDecides
 check-decides pairs width wide words = (passed-good pairs width wide words, good-passed pairs width wide words)
 
 -- BL has at most 15 bits

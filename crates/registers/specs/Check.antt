@@ -18,21 +18,20 @@ pub record Sdr1Good (sdr1 : ℕ) : Type 0 where
   pub few : ones ≤ 9
   pub whole : origin % 2 ^ ones ≡ 0
 
-module _ (pairs width : ℕ) where
-  -- what the check asks of a set
-  pub record SetGood (words : List ℕ) : Type 0 where
-    pub sdr1 : Sdr1Good (sdr1Of words)
-    -- each pair that is on has the shape of its side's blocks
-    pub shape : (side : Bool) (i : ℕ) → i < pairs → off (upperOf pairs words side i) ≡ false
-        → (upperShape width (upperOf pairs words side i) ≡ true) × (lowerShape width side (upperOf pairs words side i) (lowerOf pairs words side i) ≡ true)
-    -- no effective address lies in two pairs of a side that have a V bit in common: both cover it for the user, or both for the supervisor
-    pub apart : (side user : Bool) (address i j : ℕ) → address < 2 ^ 32 → i < j → j < pairs
-        → pairCovers pairs width words side user address i ≡ true → pairCovers pairs width words side user address j ≡ true → ⊥
-    pub segments : (i : ℕ) → i < 16 → segmentShape (segmentOf words i) ≡ true
+-- what the check asks of a set
+pub record SetGood (pairs width : ℕ) (words : List ℕ) : Type 0 where
+  pub sdr1 : Sdr1Good (sdr1Of words)
+  -- each pair that is on has the shape of its side's blocks
+  pub shape : (side : Bool) (i : ℕ) → i < pairs → off (upperOf pairs words side i) ≡ false
+      → (upperShape width (upperOf pairs words side i) ≡ true) × (lowerShape width side (upperOf pairs words side i) (lowerOf pairs words side i) ≡ true)
+  -- no effective address lies in two pairs of a side that have a V bit in common: both cover it for the user, or both for the supervisor
+  pub apart : (side user : Bool) (address i j : ℕ) → address < 2 ^ 32 → i < j → j < pairs
+      → pairCovers pairs width words side user address i ≡ true → pairCovers pairs width words side user address j ≡ true → ⊥
+  pub segments : (i : ℕ) → i < 16 → segmentShape (segmentOf words i) ≡ true
 
-  -- the check answers 0 exactly where it is so
-  abbrev pub CheckDecides : Type 0
-  CheckDecides = (words : List ℕ) → (checkWords pairs width words ≡ done) ↔ SetGood words
+-- the check answers 0 exactly where the set is good, for any number of pairs and any width of BL up to 15
+abbrev pub CheckDecides : Type 0
+CheckDecides = (pairs width : ℕ) → width ≤ 15 → (words : List ℕ) → (checkWords pairs width words ≡ done) ↔ SetGood pairs width words
 
 -- a word is replaced exactly where its number is one of the page's and the new set is good, whatever the old one was
 abbrev pub ReplacingDecides : Type 0

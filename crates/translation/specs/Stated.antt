@@ -152,7 +152,7 @@ pub record AccessAsStated : Type 0 where
   -- both limits: four pairs and BL of 11 bits on a short register page, eight and 15 on a long one
   pub blocks : (long : Bool) → BlocksDecide (blockPairs long) (blWidth long)
   -- when the check of a register set answers 0, and when a word of it is replaced
-  pub check : (long : Bool) → CheckDecides (blockPairs long) (blWidth long)
+  pub check : CheckDecides
   pub replacing : ReplacingDecides
   -- in a block of right shape the physical address is its physical start and the address's 17 + k low bits, where BL has k ones
   pub block-physical : (long side : Bool) (upper lower address : ℕ) → upperShape (blWidth long) upper ≡ true → lowerShape (blWidth long) side upper lower ≡ true

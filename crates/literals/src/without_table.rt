@@ -7,7 +7,7 @@ fn check_good() -> bool {
     mmu::mmu_check(&page) == 0
 }
 
-// Segment register 15 with T set: its word ends with the page's byte 67.
+// Segment register 15 with T set: its first byte is the page's byte 64.
 fn check_broken() -> bool {
     let mut page = registers();
     page[64] = 0x80;
@@ -28,17 +28,15 @@ fn set_register() -> bool {
 fn pack() -> bool {
     let mut entry = [0xAAu8; 8];
     let number = mmu::mmu_pack(1, 0x0C701C, 0, 3, 0x12345, 0, 0, 2, 2, &mut entry);
-    (number == 0) & check::same(&entry, &[0x86, 0x38, 0x0E, 0x03, 0x12, 0x34, 0x50, 0x12])
+    (number == 0) & check::same(&entry, b"\x86\x38\x0E\x03\x12\x34\x50\x12")
 }
 
 fn unpack() -> bool {
     let mut fields = [0xAAu8; 36];
     let number = mmu::mmu_unpack(0x86380E43, 0x12345192, &mut fields);
-    let expected = [
-        0, 0, 0, 1, 0, 0x0C, 0x70, 0x1C, 0, 0, 0, 1, 0, 0, 0, 3, 0, 1, 0x23, 0x45, 0, 0, 0, 1, 0,
-        0, 0, 1, 0, 0, 0, 2, 0, 0, 0, 2,
-    ];
-    (number == 0) & check::same(&fields, &expected)
+    let expected =
+        b"\x00\x00\x00\x01\x00\x0C\x70\x1C\x00\x00\x00\x01\x00\x00\x00\x03\x00\x01\x23\x45\x00\x00\x00\x01\x00\x00\x00\x01\x00\x00\x00\x02\x00\x00\x00\x02";
+    (number == 0) & check::same(&fields, expected)
 }
 
 // Calls on a register page. Source: rules 3.

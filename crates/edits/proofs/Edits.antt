@@ -10,14 +10,14 @@ use Rattle.words.proofs.Words.{Bytes}
 use Rattle.entry.proofs.Marks.{withPP-lt}
 use Rattle.tables.specs.Matches.{Match}
 use Rattle.groups.specs.Group.{groupOf, onGroup, firstAt, secondAt, putEntry, putAt}
-use Rattle.matches.specs.Search.{groupMatches, pairMatches}
+use Rattle.matches.specs.Search.{matchesTo, groupMatches, pairMatches}
 use Rattle.edits.specs.Edit.{EditFits, edited, editEach, editMatches, putEach}
 use Rattle.edits.specs.declared.Edit.{Edit}
 use Rattle.edits.specs.declared.Edit.the-variants.{Clear, Protect}
 use Rattle.groups.proofs.Group.{length-group, put-same, group-other, length-on, on-on}
 use Rattle.groups.proofs.Entries.{length-entry, bytes-entry, first-other, second-other}
 use Rattle.groups.proofs.Stored.{stored-length}
-use Rattle.matches.proofs.Matches.{matchesTo, match-is, match-in}
+use Rattle.matches.proofs.Matches.{match-is, match-in}
 
 -- an edit makes words of words
 pub edited-fits : (edit : Edit) (m : Match) → EditFits edit → m .first < 2 ^ 32 → m .second < 2 ^ 32 → (edited edit m .0 < 2 ^ 32) × (edited edit m .1 < 2 ^ 32)

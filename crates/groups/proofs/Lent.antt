@@ -17,6 +17,10 @@ lent-group t g =
     let from : g * 64 ≡ 64 * g = omega arith in
     rw width (ap (λ (a : ℕ). take 64 (drop a t)) from)
 
+-- the same where its bytes are told
+pub lent-part : (t : List ℕ) (g size : ℕ) → size ≡ 64 → midOf (g * 64) (g * 64 + size - g * 64) t ≡ groupOf t g
+lent-part t g size e = ap (λ (n : ℕ). midOf (g * 64) (g * 64 + n - g * 64) t) e ∙ lent-group t g
+
 back-group : (t : List ℕ) (g : ℕ) (b : List ℕ) → putMid (g * 64) (g * 64 + 64 - g * 64) t b ≡ putGroup t g b
 unfolding putGroup
 back-group t g b =

@@ -14,6 +14,7 @@ groups-tables = record {
   hash-bits = record { equal = refl };
   pages = record { equal = refl };
   free-places = record { equal = refl };
+  free-entries = record { equal = refl };
   stored = record { equal = refl };
   words = record { equal = refl };
 }

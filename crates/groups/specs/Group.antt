@@ -1,5 +1,5 @@
 -- A table as its groups, and a group as its eight entries of 8 bytes (rules 4).
-use Prim.Native.Nat.{ℕ, _+_, _*_}
+use Prim.Native.Nat.{ℕ, zero, suc, _+_, _*_}
 use mathlib.Core.Bool.{Bool, true, false, cond}
 use mathlib.Core.List.{List, _++_}
 use lib.Dec.{ltb}
@@ -48,6 +48,15 @@ firstFreePlace primary secondary =
     let i = firstFree primary in
     let j = firstFree secondary in
     cond (ltb i groupEntries) (Entry false i) (cond (ltb j groupEntries) (Entry true j) Full)
+
+-- which of the first n entries of a group are free, behind those told before: a bit for each, the last entry's the lowest
+unfoldable pub freeTo : ℕ → List ℕ → ℕ → ℕ
+freeTo before group zero = before
+freeTo before group (suc n) = freeTo before group n * 2 + cond (entryFree group n) 1 0
+
+-- which entries of a group are free, behind those told before
+unfoldable pub freeAfter : ℕ → List ℕ → ℕ
+freeAfter before group = freeTo before group groupEntries
 
 -- the words of entry i of a table's group g, and the table with two words as that entry
 unfoldable pub firstOf : List ℕ → ℕ → ℕ → ℕ

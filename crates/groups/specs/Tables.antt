@@ -10,7 +10,7 @@ use Rattle.words.specs.Words.{bytesOf}
 use Rattle.register_words.specs.Sdr1.{hashBits}
 use Rattle.groups.specs.Page.{Page, samePage}
 use Rattle.groups.specs.Hash.{hashOf, groupsOf, groupNumber, groupAddress}
-use Rattle.groups.specs.Group.{groupOf, firstOf, secondOf, putAt, firstFreePlace}
+use Rattle.groups.specs.Group.{groupOf, firstOf, secondOf, putAt, firstFreePlace, freeAfter}
 use Rattle.groups.specs.declared.Place.the-variants.{Entry, Full}
 
 abbrev pub pageAt : ℕ → ℕ → Page
@@ -105,6 +105,12 @@ pub record GroupsTables : Type 0 where
       ∷ (firstFreePlace (replicate 64 0) example, Entry false 0)
       ∷ (firstFreePlace full (replicate 64 0), Entry true 0)
       ∷ (firstFreePlace full full, Full)
+      ∷ []
+      )
+  -- which entries are free, a bit for each, the last one's the lowest: of one group, and behind those of another
+  pub free-entries : Hold (
+      (map (freeAfter 0) (example ∷ full ∷ last ∷ replicate 64 0 ∷ []), 0x24 ∷ 0 ∷ 0x01 ∷ 0xFF ∷ [])
+      ∷ (map (freeAfter 0x24) (example ∷ full ∷ last ∷ replicate 64 0 ∷ []), 0x2424 ∷ 0x2400 ∷ 0x2401 ∷ 0x24FF ∷ [])
       ∷ []
       )
   -- groups of a table, and an entry put in one

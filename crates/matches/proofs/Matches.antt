@@ -18,7 +18,7 @@ use Rattle.tables.specs.Matches.{Match, matchesBelow}
 use Rattle.groups.specs.Page.{Page, InRange}
 use Rattle.groups.specs.Hash.{groupNumber}
 use Rattle.groups.specs.Group.{firstAt, secondAt}
-use Rattle.matches.specs.Search.{hOf, WantedWord, groupMatches, pairMatches}
+use Rattle.matches.specs.Search.{hOf, WantedWord, matchesTo, groupMatches, pairMatches}
 use Rattle.groups.proofs.Hash.{one-page}
 
 -- entry i of a group, as a match
@@ -56,46 +56,45 @@ pub record IsMatch (secondary : Bool) (vsid api : ℕ) (group : List ℕ) (n : �
   pub matching : matches vsid (hOf secondary) api (m .first) ≡ true
 
 module _ (secondary : Bool) (vsid api : ℕ) (group : List ℕ) where
-  -- the matches among the first n entries
-  abbrev pub matchesTo : ℕ → List Match
-  matchesTo n = matchesBelow (matches vsid (hOf secondary) api) (firstAt group) (secondAt group) secondary n
+  abbrev to : ℕ → List Match
+  to n = matchesTo secondary vsid api group n
 
   -- one entry more, which matches or does not
-  pub matches-more : (i : ℕ) → matches vsid (hOf secondary) api (firstAt group i) ≡ true → matchesTo (i + 1) ≡ matchesTo i ++ (entryAt secondary group i ∷ [])
+  pub matches-more : (i : ℕ) → matches vsid (hOf secondary) api (firstAt group i) ≡ true → to (i + 1) ≡ to i ++ (entryAt secondary group i ∷ [])
   unfolding matchesBelow
   matches-more i e = rw (add-one, e)
 
-  pub matches-same : (i : ℕ) → matches vsid (hOf secondary) api (firstAt group i) ≡ false → matchesTo (i + 1) ≡ matchesTo i
+  pub matches-same : (i : ℕ) → matches vsid (hOf secondary) api (firstAt group i) ≡ false → to (i + 1) ≡ to i
   unfolding matchesBelow
-  matches-same i e = rw (add-one, e) (append-nil (matchesTo i))
+  matches-same i e = rw (add-one, e) (append-nil (to i))
 
   -- entries more add matches behind those that there are
-  pub matches-extend : (i n : ℕ) → i ≤ n → (rest : List Match) × (matchesTo n ≡ matchesTo i ++ rest)
+  pub matches-extend : (i n : ℕ) → i ≤ n → (rest : List Match) × (to n ≡ to i ++ rest)
   unfolding matchesBelow
   matches-extend i n l = go n l
     where
-      here : (m : ℕ) → i ≡ m → (rest : List Match) × (matchesTo m ≡ matchesTo i ++ rest)
-      here m e = ([], ap matchesTo (sym e) ∙ sym (append-nil (matchesTo i)))
+      here : (m : ℕ) → i ≡ m → (rest : List Match) × (to m ≡ to i ++ rest)
+      here m e = ([], ap to (sym e) ∙ sym (append-nil (to i)))
 
-      more : (m : ℕ) → i ≤ suc m → (i ≤ m → (rest : List Match) × (matchesTo m ≡ matchesTo i ++ rest)) → (t : Bool) → leb i m ≡ t
-          → (rest : List Match) × (matchesTo (suc m) ≡ matchesTo i ++ rest)
+      more : (m : ℕ) → i ≤ suc m → (i ≤ m → (rest : List Match) × (to m ≡ to i ++ rest)) → (t : Bool) → leb i m ≡ t
+          → (rest : List Match) × (to (suc m) ≡ to i ++ rest)
       more m k before true e =
           let (rest, is) = before (leb-true i m e) in
           let last = cond (matches vsid (hOf secondary) api (firstAt group m)) (entryAt secondary group m ∷ []) [] in
-          (rest ++ last, ap (λ (ms : List Match). ms ++ last) is ∙ append-assoc (matchesTo i) rest last)
+          (rest ++ last, ap (λ (ms : List Match). ms ++ last) is ∙ append-assoc (to i) rest last)
       more m k before false e = here (suc m) (omega (arith, k, leb-false i m e))
 
-      go : (m : ℕ) → i ≤ m → (rest : List Match) × (matchesTo m ≡ matchesTo i ++ rest)
+      go : (m : ℕ) → i ≤ m → (rest : List Match) × (to m ≡ to i ++ rest)
       go zero k = here zero (omega (arith, k))
       go (suc m) k = more m k (go m) (leb i m) refl
 
-  pub match-is : (n : ℕ) (m : Match) → List·Memᴰ m (matchesTo n) → IsMatch secondary vsid api group n m
+  pub match-is : (n : ℕ) (m : Match) → List·Memᴰ m (to n) → IsMatch secondary vsid api group n m
   unfolding matchesBelow
   match-is zero m h = absurd (List·Memᴰ·not-nil h)
   match-is (suc n) m h =
       ⊎-elim (λ k. let r = match-is n m k in record { entry-lt = omega (arith, r .entry-lt); is-entry = r .is-entry; matching = r .matching })
       (λ k. last (matches vsid (hOf secondary) api (firstAt group n)) refl k)
-      (List·Memᴰ·append-cases (matchesTo n) h)
+      (List·Memᴰ·append-cases (to n) h)
     where
       last : (t : Bool) → matches vsid (hOf secondary) api (firstAt group n) ≡ t → List·Memᴰ m (cond t (entryAt secondary group n ∷ []) [])
           → IsMatch secondary vsid api group (suc n) m

@@ -4,35 +4,32 @@ use mathlib.Core.Bool.{Bool, true, false, cond, not, _||_, true≢false}
 use mathlib.Core.List.{List, [], _∷_, _++_, append-nil}
 use Prim.Native.Nat.{ℕ, _+_, _%_, _<_, _≤_}
 use native.Mathlib.Omega.{arith}
-use lib.Dec.{eqb, leb}
-use borrow.Author.Tests.{eqb-true, ne-eqb, le-leb, lt-leb}
+use lib.Dec.{leb}
+use borrow.Author.Tests.{ne-eqb, le-leb, lt-leb}
 use Rattle.entry.specs.Entry.{referenced, changed, withMarks}
 use Rattle.entry.proofs.Marks.{marks-referenced, marks-changed, marks-own, marks-again}
 use Rattle.tables.specs.Matches.{Match}
 use Rattle.matches.proofs.Agreement.{agree-alike}
-use Rattle.matches.specs.Search.{agree, anyMatch, contradict, marksOf, merged, each, firstPlace, placeOf, onlyPlace, summary, found, inSecondary, entryOf}
+use Rattle.matches.specs.Search.{agree, anyMatch, disagrees, contradict, marksOf, merged, each, firstPlace, placeOf, onlyPlace, summary, found, inSecondary, entryOf}
 use Rattle.matches.specs.declared.Summary.{Summary}
 
-or-true : (b : Bool) → b || true ≡ true
+pub or-true : (b : Bool) → b || true ≡ true
 or-true true = refl
 or-true false = refl
 
-or-false : (b : Bool) → b || false ≡ b
+pub or-false : (b : Bool) → b || false ≡ b
 or-false true = refl
 or-false false = refl
 
-or-assoc : (a b c : Bool) → (a || b) || c ≡ a || (b || c)
+pub or-assoc : (a b c : Bool) → (a || b) || c ≡ a || (b || c)
 or-assoc true b c = refl
 or-assoc false b c = refl
 
-or-swap : (a b : Bool) → a || b ≡ b || a
+pub or-swap : (a b : Bool) → a || b ≡ b || a
 or-swap true b = sym (or-true b)
 or-swap false b = sym (or-false b)
 
--- the tests that `contradict` and `merged` make
-abbrev disagrees : ℕ → Match → Bool
-disagrees second m = not (agree second (m .second))
-
+-- the tests that `merged` makes
 abbrev isReferenced : Match → Bool
 isReferenced m = referenced (m .second)
 

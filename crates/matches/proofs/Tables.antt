@@ -10,6 +10,8 @@ matches-tables = record {
   agreement = record { equal = refl };
   summaries = record { equal = refl };
   merged-words = record { equal = refl };
+  lists-told = record { equal = refl };
+  groups-told = record { equal = refl };
   group-searches = record { equal = refl };
   told-places = record { equal = refl };
   told-entries = record { equal = refl };

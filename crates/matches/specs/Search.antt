@@ -1,5 +1,5 @@
 -- The search for a page's matches (rules 4), and what one pass over them tells.
-use Prim.Native.Nat.{ℕ, _+_, _%_, _^_, _<_}
+use Prim.Native.Nat.{ℕ, _+_, _*_, _%_, _^_, _<_}
 use mathlib.Core.Path.{_≡_}
 use mathlib.Core.Bool.{Bool, true, false, cond, not, _&&_, _||_}
 use mathlib.Core.List.{List, [], _∷_, _++_, foldr}
@@ -8,7 +8,8 @@ use Rattle.numbers.specs.Numbers.{groupEntries}
 use Rattle.words.specs.Words.{swapped}
 use Rattle.entry.specs.Entry.{firstWord, matches, rpnOf, wimgOf, ppOf, referenced, changed, withMarks}
 use Rattle.tables.specs.Matches.{Match, matchesBelow}
-use Rattle.groups.specs.Group.{firstAt, secondAt, firstFree}
+use Rattle.groups.specs.Group.{firstAt, secondAt, firstFree, freeAfter}
+use Rattle.matches.specs.declared.Told.{Told}
 use Rattle.matches.specs.declared.Summary.{Summary}
 use Rattle.matches.specs.declared.GroupSearch.{GroupSearch}
 
@@ -19,6 +20,10 @@ hOf secondary = cond secondary 1 0
 -- the word that the first words of a group's entries are compared with: V = 1, VSID, H and API packed, its bytes reversed as the machine reads them
 abbrev pub WantedWord : Bool → ℕ → ℕ → ℕ → Type 0
 WantedWord secondary vsid api wanted = (vsid < 2 ^ 24) × (api < 2 ^ 6) × (wanted ≡ swapped (firstWord 1 vsid (hOf secondary) api))
+
+-- the matches among the first n entries of a group of H = 0 (false) or H = 1 (true), in order
+abbrev pub matchesTo : Bool → ℕ → ℕ → List ℕ → ℕ → List Match
+matchesTo secondary vsid api group n = matchesBelow (matches vsid (hOf secondary) api) (firstAt group) (secondAt group) secondary n
 
 -- the matches in the 64 bytes of a page's primary (false) or secondary (true) group, in order
 unfoldable pub groupMatches : Bool → ℕ → ℕ → List ℕ → List Match
@@ -36,6 +41,10 @@ agree second other = eqb (rpnOf second) (rpnOf other) && eqb (wimgOf second) (wi
 abbrev pub anyMatch : (Match → Bool) → List Match → Bool
 anyMatch test ms = foldr (λ m others. test m || others) false ms
 
+-- a match's second word does not agree with another
+abbrev pub disagrees : ℕ → Match → Bool
+disagrees second m = not (agree second (m .second))
+
 -- the matches contradict: some other one's second word does not agree with the first's
 unfoldable pub contradict : Match → List Match → Bool
 contradict m ms = anyMatch (λ x. not (agree (m .second) (x .second))) ms
@@ -51,6 +60,36 @@ merged m ms = marksOf (m ∷ ms) (m .second)
 -- every match passes
 abbrev pub each : Match → Bool
 each m = true
+
+-- the number of a match in search order: primary entries 0 to 7, then secondary entries 8 to 15
+abbrev pub numberOf : Match → ℕ
+numberOf m = groupEntries * hOf (m .secondary) + m .entry % groupEntries
+
+-- the first match by its number where there are others: 32 is added where they agree with it, 64 where one does not
+abbrev pub withOthers : Match → List Match → ℕ
+withOthers m ms = numberOf m + cond (contradict m ms) 64 32
+
+-- the first match of a list by its number, 16 where there is none
+unfoldable pub foundOf : List Match → ℕ
+foundOf [] = 16
+foundOf (m ∷ []) = numberOf m
+foundOf (m ∷ n ∷ ms) = withOthers m (n ∷ ms)
+
+-- the second word of the first match of a list, 0 where there is none
+abbrev pub firstSecond : List Match → ℕ
+firstSecond [] = 0
+firstSecond (m ∷ ms) = m .second
+
+-- what a search tells of a list of matches and of the free entries that it met: the first match, its second word, and which are free
+unfoldable pub told : List Match → ℕ → Told
+told ms free = record { found = foundOf ms; second = firstSecond ms; free = free }
+
+-- what the search of a page's primary group tells, and of both groups, one behind the other
+unfoldable pub inPrimary : ℕ → ℕ → List ℕ → Told
+inPrimary vsid api primary = told (groupMatches false vsid api primary) (freeAfter 0 primary)
+
+unfoldable pub inBoth : ℕ → ℕ → List ℕ → List ℕ → Told
+inBoth vsid api primary secondary = told (pairMatches vsid api primary secondary) (freeAfter (freeAfter 0 primary) secondary)
 
 -- the place of entry 0 as one number that is not 0: 16 in the primary group, 24 in the secondary
 abbrev pub firstPlace : Bool → ℕ

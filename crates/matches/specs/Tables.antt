@@ -8,16 +8,21 @@ use lib.ListN.{replicate}
 use Rattle.words.specs.Rows.{Hold, eachBit}
 use Rattle.tables.specs.Matches.{Match}
 use Rattle.groups.specs.Tables.{mixed, example, full, last}
-use Rattle.matches.specs.Search.{groupMatches, pairMatches, agree, merged, summary, groupSearch, found, inSecondary, entryOf}
+use Rattle.matches.specs.Search.{groupMatches, pairMatches, agree, merged, told, inPrimary, inBoth, summary, groupSearch, found, inSecondary, entryOf}
+use Rattle.matches.specs.declared.Told.{Told}
 use Rattle.matches.specs.declared.Summary.{Summary}
 use Rattle.matches.specs.declared.GroupSearch.{GroupSearch}
+
+-- the answer of a search: the first match's number with what is added to it, its second word, and which entries are free
+abbrev pub telling : ℕ → ℕ → ℕ → Told
+telling found second free = record { found = found; second = second; free = free }
 
 abbrev pub matched : Bool → ℕ → ℕ → ℕ → Match
 matched secondary entry first second = record { secondary = secondary; entry = entry; first = first; second = second }
 
 -- what a search tells: place and second word of the first match, whether there is a further match, whether one contradicts
-abbrev pub told : ℕ → ℕ → Bool → Bool → Summary
-told place second several differs = record { place = place; second = second; several = several; differs = differs }
+abbrev pub summed : ℕ → ℕ → Bool → Bool → Summary
+summed place second several differs = record { place = place; second = second; several = several; differs = differs }
 
 -- what the search of one group tells, with its first free entry
 abbrev pub toldWith : Summary → ℕ → GroupSearch
@@ -53,26 +58,26 @@ pub record MatchesTables : Type 0 where
   -- the first match in search order, its second word, a further one, and whether they contradict: by RPN, WIMG or PP, in one group or across both,
   -- the second or a third; not by R, C or an ignored bit
   pub summaries : Hold (
-      (summary (pairMatches 0x0C701C 3 example example), told 17 0x12345E96 true false)
-      ∷ (summary (pairMatches 0x0C701C 3 (mixed 0x86380E03 0x12345112 0 0 0 0) example), told 17 0x12345112 true false)
-      ∷ (summary (pairMatches 0x0C701C 3 (mixed 0x86380E03 0x12345011 0 0 0 0) example), told 17 0x12345011 true true)
-      ∷ (summary (pairMatches 0x0C701C 3 full example), told 24 0x12345012 false false)
-      ∷ (summary (matched false 1 0x86380E03 0x12345E96 ∷ matched false 3 0x86380E03 0x12345E96 ∷ []), told 17 0x12345E96 true false)
-      ∷ (summary (matched false 6 0x86380E03 0x12345112 ∷ matched true 0 0x86380E43 0x12344012 ∷ []), told 22 0x12345112 true true)
-      ∷ (summary (matched true 0 0x86380E43 0x12345012 ∷ matched true 6 0x86380E43 0x12345E9E ∷ []), told 24 0x12345012 true true)
+      (summary (pairMatches 0x0C701C 3 example example), summed 17 0x12345E96 true false)
+      ∷ (summary (pairMatches 0x0C701C 3 (mixed 0x86380E03 0x12345112 0 0 0 0) example), summed 17 0x12345112 true false)
+      ∷ (summary (pairMatches 0x0C701C 3 (mixed 0x86380E03 0x12345011 0 0 0 0) example), summed 17 0x12345011 true true)
+      ∷ (summary (pairMatches 0x0C701C 3 full example), summed 24 0x12345012 false false)
+      ∷ (summary (matched false 1 0x86380E03 0x12345E96 ∷ matched false 3 0x86380E03 0x12345E96 ∷ []), summed 17 0x12345E96 true false)
+      ∷ (summary (matched false 6 0x86380E03 0x12345112 ∷ matched true 0 0x86380E43 0x12344012 ∷ []), summed 22 0x12345112 true true)
+      ∷ (summary (matched true 0 0x86380E43 0x12345012 ∷ matched true 6 0x86380E43 0x12345E9E ∷ []), summed 24 0x12345012 true true)
       ∷ (
         summary (matched false 1 0x86380E03 0x12345012 ∷ matched false 2 0x86380E03 0x12345016 ∷ matched true 0 0x86380E43 0x12345013 ∷ []),
-        told 17 0x12345012 true true,
+        summed 17 0x12345012 true true,
       )
       ∷ (
         summary (matched false 1 0x86380E03 0x12345012 ∷ matched false 2 0x86380E03 0x12345113 ∷ matched false 4 0x86380E03 0x12345093 ∷ []),
-        told 17 0x12345012 true true,
+        summed 17 0x12345012 true true,
       )
       ∷ (
         summary (matched false 1 0x86380E03 0x12345012 ∷ matched false 2 0x86380E03 0x12345113 ∷ matched true 0 0x86380E43 0x12345012 ∷ []),
-        told 17 0x12345012 true true,
+        summed 17 0x12345012 true true,
       )
-      ∷ (summary (pairMatches 0x0C701C 2 example example), told 0 0 false false)
+      ∷ (summary (pairMatches 0x0C701C 2 example example), summed 0 0 false false)
       ∷ []
       )
   -- the first's second word with R and C of any
@@ -83,28 +88,68 @@ pub record MatchesTables : Type 0 where
       ∷ (merged (matched false 1 0x86380E03 0x12345012) [], 0x12345012)
       ∷ []
       )
-  -- the search of one group: a match behind free entries is seen, and the first entry with V = 0 is told, wherever the matches stand; 8 where there
+  -- what is told of a list: none; one, in the first and the last entry of each group; several that agree; one that disagrees, the second or a third,
+  -- in one group or across both
+  pub lists-told : Hold (
+      (told [] 0xA5, telling 16 0 0xA5)
+      ∷ (told (matched false 0 0x86380E03 0x12345E96 ∷ []) 0, telling 0 0x12345E96 0)
+      ∷ (told (matched false 7 0x86380E03 0x12345E96 ∷ []) 0, telling 7 0x12345E96 0)
+      ∷ (told (matched true 0 0x86380E43 0x12345E96 ∷ []) 0, telling 8 0x12345E96 0)
+      ∷ (told (matched true 7 0x86380E43 0x12345E96 ∷ []) 0, telling 15 0x12345E96 0)
+      ∷ (told (matched false 1 0x86380E03 0x12345E96 ∷ matched false 3 0x86380E03 0x12345112 ∷ []) 0, telling 33 0x12345E96 0)
+      ∷ (told (matched false 6 0x86380E03 0x12345112 ∷ matched true 0 0x86380E43 0x12344012 ∷ []) 0, telling 70 0x12345112 0)
+      ∷ (told (matched true 0 0x86380E43 0x12345012 ∷ matched true 6 0x86380E43 0x12345E9E ∷ []) 0, telling 72 0x12345012 0)
+      ∷ (
+        told (matched false 1 0x86380E03 0x12345012 ∷ matched false 2 0x86380E03 0x12345016 ∷ matched true 0 0x86380E43 0x12345013 ∷ []) 0,
+        telling 65 0x12345012 0,
+      )
+      ∷ (
+        told (matched false 1 0x86380E03 0x12345012 ∷ matched false 2 0x86380E03 0x12345113 ∷ matched true 0 0x86380E43 0x12345012 ∷ []) 0,
+        telling 65 0x12345012 0,
+      )
+      ∷ []
+      )
+  -- the search of one group and of two: a match behind free entries is seen, and each entry with V = 0 is told, wherever the matches stand: none, all,
+  -- entry 7 alone
+  pub groups-told : Hold (
+      (inPrimary 0x0C701C 3 example, telling 33 0x12345E96 0x24)
+      ∷ (inPrimary 0x0C701C 3 (mixed 0 0 0 0 0x86380E03 0x12345112), telling 6 0x12345112 0x74)
+      ∷ (inPrimary 0x0C701C 3 (mixed 0x86380E03 0x12345012 0 0 0x86380E03 0x12345011), telling 65 0x12345012 0x34)
+      ∷ (inPrimary 0x0C701C 2 example, telling 16 0 0x24)
+      ∷ (inPrimary 0xFFFFFF 63 full, telling 16 0 0)
+      ∷ (inPrimary 0 0 (replicate 64 0), telling 16 0 0xFF)
+      ∷ (inPrimary 0xFFFFFF 63 last, telling 16 0 0x01)
+      ∷ (inBoth 0x0C701C 3 example example, telling 33 0x12345E96 0x2424)
+      ∷ (inBoth 0x0C701C 3 (mixed 0x86380E03 0x12345112 0 0 0 0) example, telling 33 0x12345112 0x3624)
+      ∷ (inBoth 0x0C701C 3 (mixed 0x86380E03 0x12345011 0 0 0 0) example, telling 65 0x12345011 0x3624)
+      ∷ (inBoth 0x0C701C 3 full example, telling 8 0x12345012 0x0024)
+      ∷ (inBoth 0x0C701C 2 last (replicate 64 0), telling 16 0 0x01FF)
+      ∷ (inBoth 0xFFFFFF 63 full full, telling 40 0xFFFFFFFF 0)
+      ∷ (inBoth 0xFFFFFF 63 full last, telling 40 0xFFFFFFFF 0x0001)
+      ∷ []
+      )
+  -- the search of one group by its summary: a match behind free entries is seen, and the first entry with V = 0 is told, wherever the matches stand; 8 where there
   -- is none
   pub group-searches : Hold (
-      (groupSearch false 0x0C701C 3 example, toldWith (told 17 0x12345E96 true false) 2)
-      ∷ (groupSearch true 0x0C701C 3 example, toldWith (told 24 0x12345012 false false) 2)
-      ∷ (groupSearch true 0xFFFFFF 63 example, toldWith (told 31 0xFFFFFFFF false false) 2)
-      ∷ (groupSearch false 0x0C701C 3 (mixed 0 0 0 0 0x86380E03 0x12345112), toldWith (told 22 0x12345112 false false) 1)
-      ∷ (groupSearch false 0x0C701C 3 (mixed 0x86380E03 0x12345012 0 0 0x86380E03 0x12345011), toldWith (told 17 0x12345012 true true) 2)
-      ∷ (groupSearch false 0x0C701C 2 example, toldWith (told 0 0 false false) 2)
-      ∷ (groupSearch false 0xFFFFFF 63 full, toldWith (told 0 0 false false) 8)
-      ∷ (groupSearch true 0xFFFFFF 63 full, toldWith (told 24 0xFFFFFFFF true false) 8)
-      ∷ (groupSearch true 0xFFFFFF 63 last, toldWith (told 24 0xFFFFFFFF true false) 7)
-      ∷ (groupSearch false 0 0 (replicate 64 0), toldWith (told 0 0 false false) 0)
+      (groupSearch false 0x0C701C 3 example, toldWith (summed 17 0x12345E96 true false) 2)
+      ∷ (groupSearch true 0x0C701C 3 example, toldWith (summed 24 0x12345012 false false) 2)
+      ∷ (groupSearch true 0xFFFFFF 63 example, toldWith (summed 31 0xFFFFFFFF false false) 2)
+      ∷ (groupSearch false 0x0C701C 3 (mixed 0 0 0 0 0x86380E03 0x12345112), toldWith (summed 22 0x12345112 false false) 1)
+      ∷ (groupSearch false 0x0C701C 3 (mixed 0x86380E03 0x12345012 0 0 0x86380E03 0x12345011), toldWith (summed 17 0x12345012 true true) 2)
+      ∷ (groupSearch false 0x0C701C 2 example, toldWith (summed 0 0 false false) 2)
+      ∷ (groupSearch false 0xFFFFFF 63 full, toldWith (summed 0 0 false false) 8)
+      ∷ (groupSearch true 0xFFFFFF 63 full, toldWith (summed 24 0xFFFFFFFF true false) 8)
+      ∷ (groupSearch true 0xFFFFFF 63 last, toldWith (summed 24 0xFFFFFFFF true false) 7)
+      ∷ (groupSearch false 0 0 (replicate 64 0), toldWith (summed 0 0 false false) 0)
       ∷ []
       )
   -- what a place tells: a match, its group, its entry's number
   pub told-places : Hold (
-      (map (λ place. found (told place 0 false false)) (0 ∷ 16 ∷ 23 ∷ 24 ∷ 31 ∷ []), false ∷ true ∷ true ∷ true ∷ true ∷ [])
-      ∷ (map (λ place. inSecondary (told place 0 false false)) (0 ∷ 16 ∷ 23 ∷ 24 ∷ 31 ∷ []), false ∷ false ∷ false ∷ true ∷ true ∷ [])
+      (map (λ place. found (summed place 0 false false)) (0 ∷ 16 ∷ 23 ∷ 24 ∷ 31 ∷ []), false ∷ true ∷ true ∷ true ∷ true ∷ [])
+      ∷ (map (λ place. inSecondary (summed place 0 false false)) (0 ∷ 16 ∷ 23 ∷ 24 ∷ 31 ∷ []), false ∷ false ∷ false ∷ true ∷ true ∷ [])
       ∷ []
       )
   pub told-entries : Hold (
-      (map (λ place. entryOf (told place 0 false false)) (16 ∷ 17 ∷ 20 ∷ 23 ∷ 24 ∷ 25 ∷ 28 ∷ 31 ∷ []), 0 ∷ 1 ∷ 4 ∷ 7 ∷ 0 ∷ 1 ∷ 4 ∷ 7 ∷ [])
+      (map (λ place. entryOf (summed place 0 false false)) (16 ∷ 17 ∷ 20 ∷ 23 ∷ 24 ∷ 25 ∷ 28 ∷ 31 ∷ []), 0 ∷ 1 ∷ 4 ∷ 7 ∷ 0 ∷ 1 ∷ 4 ∷ 7 ∷ [])
       ∷ []
       )

@@ -51,7 +51,7 @@ pub extern "C" fn mmu_map(
     if refused != numbers::DONE {
         return refused;
     }
-    page_calls::map_page(sdr1, vsid, index, rpn, wimg, pp, table)
+    page_calls::map_page(vsid, index, rpn, wimg, pp, table)
 }
 
 // Unmaps a page. The answer has the first match's second word, with the marks of all.
@@ -74,7 +74,7 @@ pub extern "C" fn mmu_unmap(
         write_answer(answer, refused);
         return refused.result;
     }
-    let told = page_calls::unmap_page(sdr1, vsid, index, table);
+    let told = page_calls::unmap_page(vsid, index, table);
     write_answer(answer, told);
     told.result
 }
@@ -93,7 +93,7 @@ pub extern "C" fn mmu_protect(sdr1: u32, vsid: u32, index: u32, pp: u32, table: 
     if refused != numbers::DONE {
         return refused;
     }
-    page_calls::protect_page(sdr1, vsid, index, pp, table)
+    page_calls::protect_page(vsid, index, pp, table)
 }
 
 // Looks a page up. The answer has the first match's second word.
@@ -110,7 +110,7 @@ pub extern "C" fn mmu_look(sdr1: u32, vsid: u32, index: u32, table: &[u8], answe
         write_answer(answer, refused);
         return refused.result;
     }
-    let told = page_calls::look_page(sdr1, vsid, index, table);
+    let told = page_calls::look_page(vsid, index, table);
     write_answer(answer, told);
     told.result
 }

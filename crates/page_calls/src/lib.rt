@@ -1,15 +1,16 @@
 // The work of the page calls on a lent table: which refusal the arguments give, and map, unmap, protect and look in the page's two groups.
 pub mod located;
 
-use located::locate;
 ghost use mathlib.Core.Path.{_≡_};
-ghost use mathlib.Core.Bool.{true, not};
+ghost use mathlib.Core.Bool.{not};
 ghost use mathlib.Core.List.{[], _∷_};
 ghost use Prim.Native.Nat.{ℕ, _<_, _^_};
 ghost use lib.ListN.{length};
 ghost use Rattle.numbers.specs.Numbers.{refusedArgument};
 ghost use Rattle.registers.specs.Rules.{firstBroken};
-ghost use Rattle.register_words.specs.Sdr1.{sdr1Shape, tableLength, maskOnes};
+ghost use Rattle.register_words.specs.Sdr1.{maskOnes};
+ghost use Rattle.groups.specs.Page.{InRange};
+ghost use Rattle.groups.specs.Hash.{TableOf, SomeTable};
 ghost use Rattle.calls.specs.Request.{mapPage, unmap, protect, look};
 ghost use Rattle.calls.specs.Rules.{pageInRange, mapInRange, tableRules};
 ghost use Rattle.calls.specs.Answers.{wordAnswer};
@@ -65,35 +66,23 @@ pub fn word_refusal(sdr1: u32, vsid: u32, index: u32, lent: usize) -> WordAnswer
 }
 
 // Maps a page that has no match: its entry goes into the first free place of its two groups.
-pub fn map_page(
-    sdr1: u32,
-    vsid: u32,
-    index: u32,
-    rpn: u32,
-    wimg: u32,
-    pp: u32,
-    table: &mut [u8],
-) -> u32
-    requires { ⌜ (sdr1Shape sdr1 ≡ true) × (length (now table) ≡ tableLength sdr1)
-        × (vsid < 2 ^ 24) × (index < 2 ^ 16) × (rpn < 2 ^ 20) × (wimg < 2 ^ 4) × (pp < 2 ^ 2) ⌝ }
-    ensures { λ r. ⌜ ended r (now (table .exit)) []
-        ≡ bytesDo (maskOnes sdr1) (mapPage (record { sdr1 = sdr1; page = record { vsid = vsid; index = index }; rpn = rpn; wimg = wimg; pp = pp })) (now (table .entry)) ⌝ }
+pub fn map_page(vsid: u32, index: u32, rpn: u32, wimg: u32, pp: u32, table: &mut [u8]) -> u32
+    requires { ⌜ SomeTable (length (now table)) × InRange (record { vsid = vsid; index = index }) × (rpn < 2 ^ 20) × (wimg < 2 ^ 4) × (pp < 2 ^ 2) ⌝ }
+    ensures { λ r. ⌜ ((sdr1 : ℕ) → TableOf sdr1 (length (now (table .entry))) → ended r (now (table .exit)) []
+        ≡ bytesDo (maskOnes sdr1) (mapPage (record { sdr1 = sdr1; page = record { vsid = vsid; index = index }; rpn = rpn; wimg = wimg; pp = pp })) (now (table .entry))) ⌝ }
 {
-    let at = locate(table.len(), vsid, index);
-    let from = at.primary * numbers::GROUP_SIZE;
-    let to = from + numbers::GROUP_SIZE;
-    let next = at.secondary * numbers::GROUP_SIZE;
-    let end = next + numbers::GROUP_SIZE;
-    let wanted = entry::match_word(vsid, 0, at.api);
-    let free = groups::free_place(&table[from..to], &table[next..end]);
-    if matches::any_match(&table[from..to], &table[next..end], wanted) {
+    let page = groups::locate(table.len(), vsid, index);
+    let primary = matches::in_primary(table, page);
+    let told = matches::in_secondary(table, page, primary);
+    if told.any() {
         return numbers::REFUSED_MAPPED;
     }
+    let free = groups::free_place(told.free);
     match free {
         groups::Place::Entry(secondary, entry) => {
-            let first = entry::first_in(secondary, wanted);
+            let first = entry::first_in(secondary, page.wanted);
             let second = entry::second_word(rpn, 0, 0, wimg, pp);
-            groups::put_entry(table, at.group(secondary), entry, first, second);
+            groups::put_entry(table, page.group(secondary), entry, first, second);
             numbers::DONE
         }
         groups::Place::Full => numbers::REFUSED_FULL,
@@ -101,28 +90,25 @@ pub fn map_page(
 }
 
 // Unmaps a page: each match becomes eight zero bytes.
-pub fn unmap_page(sdr1: u32, vsid: u32, index: u32, table: &mut [u8]) -> WordAnswer
-    requires { ⌜ (sdr1Shape sdr1 ≡ true) × (length (now table) ≡ tableLength sdr1) × (vsid < 2 ^ 24) × (index < 2 ^ 16) ⌝ }
-    ensures { λ r. ⌜ ended (r .result) (now (table .exit)) (wordAnswer (r .result) (r .word))
-        ≡ bytesDo (maskOnes sdr1) (unmap (record { sdr1 = sdr1; page = record { vsid = vsid; index = index }; answer = [] })) (now (table .entry)) ⌝ }
+pub fn unmap_page(vsid: u32, index: u32, table: &mut [u8]) -> WordAnswer
+    requires { ⌜ SomeTable (length (now table)) × InRange (record { vsid = vsid; index = index }) ⌝ }
+    ensures { λ r. ⌜ ((sdr1 : ℕ) → TableOf sdr1 (length (now (table .entry))) → ended (r .result) (now (table .exit)) (wordAnswer (r .result) (r .word))
+        ≡ bytesDo (maskOnes sdr1) (unmap (record { sdr1 = sdr1; page = record { vsid = vsid; index = index }; answer = [] })) (now (table .entry))) ⌝ }
 {
-    let at = locate(table.len(), vsid, index);
-    let from = at.primary * numbers::GROUP_SIZE;
-    let to = from + numbers::GROUP_SIZE;
-    let next = at.secondary * numbers::GROUP_SIZE;
-    let end = next + numbers::GROUP_SIZE;
-    let place = matches::find(&table[from..to], &table[next..end], vsid, at.api);
-    if place == 0 {
+    let page = groups::locate(table.len(), vsid, index);
+    let primary = matches::in_primary(table, page);
+    let told = matches::in_secondary(table, page, primary);
+    if !told.any() {
         return WordAnswer {
             result: numbers::REFUSED_NO_MATCH,
             word: 0,
         };
     }
     let edit = edits::Edit::Clear;
-    let word = if place == matches::SEVERAL {
-        edits::edit_both(table, at.primary, at.secondary, vsid, at.api, edit)
+    let word = if told.several() {
+        edits::edit_both(table, page, told.second, edit)
     } else {
-        edits::edit_place(table, at.primary, at.secondary, vsid, at.api, place, edit)
+        edits::edit_entry(table, page.group(told.in_secondary()), told.entry(), edit)
     };
     WordAnswer {
         result: numbers::DONE,
@@ -131,56 +117,42 @@ pub fn unmap_page(sdr1: u32, vsid: u32, index: u32, table: &mut [u8]) -> WordAns
 }
 
 // Puts another PP into each match of a page.
-pub fn protect_page(sdr1: u32, vsid: u32, index: u32, pp: u32, table: &mut [u8]) -> u32
-    requires { ⌜ (sdr1Shape sdr1 ≡ true) × (length (now table) ≡ tableLength sdr1) × (vsid < 2 ^ 24) × (index < 2 ^ 16) × (pp < 2 ^ 2) ⌝ }
-    ensures { λ r. ⌜ ended r (now (table .exit)) []
-        ≡ bytesDo (maskOnes sdr1) (protect (record { sdr1 = sdr1; page = record { vsid = vsid; index = index }; pp = pp })) (now (table .entry)) ⌝ }
+pub fn protect_page(vsid: u32, index: u32, pp: u32, table: &mut [u8]) -> u32
+    requires { ⌜ SomeTable (length (now table)) × InRange (record { vsid = vsid; index = index }) × (pp < 2 ^ 2) ⌝ }
+    ensures { λ r. ⌜ ((sdr1 : ℕ) → TableOf sdr1 (length (now (table .entry))) → ended r (now (table .exit)) []
+        ≡ bytesDo (maskOnes sdr1) (protect (record { sdr1 = sdr1; page = record { vsid = vsid; index = index }; pp = pp })) (now (table .entry))) ⌝ }
 {
-    let at = locate(table.len(), vsid, index);
-    let from = at.primary * numbers::GROUP_SIZE;
-    let to = from + numbers::GROUP_SIZE;
-    let next = at.secondary * numbers::GROUP_SIZE;
-    let end = next + numbers::GROUP_SIZE;
-    let place = matches::find(&table[from..to], &table[next..end], vsid, at.api);
-    if place == 0 {
+    let page = groups::locate(table.len(), vsid, index);
+    let primary = matches::in_primary(table, page);
+    let told = matches::in_secondary(table, page, primary);
+    if !told.any() {
         return numbers::REFUSED_NO_MATCH;
     }
     let edit = edits::Edit::Protect(pp);
-    if place == matches::SEVERAL {
-        edits::edit_both(table, at.primary, at.secondary, vsid, at.api, edit);
+    if told.several() {
+        edits::edit_both(table, page, told.second, edit);
     } else {
-        edits::edit_place(table, at.primary, at.secondary, vsid, at.api, place, edit);
+        edits::edit_entry(table, page.group(told.in_secondary()), told.entry(), edit);
     }
     numbers::DONE
 }
 
 // Looks a page up.
-pub fn look_page(sdr1: u32, vsid: u32, index: u32, table: &[u8]) -> WordAnswer
-    requires { ⌜ (sdr1Shape sdr1 ≡ true) × (length (now table) ≡ tableLength sdr1) × (vsid < 2 ^ 24) × (index < 2 ^ 16) ⌝ }
-    ensures { λ r. ⌜ ended (r .result) (now (table .entry)) (wordAnswer (r .result) (r .word))
-        ≡ bytesDo (maskOnes sdr1) (look (record { sdr1 = sdr1; page = record { vsid = vsid; index = index }; answer = [] })) (now (table .entry)) ⌝ }
+pub fn look_page(vsid: u32, index: u32, table: &[u8]) -> WordAnswer
+    requires { ⌜ SomeTable (length (now table)) × InRange (record { vsid = vsid; index = index }) ⌝ }
+    ensures { λ r. ⌜ ((sdr1 : ℕ) → TableOf sdr1 (length (now (table .entry))) → ended (r .result) (now (table .entry)) (wordAnswer (r .result) (r .word))
+        ≡ bytesDo (maskOnes sdr1) (look (record { sdr1 = sdr1; page = record { vsid = vsid; index = index }; answer = [] })) (now (table .entry))) ⌝ }
 {
-    let at = locate(table.len(), vsid, index);
-    let from = at.primary * numbers::GROUP_SIZE;
-    let to = from + numbers::GROUP_SIZE;
-    let next = at.secondary * numbers::GROUP_SIZE;
-    let end = next + numbers::GROUP_SIZE;
-    let place = matches::find(&table[from..to], &table[next..end], vsid, at.api);
-    if place == 0 {
+    let page = groups::locate(table.len(), vsid, index);
+    let primary = matches::in_primary(table, page);
+    let told = matches::in_secondary(table, page, primary);
+    if !told.any() {
         return WordAnswer {
             result: numbers::REFUSED_NO_MATCH,
             word: 0,
         };
     }
-    if place != matches::SEVERAL {
-        let group = matches::group_at(place, at.primary, at.secondary);
-        return WordAnswer {
-            result: numbers::DONE,
-            word: groups::second_of(table, group, place % 8),
-        };
-    }
-    let search = matches::search_both(table, at.primary, at.secondary, vsid, at.api);
-    if search.differs {
+    if told.differs() {
         return WordAnswer {
             result: numbers::REFUSED_CONTRADICTION,
             word: 0,
@@ -188,6 +160,6 @@ pub fn look_page(sdr1: u32, vsid: u32, index: u32, table: &[u8]) -> WordAnswer
     }
     WordAnswer {
         result: numbers::DONE,
-        word: search.second,
+        word: told.second,
     }
 }

@@ -53,7 +53,7 @@ pair-fits size page = go (page-size size page)
     go long-size false i l = omega arith
 
 -- a pair's words by their number on the page, and its byte
-pair-byte : (long side : Bool) (i : ℕ) → i < blockPairs long
+pub pair-byte : (long side : Bool) (i : ℕ) → i < blockPairs long
     → (sideStart (blockPairs long) side + 2 * i + 1 < registerCount long) × (4 * (sideStart (blockPairs long) side + 2 * i) ≡ sideByte long side + 8 * i)
 pair-byte true true i l = (omega arith, omega arith)
 pair-byte true false i l = (omega arith, omega arith)
@@ -76,9 +76,15 @@ module _ (registers : List ℕ) where
   unfolding registerWords
   full = length-wordsAt registers 0 (registerCount long)
 
-  own-at : (k : ℕ) → k < registerCount long → getD words k 0 ≡ wordAt registers (4 * k)
+  pub own-at : (k : ℕ) → k < registerCount long → getD words k 0 ≡ wordAt registers (4 * k)
   unfolding registerWords
   own-at k l = getD-wordsAt registers 0 (registerCount long) k l ∙ ap (wordAt registers) (omega arith)
+
+  pub own-sdr1 : sdr1Of words ≡ wordAt registers 0
+  own-sdr1 = own-at 0 (omega (arith, front-least long))
+
+  pub own-segment : (i : ℕ) → i < 16 → segmentOf words i ≡ wordAt registers (4 + 4 * i)
+  own-segment i l = own-at (1 + i) (omega (arith, front-least long)) ∙ ap (wordAt registers) (omega arith)
 
   -- the set's words before instruction pair 4
   front-at : (k : ℕ) → k < 25 → getD (setWords registers) k 0 ≡ wordAt registers (4 * k)

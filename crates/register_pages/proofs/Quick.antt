@@ -19,16 +19,11 @@ use Rattle.words.proofs.Tests.{both, by-test}
 use Rattle.register_words.specs.Block.{off, lengthGood, blockShape, clash}
 use Rattle.register_words.proofs.Blocks.{off-shape, off-clash}
 use Rattle.register_words.proofs.Quick.{on-shape, clash-top}
+use Rattle.register_words.proofs.Shape.{same-field}
 use Rattle.register_pages.specs.Quick.{field, zerosGood, digitAt, SideSeen}
+use Rattle.register_pages.proofs.Pass.{off-byte}
 use Rattle.register_pages.proofs.Or.{Has, has-own, has-more, masked}
 use Rattle.register_pages.proofs.Digits.{digit-own, digit-more, digit-none, not-crowded}
-
--- numbers whose low bits are the same have the same fields there
-same-field : (j w k a b : ℕ) → a % 2 ^ (j + (w + k)) ≡ b % 2 ^ (j + (w + k)) → field k w a ≡ field k w b
-same-field j w k a b e = cut a ∙ ap (λ (n : ℕ). n % 2 ^ (w + k) / 2 ^ k) e ∙ sym (cut b)
-  where
-    cut : (n : ℕ) → field k w n ≡ n % 2 ^ (j + (w + k)) % 2 ^ (w + k) / 2 ^ k
-    cut n = sym (ap (λ (m : ℕ). m / 2 ^ k) (mod-mod-pow n j (w + k)) ∙ field-of-rest n w k)
 
 two-ones : (q : ℕ) → (q % 2 ≡ 0 → ⊥) → (q / 2 % 2 ≡ 0 → ⊥) → q % 2 ^ 2 ≡ 3
 two-ones q low-one high-one = omega arith
@@ -203,15 +198,6 @@ module _ (page : List ℕ) (from : ℕ) where
       none t = ap (digitAt t) e ∙ digit-none t
 
 -- ---- the pair at a byte
-
--- whether it is off, by the last byte of its upper word
-pub off-byte : (page : List ℕ) (at : ℕ) → bitAnd (getD page (at + 3) 0) 3 ≡ 0 → off (wordAt page at) ≡ true
-unfolding off wordAt
-off-byte page at z = eq-eqb (bits 30 31 (wordAt page at)) 0 (omega (arith, and-mask (getD page (at + 3) 0) 2))
-
-pub on-byte : (page : List ℕ) (at : ℕ) → (bitAnd (getD page (at + 3) 0) 3 ≡ 0 → ⊥) → off (wordAt page at) ≡ false
-unfolding off wordAt
-on-byte page at some = ne-eqb (bits 30 31 (wordAt page at)) 0 (λ z. some (omega (arith, and-mask (getD page (at + 3) 0) 2)))
 
 module _ (page : List ℕ) (from at begins any : ℕ) (le : from ≤ at) (whole : (at - from) % 8 ≡ 0) (before : Seen page from ((at - from) / 8) begins any) where
   abbrev k : ℕ

@@ -1,23 +1,23 @@
 -- A word put into a register page: it lies on the page, the page's words are the old ones with that one replaced, and the old word put back gives the
 -- page as it was.
-use mathlib.Core.Path.{_≡_, sym, ap, ap₂, _∙_}
-use mathlib.Core.Bool.{Bool, true, false}
-use mathlib.Core.List.{List}
+use mathlib.Core.Path.{_≡_, refl, sym, ap, ap₂, _∙_}
+use mathlib.Core.Bool.{Bool, true, false, cond}
+use mathlib.Core.List.{List, [], _∷_, _++_, append-assoc}
 use mathlib.Core.Logic.{_⊎_, inl, inr}
 use Prim.Native.Nat.{ℕ, zero, suc, _+_, _-_, _*_, _^_, _≤_, _<_}
 use native.Mathlib.Nat.{add-zero}
 use native.Mathlib.Omega.{arith}
-use borrow.Author.Tests.{lt-ltb, ltb-true, ltb-false}
-use lib.Dec.{ltb}
-use lib.ListN.{length, getD, set, length-set}
-use lib.Seq.{ext-getD, getD-set-same, getD-set-other}
+use borrow.Author.Tests.{lt-ltb, le-ltb, ltb-true, ltb-false}
+use lib.Dec.{eqb, ltb, lit≤}
+use lib.ListN.{length, getD, set, take, drop, replicate, length-set}
+use lib.Seq.{sets, ext-getD, getD-set-same, getD-set-other, getD-drop, take-set-lt, length-take-le, take-at, drop-at, drop-drop, take-add}
+use borrow.Rule.Slice.PartMut.{putMid}
 use Rattle.words.specs.Words.{wordBytes, wordAt, withWord, wordsAt}
 use Rattle.words.proofs.Tests.{three, by-test}
 use Rattle.words.proofs.Words.{Bytes, byte-0, byte-1, byte-2, byte-3, sets-in, length-wordBytes, length-withWord, byte-before, byte-behind}
 use Rattle.words.proofs.Words.{word-before, word-behind, word-same, length-wordsAt, getD-wordsAt}
 use Rattle.register_words.specs.Block.{blWidth}
-use Rattle.registers.specs.Set.{isPage, isLong, blockPairs, registerCount, checkWords, registerWords, replacing, setWords}
-use Rattle.registers.proofs.Pages.{check-set}
+use Rattle.registers.specs.Set.{isPage, isLong, blockPairs, registerCount, checkWords, registerWords, replacing}
 use Rattle.register_pages.specs.Replace.{pageReplaced}
 use Rattle.register_pages.proofs.Page.{PageSize, short-size, long-size, page-size}
 
@@ -112,13 +112,59 @@ module _ (page : List ℕ) (right : isPage (length page) ≡ true) (number : ℕ
         ap (λ (size : ℕ). wordsAt put 0 (registerCount (isLong size))) (length-withWord page (4 * number) word)
         ∙ words-with page (registerCount (isLong (length page))) number word own (words-fit (length page) right) small
 
-    -- where it passes the check with the word put in, that is what replacing the word comes to
-    pub put-passes : checkWords 8 (blWidth (isLong (length put))) (setWords put) ≡ 0 → pageReplaced page number word ≡ (0, put)
+    -- replacing it comes to the check of the page with the word put in
+    pub put-replaced : let r = checkWords (blockPairs (isLong (length put))) (blWidth (isLong (length put))) (registerWords put) in
+        pageReplaced page number word ≡ (r, cond (eqb r 0) put page)
     unfolding pageReplaced replacing
-    put-passes passed =
+    put-replaced =
         let kept = ap isLong (length-withWord page (4 * number) word) in
-        let checked =
-        ap₂ (λ (t : Bool) (ws : List ℕ). checkWords (blockPairs t) (blWidth t) ws) (sym kept) (sym put-words)
-        ∙ sym (check-set put (put-right page right (4 * number) word))
-        ∙ passed in
-        rw (lt-ltb number (registerCount (isLong (length page))) own, checked)
+        rw (lt-ltb number (registerCount (isLong (length page))) own, kept, put-words)
+
+-- a number past the page's own is refused
+pub put-past : (page : List ℕ) (number word : ℕ) → registerCount (isLong (length page)) ≤ number → pageReplaced page number word ≡ (6, page)
+unfolding pageReplaced replacing
+put-past page number word past = rw (le-ltb number (registerCount (isLong (length page))) past)
+
+-- ---- the set
+
+-- stores before an end
+take-sets : (vs l : List ℕ) (i n : ℕ) → i + length vs ≤ n → take n (sets l i vs) ≡ sets (take n l) i vs
+take-sets [] l i n h = refl
+take-sets (a ∷ vs) l i n h = take-sets vs (set l i a) (suc i) n (omega arith) ∙ ap (λ (s : List ℕ). sets s (suc i) vs) (take-set-lt n l i a (omega arith))
+
+pub take-with : (s : List ℕ) (at w n : ℕ) → at + 4 ≤ n → take n (withWord s at w) ≡ withWord (take n s) at w
+unfolding withWord
+take-with s at w n h = take-sets (wordBytes w) s at n (omega (arith, length-wordBytes w))
+
+-- bytes that are copied part by part
+module _ (to from : List ℕ) where
+  pub copied-more : (a n : ℕ) → a ≤ length from → putMid a n (take a from ++ drop a to) (take n (drop a from)) ≡ take (a + n) from ++ drop (a + n) to
+  copied-more a n l =
+      let part = take n (drop a from) in
+      let whole = length-take-le a from l in
+      ap₂ (λ (p q : List ℕ). p ++ (part ++ drop n q)) (take-at (take a from) (drop a to) a whole) (drop-at (take a from) (drop a to) a whole)
+      ∙ ap (λ (q : List ℕ). take a from ++ (part ++ q)) (drop-drop n a to)
+      ∙ sym (append-assoc (take a from) part (drop (a + n) to))
+      ∙ ap (λ (p : List ℕ). p ++ drop (a + n) to) (sym (take-add a n from))
+
+-- a page is at most as long as a long one
+pub page-most : (size : ℕ) → isPage size ≡ true → size ≤ 196
+page-most size page = go (page-size size page)
+  where
+    go : {n : ℕ} {long : Bool} → PageSize n long → n ≤ 196
+    go short-size = lit≤ tt
+    go long-size = lit≤ tt
+
+-- bytes behind bytes, and zeros
+pub bytes-append : (xs ys : List ℕ) → Bytes xs → Bytes ys → Bytes (xs ++ ys)
+bytes-append [] ys hx hy i = hy i
+bytes-append (x ∷ xs) ys hx hy zero = hx 0
+bytes-append (x ∷ xs) ys hx hy (suc i) = bytes-append xs ys (λ k. hx (suc k)) hy i
+
+pub bytes-drop : (n : ℕ) (xs : List ℕ) → Bytes xs → Bytes (drop n xs)
+bytes-drop n xs h i = rw (getD-drop n xs i 0) (h (n + i))
+
+pub bytes-zeros : (n : ℕ) → Bytes (replicate n 0)
+bytes-zeros zero i = omega arith
+bytes-zeros (suc n) zero = omega arith
+bytes-zeros (suc n) (suc i) = bytes-zeros n i

@@ -1,15 +1,16 @@
-// A register page's bytes: the quick test of all its words, the exact check behind it, a word replaced, and the words that an access reads.
+// A register page's bytes: the check of all its words, the quick test of an access, a word replaced, and the words that an access reads.
 ghost use mathlib.Core.Path.{_≡_};
 ghost use mathlib.Core.Bool.{Bool, true, false};
-ghost use mathlib.Core.List.{List};
+ghost use mathlib.Core.List.{List, _++_};
 ghost use Prim.Native.Nat.{ℕ, _+_, _-_, _*_, _/_, _%_, _^_, _≤_, _<_};
-ghost use lib.ListN.{length};
+ghost use lib.ListN.{length, take, drop};
 ghost use Rattle.words.specs.Words.{wordAt};
 ghost use Rattle.register_words.specs.Segment.{segmentShape};
 ghost use Rattle.register_words.specs.Block.{blWidth};
-ghost use Rattle.registers.specs.Set.{isPage, isLong, blockPairs, sdr1Of, segmentOf, upperOf, lowerOf, checkWords, coveringPair, registerWords, setWords};
+ghost use Rattle.registers.specs.Set.{isPage, isLong, blockPairs, sdr1Of, segmentOf, segmentsShape, upperOf, lowerOf, checkWords, coveringPair, registerWords, setWords};
+ghost use Rattle.register_pages.specs.Side.{Gathered, pairsOff, apartFrom, pairsApart, blocksRefusal};
 ghost use Rattle.register_pages.specs.Quick.{everywhere, sideByte, zerosGood, SideSeen, TellsBlocks};
-ghost use Rattle.register_pages.specs.Replace.{pageReplaced};
+ghost use Rattle.register_pages.specs.Replace.{pageReplaced, pageOf, OfPage};
 
 // What the quick test answers of a page that it does not decide; read as a map, blocks may begin anywhere.
 pub const EVERYWHERE: u64 = 0xFFFFFFFFFFFFFFFF;
@@ -133,77 +134,8 @@ pub fn quick_page(page: &[u8]) -> u64
     instruction | (data << 1)
 }
 
-// The three functions below are `quick_page` again, each for one caller: the compiler joins a function with its only caller, which saves the call and
-// the registers kept over it. First the one of `check`.
-fn quick_check(page: &[u8]) -> u64
-    requires { ⌜ isPage (length (now page)) ≡ true ⌝ }
-    ensures { λ r. ⌜ ((r ≡ everywhere → ⊥) → checkWords (blockPairs true) (blWidth (isLong (length (now (page .entry))))) (setWords (now (page .entry))) ≡ 0)
-        × TellsBlocks (setWords (now (page .entry))) r ⌝ }
-{
-    if !register_words::sdr1_shape(words::read_word(page, 0)) {
-        return EVERYWHERE;
-    }
-    if !quick_segments(page) {
-        return EVERYWHERE;
-    }
-    // Each length has its own lines, so that the compiler knows where the loops over the pairs end.
-    if page.len() == numbers::REGISTERS_SIZE_LONG {
-        let instruction = quick_side(page, 68, 132, false);
-        if instruction == EVERYWHERE {
-            return EVERYWHERE;
-        }
-        let data = quick_side(page, 132, 196, true);
-        if data == EVERYWHERE {
-            return EVERYWHERE;
-        }
-        return instruction | (data << 1);
-    }
-    let instruction = quick_side(page, 68, 100, false);
-    if instruction == EVERYWHERE {
-        return EVERYWHERE;
-    }
-    let data = quick_side(page, 100, 132, true);
-    if data == EVERYWHERE {
-        return EVERYWHERE;
-    }
-    instruction | (data << 1)
-}
-
-// The quick test of `set_word`.
-fn quick_set(page: &[u8]) -> u64
-    requires { ⌜ isPage (length (now page)) ≡ true ⌝ }
-    ensures { λ r. ⌜ ((r ≡ everywhere → ⊥) → checkWords (blockPairs true) (blWidth (isLong (length (now (page .entry))))) (setWords (now (page .entry))) ≡ 0)
-        × TellsBlocks (setWords (now (page .entry))) r ⌝ }
-{
-    if !register_words::sdr1_shape(words::read_word(page, 0)) {
-        return EVERYWHERE;
-    }
-    if !quick_segments(page) {
-        return EVERYWHERE;
-    }
-    // Each length has its own lines, so that the compiler knows where the loops over the pairs end.
-    if page.len() == numbers::REGISTERS_SIZE_LONG {
-        let instruction = quick_side(page, 68, 132, false);
-        if instruction == EVERYWHERE {
-            return EVERYWHERE;
-        }
-        let data = quick_side(page, 132, 196, true);
-        if data == EVERYWHERE {
-            return EVERYWHERE;
-        }
-        return instruction | (data << 1);
-    }
-    let instruction = quick_side(page, 68, 100, false);
-    if instruction == EVERYWHERE {
-        return EVERYWHERE;
-    }
-    let data = quick_side(page, 100, 132, true);
-    if data == EVERYWHERE {
-        return EVERYWHERE;
-    }
-    instruction | (data << 1)
-}
-
+// The two functions below are `quick_page` again, each for one caller: the compiler joins a function with its only caller, which saves the call and
+// the registers kept over it.
 // The quick test of an access with a cache.
 pub fn quick_cached(page: &[u8]) -> u64
     requires { ⌜ isPage (length (now page)) ≡ true ⌝ }
@@ -274,60 +206,270 @@ pub fn quick_rights(page: &[u8]) -> u64
     instruction | (data << 1)
 }
 
-// The exact check: 0, or the number of the first rule that the page breaks. It decides what the quick test does not.
+// What a pass over the pairs of a side gathers of those that are on: what is asked of each, put together by or, and how many begin at or before the end
+// of the one before.
+struct Side {
+    any: u64,
+    falls: u32,
+}
+
+// The pass over the pairs of a side, four at a time. `lengths` is the place of BL on the page; `sum` is added, so that W and I of one block show together.
+fn side_of(pairs: &[u8], lengths: u64, sum: u64) -> Side
+    requires { ⌜ (length (now pairs) % 32 ≡ 0) × (length (now pairs) ≤ 64) ⌝ }
+    ensures { λ r. ⌜ Gathered lengths sum (now (pairs .entry)) r ⌝ }
+{
+    let mut any: u64 = 0;
+    let mut falls: u32 = 0;
+    let mut end: u64 = 0;
+    let mut at: usize = 0;
+    while at < pairs.len() {
+        for i in 0..4usize {
+            let from = at + 8 * i;
+            // A pair that is off may hold anything.
+            if pairs[from + 3] & 3 != 0 {
+                let pair = words::read_pair(pairs, from);
+                let ones = register_words::ones_of(pair);
+                any = any | register_words::asked_of(pair, ones, lengths, sum);
+                falls = falls + ((pair <= end) as u32);
+                end = register_words::end_of(pair, ones);
+            }
+        }
+        at += 32;
+    }
+    Side { any, falls }
+}
+
+// Whether a block shares an address and a V bit with none of the pairs before a byte.
+fn pair_apart(pairs: &[u8], at: usize, own: u32) -> bool
+    requires { ⌜ (at ≤ length (now pairs)) × (at % 8 ≡ 0) ⌝ }
+    ensures { λ r. ⌜ r ≡ apartFrom (now (pairs .entry)) own (at / 8) ⌝ }
+{
+    let mut before: usize = 0;
+    while before < at {
+        if register_words::blocks_clash(words::read_word(pairs, before), own) {
+            return false;
+        }
+        before += 8;
+    }
+    true
+}
+
+// Whether no two pairs of a side share an address and a V bit.
+fn side_apart(pairs: &[u8]) -> bool
+    requires { ⌜ length (now pairs) % 8 ≡ 0 ⌝ }
+    ensures { λ r. ⌜ r ≡ pairsApart (now (pairs .entry)) (length (now (pairs .entry)) / 8) ⌝ }
+{
+    let mut at: usize = 0;
+    while at < pairs.len() {
+        let own = words::read_word(pairs, at);
+        // A pair that is off shares nothing, so it is not compared.
+        if own & 3 != 0 {
+            if !pair_apart(pairs, at, own) {
+                return false;
+            }
+        }
+        at += 8;
+    }
+    true
+}
+
+// Whether one of these pairs is on.
+fn any_on(pairs: &[u8]) -> bool
+    requires { ⌜ length (now pairs) % 8 ≡ 0 ⌝ }
+    ensures { λ r. ⌜ (r ≡ false → pairsOff (now (pairs .entry)) (length (now (pairs .entry)) / 8) ≡ true) ⌝ }
+{
+    let mut at = 0;
+    while at < pairs.len() {
+        if pairs[at + 3] & 3 != 0 {
+            return true;
+        }
+        at += 8;
+    }
+    false
+}
+
+// The first rule that the blocks of a page break, or 0: 3 where one has not its shape, 4 where two share an address.
+fn blocks_refusal(page: &[u8]) -> u32
+    requires { ⌜ isPage (length (now page)) ≡ true ⌝ }
+    ensures { λ r. ⌜ r ≡ blocksRefusal (isLong (length (now (page .entry)))) (registerWords (now (page .entry))) ⌝ }
+{
+    let half = (page.len() - 68) / 2;
+    // The place of BL, of 15 bits on a long page and of 11 on a short one.
+    let lengths = if half == 64 {
+        0x1FFFC00000000
+    } else {
+        0x1FFC00000000
+    };
+    let mut good = true;
+    let mut apart = true;
+    for side in 0..2usize {
+        let at = 68 + side * half;
+        let to = at + half;
+        let seen = side_of(&page[at..to], lengths, 32 * side as u64);
+        // Of an instruction pair W and G are zero too.
+        good = good & (seen.any & (0xFFFFFFFFFFFFFFCC - 0x48 * side as u64) == 0);
+        if seen.falls != 0 {
+            apart = apart & side_apart(&page[at..to]);
+        }
+    }
+    if !good {
+        return numbers::REFUSED_BLOCK;
+    }
+    if apart {
+        return numbers::DONE;
+    }
+    numbers::REFUSED_BLOCKS_SHARE
+}
+
+// Whether a block of the page is on.
+fn blocks_on(page: &[u8]) -> bool
+    requires { ⌜ isPage (length (now page)) ≡ true ⌝ }
+    ensures { λ r. ⌜ (r ≡ false → blocksRefusal (isLong (length (now (page .entry)))) (registerWords (now (page .entry))) ≡ 0) ⌝ }
+{
+    if any_on(&page[68..132]) {
+        return true;
+    }
+    if page.len() == numbers::REGISTERS_SIZE_LONG {
+        return any_on(&page[132..196]);
+    }
+    false
+}
+
+// Whether the sixteen segment registers have their shape, put together by or as they lie in memory, two at a time.
+fn segments_good(page: &[u8]) -> bool
+    requires { ⌜ isPage (length (now page)) ≡ true ⌝ }
+    ensures { λ r. ⌜ r ≡ segmentsShape (registerWords (now (page .entry))) ⌝ }
+{
+    let mut any: u64 = 0;
+    let mut at: usize = 4;
+    while at < 68 {
+        any = any | words::raw_pair(page, at);
+        at += 8;
+    }
+    any & 0x8F0000008F == 0
+}
+
+// 0, or the number of the first rule that the page breaks.
+pub fn check(whole: &[u8]) -> u32
+    requires { ⌜ isPage (length (now whole)) ≡ true ⌝ }
+    ensures { λ r. ⌜ r ≡ checkWords (blockPairs (isLong (length (now (whole .entry))))) (blWidth (isLong (length (now (whole .entry)))))
+        (registerWords (now (whole .entry))) ⌝ }
+{
+    // A slice of its own, so that the compiler keeps where it lies and how long it is in registers.
+    let page = &whole[..];
+    if !register_words::sdr1_shape(words::read_word(page, 0)) {
+        return numbers::REFUSED_SDR1;
+    }
+    if blocks_on(page) {
+        let refused = blocks_refusal(page);
+        if refused != numbers::DONE {
+            return refused;
+        }
+    }
+    if segments_good(page) {
+        return numbers::DONE;
+    }
+    numbers::REFUSED_SEGMENT
+}
+
+// The check again, in the terms of the set of 49 words that an access reads.
 pub fn exact_check(page: &[u8]) -> u32
     requires { ⌜ isPage (length (now page)) ≡ true ⌝ }
     ensures { λ r. ⌜ r ≡ checkWords (blockPairs true) (blWidth (isLong (length (now (page .entry))))) (setWords (now (page .entry))) ⌝ }
 {
-    let mut words = [0u32; 49];
-    registers::read_words(page, &mut words);
-    let long = page.len() == numbers::REGISTERS_SIZE_LONG;
-    registers::check_words(&words, long)
+    check(page)
 }
 
-// 0, or the number of the first rule that the page breaks: by the quick test, and by the exact check where that does not decide.
-pub fn check(page: &[u8]) -> u32
-    requires { ⌜ isPage (length (now page)) ≡ true ⌝ }
-    ensures { λ r. ⌜ r ≡ checkWords (blockPairs (isLong (length (now (page .entry))))) (blWidth (isLong (length (now (page .entry)))))
-        (registerWords (now (page .entry))) ⌝ }
-{
-    if quick_check(page) != EVERYWHERE {
-        return numbers::DONE;
+// The register set by value: the bytes of its page, those of a short one in front, and how many they are.
+pub struct Set {
+    pub bytes: [u8; 196],
+    pub size: usize,
+}
+
+// What replacing a word answers: 0 and the new set, or the refusal and the old set.
+pub struct Replaced {
+    pub result: u32,
+    pub set: Set,
+}
+
+impl Set {
+    // The set with one word changed, or the refusal and the old set.
+    pub fn with_word(self, number: u32, word: u32) -> Replaced
+        requires { ⌜ OfPage self ⌝ }
+        ensures { λ r. ⌜ (r .result, pageOf (r .set)) ≡ pageReplaced (pageOf self) number word ⌝ }
+    {
+        let size = self.size;
+        if number >= registers::count_of(size == numbers::REGISTERS_SIZE_LONG) {
+            return Replaced {
+                result: numbers::REFUSED_ARGUMENT,
+                set: self,
+            };
+        }
+        let at = 4 * (number as usize);
+        let mut bytes = self.bytes;
+        let old = words::read_word(&bytes, at);
+        words::write_word(&mut bytes, at, word);
+        let result = check(&bytes[0..size]);
+        if result != numbers::DONE {
+            words::write_word(&mut bytes, at, old);
+        }
+        Replaced {
+            result,
+            set: Set { bytes, size },
+        }
     }
-    exact_check(page)
 }
 
-// Replaces a word by the register set as a value: 0 and the word written, or the refusal and the page as it was. It decides what the quick test
-// does not.
-fn exact_set(page: &mut [u8], number: u32, word: u32) -> u32
-    requires { ⌜ isPage (length (now page)) ≡ true ⌝ }
-    ensures { λ r. ⌜ (r, now (page .exit)) ≡ pageReplaced (now (page .entry)) number word ⌝ }
+// Copies bytes.
+fn copy(to: &mut [u8], from: &[u8])
+    requires { ⌜ length (now to) ≡ length (now from) ⌝ }
+    ensures { λ _. ⌜ now (to .exit) ≡ now (from .entry) ⌝ }
 {
-    let set = registers::read_set(page);
-    let replaced = set.with_word(number, word);
-    let result = replaced.result;
-    if result == numbers::DONE {
-        words::write_word(page, 4 * (number as usize), word);
+    let mut i = 0;
+    while i < from.len() {
+        to[i] = from[i];
+        i += 1;
     }
-    result
 }
 
-// Replaces one word of a page: 0, or the refusal, and then the page is as it was. The word is put in, and the old one put back where the quick test
-// does not decide.
+// Copies the bytes of a page of a size, in parts of known length, which the compiler copies without a loop.
+fn copy_page(to: &mut [u8], from: &[u8], size: usize)
+    requires { ⌜ (isPage size ≡ true) × (size ≤ length (now to)) × (size ≤ length (now from)) ⌝ }
+    ensures { λ _. ⌜ now (to .exit) ≡ take size (now (from .entry)) ++ drop size (now (to .entry)) ⌝ }
+{
+    copy(&mut to[0..68], &from[0..68]);
+    copy(&mut to[68..132], &from[68..132]);
+    if size == numbers::REGISTERS_SIZE_LONG {
+        copy(&mut to[132..196], &from[132..196]);
+    }
+}
+
+// The register set of a page.
+fn read_set(page: &[u8]) -> Set
+    requires { ⌜ isPage (length (now page)) ≡ true ⌝ }
+    ensures { λ r. ⌜ OfPage r × (pageOf r ≡ now (page .entry)) ⌝ }
+{
+    let mut bytes = [0u8; 196];
+    let size = page.len();
+    copy_page(&mut bytes, page, size);
+    Set { bytes, size }
+}
+
+// Replaces one word of a page: 0, or the refusal, and then the page is as it was. The page is read into a set, and gets the word of the new set, in
+// which every other byte is the old one's.
 pub fn set_word(page: &mut [u8], number: u32, word: u32) -> u32
     requires { ⌜ isPage (length (now page)) ≡ true ⌝ }
     ensures { λ r. ⌜ (r, now (page .exit)) ≡ pageReplaced (now (page .entry)) number word ⌝ }
 {
-    if number < registers::count_of(page.len() == numbers::REGISTERS_SIZE_LONG) {
-        let at = 4 * (number as usize);
-        let old = words::read_word(page, at);
-        words::write_word(page, at, word);
-        if quick_set(page) != EVERYWHERE {
-            return numbers::DONE;
-        }
-        words::write_word(page, at, old);
+    let set = read_set(page);
+    let replaced = set.with_word(number, word);
+    let result = replaced.result;
+    if result == numbers::DONE {
+        let new = replaced.set.bytes;
+        let byte = 4 * (number as usize);
+        words::write_word(page, byte, words::read_word(&new, byte));
     }
-    exact_set(page, number, word)
+    result
 }
 
 // The byte at which a side's pairs begin.

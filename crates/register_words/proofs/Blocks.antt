@@ -159,7 +159,7 @@ module _ (width : ℕ) (wide : width ≤ 15) where
   pub bl-few : (upper : ℕ) → upperShape width upper ≡ true → size (blOf width upper) ≤ 15
   bl-few upper shape = ones-width (blOf width upper) 15 (bl-ones upper shape) (bl-lt upper)
 
-  start-clear : (upper : ℕ) → upperShape width upper ≡ true → bitAnd (bepiOf upper) (blOf width upper) ≡ 0
+  pub start-clear : (upper : ℕ) → upperShape width upper ≡ true → bitAnd (bepiOf upper) (blOf width upper) ≡ 0
   unfolding upperShape
   start-clear upper shape =
       eqb-true _ 0 (both (lowOnes (blOf width upper) && eqb (bits 15 (29 - width) upper) 0) (eqb (bitAnd (bepiOf upper) (blOf width upper)) 0) shape .1)

@@ -4,7 +4,8 @@ use Rattle.register_words.specs.Sdr1.{sdr1Shape, tableLength, maskOnes, 
 use Rattle.register_words.specs.Segment.{segmentShape, keyOf, noExecute, segmentVsid}
 use Rattle.register_words.specs.Block.{blockAttributes, blockPP, off, narrow, validFor, commonV, upperShape, lowerShape, blockShape, inBlock, blockPhysical}
 use Rattle.register_words.specs.Block.{lengthGood, shareAddress, clash, covers}
+use Rattle.register_words.specs.Asked.{pairOnes, lastOf}
 
 unfoldable pub register-words-compute : Unit {0}
-unfolding words-compute sdr1Shape tableLength maskOnes hashBits segmentShape keyOf noExecute segmentVsid blockAttributes blockPP off narrow validFor commonV upperShape lowerShape lengthGood blockShape inBlock blockPhysical shareAddress clash covers
+unfolding words-compute sdr1Shape tableLength maskOnes hashBits segmentShape keyOf noExecute segmentVsid blockAttributes blockPP off narrow validFor commonV upperShape lowerShape lengthGood blockShape inBlock blockPhysical shareAddress clash covers pairOnes lastOf
 register-words-compute = tt

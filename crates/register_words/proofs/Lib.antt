@@ -3,5 +3,7 @@ pub mod Sdr1
 pub mod Blocks
 pub mod Quick
 pub mod Asked
+pub mod Shape
+pub mod Order
 pub mod Computes
 pub mod Tables

@@ -2,4 +2,5 @@
 pub mod Sdr1
 pub mod Segment
 pub mod Block
+pub mod Asked
 pub mod Tables

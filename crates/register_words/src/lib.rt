@@ -1,14 +1,13 @@
 // One register word: SDR1, a segment register, and a block pair's upper and lower word; their shapes and what a block covers.
 ghost use mathlib.Core.Path.{_≡_};
-ghost use mathlib.Core.Bool.{true, cond, _&&_};
-ghost use Prim.Native.Nat.{_-_, _/_, _%_, _^_};
+ghost use mathlib.Core.Bool.{Bool, true, false};
+ghost use Prim.Native.Nat.{_+_, _-_, _*_, _/_, _%_, _^_};
 ghost use lib.Bits.{bitAnd};
 ghost use lib.Dec.{eqb};
 ghost use Rattle.words.specs.Bits.{bits};
-ghost use Rattle.words.specs.Ones.{lowOnes};
 ghost use Rattle.register_words.specs.Sdr1.{sdr1Shape, tableLength, hashBits};
-ghost use Rattle.register_words.specs.Segment.{segmentShape};
-ghost use Rattle.register_words.specs.Block.{blWidth, blOf, bepiOf, brpnOf, blockShape, lengthGood, clash, covers, inBlock, blockPhysical};
+ghost use Rattle.register_words.specs.Asked.{pairOnes, blPlace, sideSum, zeroBits, lastOf};
+ghost use Rattle.register_words.specs.Block.{blWidth, off, blockShape, lengthGood, clash, covers, inBlock, blockPhysical};
 
 // Whether SDR1 has its shape.
 pub fn sdr1_shape(sdr1: u32) -> bool
@@ -37,62 +36,42 @@ pub fn hash_mask(sdr1: u32) -> u32
     ((sdr1 & 0x1FF) << 10) | 0x3FF
 }
 
-// Whether a segment register has its shape.
-pub fn segment_shape(word: u32) -> bool
-    ensures { λ r. ⌜ r ≡ segmentShape word ⌝ }
+// As many ones as BL of a pair has bits, its upper word in the high half, in BEPI's, BL's and BRPN's places at once, and the low 17 bits all ones.
+pub fn ones_of(pair: u64) -> u64
+    ensures { λ r. ⌜ r ≡ pairOnes (pair / 2 ^ 32) ⌝ }
 {
-    (word >> 31 == 0) & ((word >> 24) & 0xF == 0)
+    // BL from bit 17 on, with a one below it.
+    let field = (((pair >> 17) % 0x100000000) as u32) | 0x10000;
+    std::num::wrapping_sub_u64(0x200040002 << words::highest(field), 0x2000400000001)
 }
 
-// Whether a block of a short or a long page is right in its length: BL is ones only at its low end, with zeros of BEPI and BRPN under them, and on a
-// short page it has no more than 11 bits.
-fn length_shape(long: bool, upper: u32, lower: u32) -> bool
-    ensures { λ r. ⌜ r ≡ (lowOnes (blOf 15 upper) && eqb (bitAnd upper (cond long 0 0x1E000)) 0 && eqb (bitAnd (bepiOf upper) (blOf 15 upper)) 0
-        && eqb (bitAnd (brpnOf lower) (blOf 15 upper)) 0) ⌝ }
+// What is asked of a pair that is on, `ones` those of its length and `lengths` the place of BL on its page, whose bits are turned, so that BL's ones are
+// zeros too. Where `sum` is added W and I of one block show together in the bit above them. The bits that must be zero are zero exactly where the pair
+// has the shape of its side's blocks.
+pub fn asked_of(pair: u64, ones: u64, lengths: u64, sum: u64) -> u64
+    requires { ⌜ ones ≡ pairOnes (pair / 2 ^ 32) ⌝ }
+    ensures { λ r. ⌜ ((long side : Bool) → lengths ≡ blPlace long → sum ≡ sideSum side → off (pair / 2 ^ 32) ≡ false
+        → eqb (bitAnd r (zeroBits side)) 0 ≡ blockShape (blWidth long) side (pair / 2 ^ 32) (pair % 2 ^ 32)) ⌝ }
 {
-    let bl = (upper >> 2) & 0x7FFF;
-    // The least block, of 128 KB, needs no further test.
-    if bl == 0 {
-        return true;
-    }
-    if !words::low_ones(bl) {
-        return false;
-    }
-    // Bits 15 to 18, which a block of a short page has zero.
-    let short_zeros = if long { 0 } else { 0x1E000 };
-    (upper & short_zeros == 0) & ((upper >> 17) & bl == 0) & ((lower >> 17) & bl == 0)
+    let asked = (pair ^ lengths) & ones;
+    asked | std::num::wrapping_add_u64(asked, sum)
 }
 
-// Whether a block pair of a short or a long page has the shape of its side; a pair that is off may hold anything.
-pub fn block_shape(long: bool, side: bool, upper: u32, lower: u32) -> bool
-    ensures { λ r. ⌜ r ≡ blockShape (blWidth long) side upper lower ⌝ }
+// The end of a pair's block, `ones` those of its length: a pair whose block begins behind it is a greater number.
+pub fn end_of(pair: u64, ones: u64) -> u64
+    requires { ⌜ ones ≡ pairOnes (pair / 2 ^ 32) ⌝ }
+    ensures { λ r. ⌜ r ≡ lastOf (pair / 2 ^ 32) * 2 ^ 49 + (2 ^ 49 - 1) ⌝ }
 {
-    if upper & 3 == 0 {
-        return true;
-    }
-    if !length_shape(long, upper, lower) {
-        return false;
-    }
-    let zeros = ((lower >> 7) & 0x3FF == 0) & ((lower >> 2) & 1 == 0) & ((lower >> 5) & 3 != 3);
-    // An instruction block has W and G zero.
-    if side {
-        zeros
-    } else {
-        zeros & (((lower >> 6) & 1 == 0) & ((lower >> 3) & 1 == 0))
-    }
+    pair | ones | 0x1FFFFFFFFFFFF
 }
 
 // What a quick test asks of a pair, its upper word in the high half: its low 17 bits as they are, and above them zeros, only where BL has at most 11
-// bits and is ones at its low end with zeros of BEPI and BRPN under them. As many ones as BL has bits stand in BEPI's, BL's and BRPN's places at once;
-// BL's bits are turned, so that its ones are zeros too.
+// bits and is ones at its low end with zeros of BEPI and BRPN under them.
 pub fn asked_bits(pair: u64) -> u64
     ensures { λ r. ⌜ (r % 2 ^ 17 ≡ pair % 2 ^ 17)
         × (r / 2 ^ 17 ≡ 0 → (lengthGood (blWidth true) (pair / 2 ^ 32) (pair % 2 ^ 32) ≡ true) × (bits 15 18 (pair / 2 ^ 32) ≡ 0)) ⌝ }
 {
-    // BL from bit 17 on, with a one below it.
-    let field = (((pair >> 17) % 0x100000000) as u32) | 0x10000;
-    let ones = std::num::wrapping_sub_u64(0x200040002 << words::highest(field), 0x2000400000001);
-    (pair ^ 0x1FFC00000000) & ones
+    (pair ^ 0x1FFC00000000) & ones_of(pair)
 }
 
 // Whether two blocks have a V bit in common and share an effective address. Here and below BL has 15 bits, of which a short page's blocks use 11.

@@ -1,16 +1,15 @@
--- A register page of either length as the set of 49 words that the code reads: the check and a replaced word are those of the page by its own limits.
+-- A register page of either length as the set of 49 words: the check is that of the page by its own limits.
 use mathlib.Core.Path.{_≡_, refl, sym, ap, _∙_}
-use mathlib.Core.Bool.{Bool, true, false, cond}
+use mathlib.Core.Bool.{Bool, true, false}
 use mathlib.Core.List.{List}
 use Prim.Native.Nat.{ℕ}
-use lib.Dec.{ltb}
-use lib.ListN.{length, set, length-set}
-use borrow.Author.Tests.{eqb-false, ltb-true}
+use lib.ListN.{length}
+use borrow.Author.Tests.{eqb-false}
 use Rattle.words.proofs.Words.{length-wordsAt}
 use Rattle.register_words.specs.Block.{blWidth}
-use Rattle.registers.specs.Set.{isPage, isLong, blockPairs, registerCount, checkWords, registerWords, replacing, widened, setWords, placeInSet}
+use Rattle.registers.specs.Set.{isPage, isLong, blockPairs, checkWords, registerWords, widened, setWords}
 use Rattle.registers.proofs.Set.{short-page, words-short}
-use Rattle.registers.proofs.Widened.{check-widened, set-widened}
+use Rattle.registers.proofs.Widened.{check-widened}
 
 module _ (registers : List ℕ) where
   abbrev pub long : Bool
@@ -39,18 +38,3 @@ module _ (registers : List ℕ) where
         go : (t : Bool) → long ≡ t → checkWords 8 (blWidth t) (setWords registers) ≡ checkWords (blockPairs t) (blWidth t) words
         go true e = ap (checkWords 8 15) (set-long e)
         go false e = ap (checkWords 8 11) (set-short e) ∙ check-widened words (short-full e) 11
-
-    -- a replaced word
-    pub replacing-set : (number word : ℕ) → replacing long words number word
-        ≡ cond (ltb number (registerCount long)) (checkWords 8 (blWidth long) (set (setWords registers) (placeInSet long number) word)) 6
-    unfolding replacing
-    replacing-set number word = go long refl (ltb number (registerCount long)) refl
-      where
-        go : (t : Bool) → long ≡ t → (b : Bool) → ltb number (registerCount t) ≡ b
-            → cond b (checkWords (blockPairs t) (blWidth t) (set words number word)) 6 ≡ cond b (checkWords 8 (blWidth t) (set (setWords registers) (placeInSet t number) word)) 6
-        go true e b l = ap (λ (ws : List ℕ). cond b (checkWords 8 15 (set ws number word)) 6) (sym (set-long e))
-        go false e false l = refl
-        go false e true l =
-            let full = short-full e in
-            sym (check-widened (set words number word) (length-set words number word ∙ full) 11)
-            ∙ ap (checkWords 8 11) (set-widened words full number word (ltb-true number 33 l) ∙ ap (λ (ws : List ℕ). set ws (placeInSet false number) word) (sym (set-short e)))

@@ -1,21 +1,16 @@
--- Laws of the register set: where a side's pairs stand, and what a set that passed the check has.
+-- Laws of the register set: the words of a page, and what a set that passed the check has.
 use mathlib.Core.Path.{_≡_, refl}
 use mathlib.Core.Bool.{Bool, true, false, cond, not, _&&_, _||_}
 use mathlib.Core.List.{List}
-use Prim.Native.Nat.{ℕ, _≤_, _<_}
+use Prim.Native.Nat.{ℕ, _<_}
 use native.Mathlib.Omega.{arith}
-use lib.Dec.{eqb, ltb, lit≤}
+use lib.Dec.{eqb, ltb}
 use lib.ListN.{length}
 use Rattle.words.specs.Words.{wordsAt}
 use borrow.Author.Tests.{not-false, ltb-true, eqb-true}
 use Rattle.words.proofs.Tests.{both}
 use Rattle.register_words.specs.Sdr1.{sdr1Shape}
-use Rattle.registers.specs.Set.{isPage, sdr1Of, segmentsShape, sideStart, sideShape, sideApart, checkWords, registerCount, registerWords, replacing}
-
--- a side's pairs end with the set
-pub start-at-most : (side : Bool) → sideStart 8 side ≤ 33
-start-at-most true = lit≤ tt
-start-at-most false = lit≤ tt
+use Rattle.registers.specs.Set.{isPage, sdr1Of, segmentsShape, sideShape, sideApart, checkWords, registerCount, registerWords, replacing}
 
 -- a page that is not long is short
 pub short-page : (size : ℕ) → isPage size ≡ true → (size ≡ 196 → ⊥) → size ≡ 132

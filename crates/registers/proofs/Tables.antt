@@ -13,6 +13,5 @@ registers-tables = record {
   check-rows = record { equal = refl };
   covering-rows = record { equal = refl };
   long-rows = record { equal = refl };
-  replaced-rows = record { equal = refl };
   replacing-rows = record { equal = refl };
 }

@@ -13,8 +13,6 @@ use Rattle.registers.specs.Rules.{firstBroken}
 use Rattle.register_words.specs.Sdr1.{sdr1Shape}
 use Rattle.register_words.specs.Segment.{segmentShape}
 use Rattle.register_words.specs.Block.{blWidth, blockShape, clash, covers}
-use Rattle.registers.specs.declared.Registers.{Registers}
-use Rattle.registers.specs.declared.Replaced.{Replaced}
 
 -- a register page is short, 132 bytes, or long, 196 bytes; its length alone tells which
 abbrev pub isPage : ℕ → Bool
@@ -108,10 +106,3 @@ setWords registers = cond (isLong (length registers)) (registerWords registers) 
 -- where the word of a page's number stands in a set
 abbrev pub placeInSet : Bool → ℕ → ℕ
 placeInSet long number = cond (long || ltb number 25) number (number + 8)
-
--- the set with the word replaced, or the refusal and the old set
-unfoldable pub replaced : Registers → ℕ → ℕ → Replaced
-replaced registers number word =
-    let next = set (registers .words) (placeInSet (registers .long) number) word in
-    let result = cond (ltb number (registerCount (registers .long))) (checkWords (blockPairs true) (blWidth (registers .long)) next) refusedArgument in
-    record { result = result; set = cond (eqb result 0) (record { words = next; long = registers .long }) registers }

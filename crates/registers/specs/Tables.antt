@@ -9,8 +9,7 @@ use Rattle.words.specs.Rows.{Hold}
 use Rattle.words.specs.Words.{bytesOf}
 use Rattle.register_words.specs.Block.{blWidth}
 use Rattle.registers.specs.Set.{isPage, isLong, blockPairs, registerCount, sdr1Of, segmentOf, upperOf, lowerOf, checkWords, coveringPair}
-use Rattle.registers.specs.Set.{registerWords, replacing, widened, setWords, placeInSet, replaced}
-use Rattle.registers.specs.declared.Registers.{Registers}
+use Rattle.registers.specs.Set.{registerWords, replacing, widened, setWords, placeInSet}
 
 -- a short page's words, all zero, with one word, two words or three words changed; and a long page's
 unfoldable pub blank : List ℕ
@@ -39,13 +38,6 @@ numbered =
 
 abbrev pub further : List ℕ
 further = 33 ∷ 34 ∷ 35 ∷ 36 ∷ 37 ∷ 38 ∷ 39 ∷ 40 ∷ 41 ∷ 42 ∷ 43 ∷ 44 ∷ 45 ∷ 46 ∷ 47 ∷ 48 ∷ []
-
--- the set of a long page, and of a short one, by their words
-abbrev pub ofLong : List ℕ → Registers
-ofLong words = record { words = words; long = true }
-
-abbrev pub ofShort : List ℕ → Registers
-ofShort words = record { words = widened words; long = false }
 
 pub record RegistersTables : Type 0 where
   -- where each word stands in the set, and in the bytes of the page
@@ -138,25 +130,17 @@ pub record RegistersTables : Type 0 where
       ∷ (checkWords (blockPairs false) (blWidth false) (one 31 0x00003FFC), done)
       ∷ []
       )
-  -- replacing a word: the new set, or the refusal and the old set; a broken set is repaired by its broken word; each page has its own numbers
-  pub replaced-rows : Hold (
-      (replaced (ofShort blank) 32 0x10000002, record { result = done; set = ofShort (one 32 0x10000002) })
-      ∷ (replaced (ofShort blank) 33 0, record { result = refusedArgument; set = ofShort blank })
-      ∷ (replaced (ofShort blank) 0 5, record { result = refusedSdr1; set = ofShort blank })
-      ∷ (replaced (ofShort blank) 31 0x0000000A, record { result = refusedBlock; set = ofShort blank })
-      ∷ (replaced (ofShort blank) 31 0x00003FFE, record { result = refusedBlock; set = ofShort blank })
-      ∷ (replaced (ofShort (one 17 2)) 19 2, record { result = refusedBlocksShare; set = ofShort (one 17 2) })
-      ∷ (replaced (ofShort blank) 16 0x80000000, record { result = refusedSegment; set = ofShort blank })
-      ∷ (replaced (ofShort (one 0 5)) 0 0, record { result = done; set = ofShort blank })
-      ∷ (replaced (ofShort (one 0 5)) 1 0, record { result = refusedSdr1; set = ofShort (one 0 5) })
-      ∷ (replaced (ofLong (longTwo 0 0 0 0)) 48 0x10000002, record { result = done; set = ofLong (longTwo 48 0x10000002 0 0) })
-      ∷ (replaced (ofLong (longTwo 0 0 0 0)) 49 0, record { result = refusedArgument; set = ofLong (longTwo 0 0 0 0) })
-      ∷ (replaced (ofLong (longTwo 0 0 0 0)) 31 0x00003FFE, record { result = done; set = ofLong (longTwo 31 0x00003FFE 0 0) })
-      ∷ []
-      )
+  -- replacing a word: 0, or the refusal; a broken set is repaired by its broken word; each page has its own numbers
   pub replacing-rows : Hold (
       (replacing false blank 32 0x10000002, done)
       ∷ (replacing false blank 33 0, refusedArgument)
+      ∷ (replacing false blank 0 5, refusedSdr1)
+      ∷ (replacing false blank 31 0x0000000A, refusedBlock)
+      ∷ (replacing false (one 17 2) 19 2, refusedBlocksShare)
+      ∷ (replacing false blank 16 0x80000000, refusedSegment)
+      ∷ (replacing false (one 0 5) 0 0, done)
+      ∷ (replacing false (one 0 5) 1 0, refusedSdr1)
+      ∷ (replacing true (longTwo 0 0 0 0) 31 0x00003FFE, done)
       ∷ (replacing true (longTwo 0 0 0 0) 33 0, done)
       ∷ (replacing true (longTwo 0 0 0 0) 48 0x10000002, done)
       ∷ (replacing true (longTwo 0 0 0 0) 49 0, refusedArgument)

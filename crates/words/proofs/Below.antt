@@ -13,6 +13,10 @@ use Rattle.words.specs.Below.{everyBelow, firstBelow}
 
 module _ (test : ℕ → Bool) where
   -- what passed below n, and n itself
+  pub every-next : (n : ℕ) → everyBelow (n + 1) test ≡ (everyBelow n test && test n)
+  unfolding everyBelow
+  every-next n = rw add-one
+
   pub every-more : (n : ℕ) → everyBelow n test ≡ true → test n ≡ true → everyBelow (n + 1) test ≡ true
   unfolding everyBelow
   every-more n e p = rw (add-one, e, p)

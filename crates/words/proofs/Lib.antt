@@ -8,3 +8,4 @@ pub mod Words
 pub mod Below
 pub mod Computes
 pub mod Tables
+pub mod Zero

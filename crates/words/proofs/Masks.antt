@@ -1,7 +1,7 @@
 -- Laws of shifts and masks of words, over the width: what `|`, `&` and `!` do, as quotients and remainders by powers of two.
 use mathlib.Core.Path.{_≡_, sym, ap, ap₂, _∙_}
 use Prim.Native.Nat.{ℕ, suc, _+_, _-_, _*_, _/_, _%_, _^_, _≤_, _<_, max}
-use native.Mathlib.Nat.{add-zero, one-mul, add-mul, mul-assoc, mod-lt, pow-suc}
+use native.Mathlib.Nat.{add-zero, one-mul, add-mul, mul-assoc, mod-lt, mod-mod, pow-suc}
 use native.Mathlib.Numerals.{add-one}
 use native.Mathlib.Omega.{arith}
 use lib.Arith.{digits-mod}
@@ -86,3 +86,7 @@ pub and-complement : (n a : ℕ) → n ≤ 32 → a < 2 ^ 32 → bitAnd (2 ^ 32 
 and-complement n a h fits =
     let width : (32 - n) + n ≡ 32 = omega arith in
     and-mask (2 ^ 32 - 1 - a) n ∙ (rw width at (complement (32 - n) n a (rw width fits)))
+
+-- ones stay ones
+pub or-full : (k z : ℕ) → bitOr (z % 2 ^ k) (2 ^ k - 1) ≡ 2 ^ k - 1
+or-full k z = omega (arith, or-add-and (z % 2 ^ k) (2 ^ k - 1), and-mask (z % 2 ^ k) k, mod-mod z (2 ^ k))

@@ -5,10 +5,10 @@ use native.Mathlib.Nat.{pow-suc}
 use native.Mathlib.Omega.{arith}
 use lib.Bits.{bitAnd, bitOr, and-step, or-step, and-shr, or-shr, and-zero-l}
 
-or-odd : (a b : ℕ) → bitOr a b % 2 ≡ max (a % 2) (b % 2)
+pub or-odd : (a b : ℕ) → bitOr a b % 2 ≡ max (a % 2) (b % 2)
 or-odd a b = omega (arith, or-step a b)
 
-and-odd : (a b : ℕ) → bitAnd a b % 2 ≡ min (a % 2) (b % 2)
+pub and-odd : (a b : ℕ) → bitAnd a b % 2 ≡ min (a % 2) (b % 2)
 and-odd a b = omega (arith, and-step a b)
 
 -- the complement in one bit more
@@ -19,7 +19,7 @@ flip-odd : (k a : ℕ) → a < 2 ^ suc k → (2 ^ suc k - 1 - a) % 2 ≡ 1 - a %
 flip-odd k a h = omega (arith, pow-suc 2 k)
 
 -- what holds of 0 and 1 holds of a digit
-two : (P : ℕ → Type 0) → P 0 → P 1 → (d : ℕ) → d < 2 → P d
+pub two : (P : ℕ → Type 0) → P 0 → P 1 → (d : ℕ) → d < 2 → P d
 two P p q zero h = p
 two P p q (suc zero) h = q
 two P p q (suc (suc d)) h = absurd (omega arith)
@@ -37,7 +37,7 @@ digit-and p q a b hp hq ha hb =
     (two (λ (e : ℕ). DigitAnd p q 1 e) (λ x y z. omega arith) (λ x y z. omega arith) b hb)
     a ha
 
-digit-lt : (a : ℕ) → a % 2 < 2
+pub digit-lt : (a : ℕ) → a % 2 < 2
 digit-lt a = omega arith
 
 -- with the bits of a set, it does not matter whether they were removed before

@@ -69,13 +69,28 @@ pub fn read_word(s: &[u8], at: usize) -> u32
     swapped(raw_word(s, at))
 }
 
+// Two words as one number, the first in the high half.
+fn pair_of(first: u32, second: u32) -> u64
+    ensures { λ r. ⌜ r ≡ first * 2 ^ 32 + second ⌝ }
+{
+    ((first as u64) << 32) | (second as u64)
+}
+
+// The eight bytes from `at` on as a little-endian machine loads them.
+pub fn raw_pair(s: &[u8], at: usize) -> u64
+    requires { ⌜ at + 8 ≤ length (now s) ⌝ }
+    ensures { λ r. ⌜ r ≡ swapped (wordAt (now (s .entry)) (at + 4)) * 2 ^ 32 + swapped (wordAt (now (s .entry)) at) ⌝ }
+{
+    pair_of(raw_word(s, at + 4), raw_word(s, at))
+}
+
 // The two big-endian words of the eight bytes from `at` on, the first in the high half.
 pub fn read_pair(s: &[u8], at: usize) -> u64
     requires { ⌜ at + 8 ≤ length (now s) ⌝ }
     ensures { λ r. ⌜ (r ≡ wordAt (now (s .entry)) at * 2 ^ 32 + wordAt (now (s .entry)) (at + 4))
         × (wordAt (now (s .entry)) at < 2 ^ 32) × (wordAt (now (s .entry)) (at + 4) < 2 ^ 32) ⌝ }
 {
-    ((read_word(s, at) as u64) << 32) | (read_word(s, at + 4) as u64)
+    pair_of(read_word(s, at), read_word(s, at + 4))
 }
 
 // The word with its bytes in reverse order.

@@ -1,25 +1,35 @@
--- `edits::edit_both` meets its contract: the parts that are lent are the two groups, edited one after the other; the word is read before.
-use Prim.Native.Nat.{ℕ}
-use mathlib.Core.Path.{sym, ap, _∙_}
-use mathlib.Core.Logic.{⊎-elim}
-use mathlib.Core.Bool.{true, false}
+-- `edits::edit_both` meets its contract: the parts that are lent are the two groups, edited one after the other; the second is as it was at the start.
+use Prim.Native.Nat.{ℕ, _+_, _*_, _≤_}
+use mathlib.Core.Path.{_≡_, sym, ap, ap₂, _∙_}
+use mathlib.Core.Bool.{Bool, true, false}
 use mathlib.Core.List.{List}
-use Rattle.groups.specs.Group.{onGroup}
-use Rattle.edits.specs.Edit.{editAnswer, editMatches}
+use lib.ListN.{length}
+use Rattle.tables.specs.Matches.{Match}
+use Rattle.groups.specs.Group.{groupOf, onGroup}
+use Rattle.groups.proofs.Group.{group-other, length-group}
+use Rattle.groups.proofs.Lent.{lent-group, back-on}
+use Rattle.matches.specs.Search.{groupMatches, pairMatches, marksOf}
+use Rattle.matches.proofs.Summaries.{marks-append}
+use Rattle.edits.specs.Edit.{editMatches}
 use Rattle.edits.specs.declared.Edit.{Edit}
-use Rattle.groups.proofs.Lent.{back-on}
+use Rattle.edits.proofs.Edits.{length-edit-matches}
 use borrow.Author.Needs.{needs}
 use Rattle.edits.proofs.edit_both.Statement.{statement}
 use Rattle.edits.proofs.edit_both.Tie as tie
 
-enum-told : tie.Need-enum-told
-enum-told c = search needs
+-- the edit of the first group, and the start
+abbrev edited-first : tie.After-secondary-word → tie.After-edit-group
+edited-first c = let known = c .before .before in known .before .before
 
-enum-told-2 : tie.Need-enum-told-2
-enum-told-2 c = search needs
+abbrev begin : tie.After-edit-group → tie.Start
+begin c = let lent = c .before .before in lent .before .before
 
-merged-word-requires : tie.Need-merged-word-requires
-merged-word-requires c κs = search needs
+-- the edit of one group leaves another
+other-stays : (edit : Edit) (vsid api : ℕ) (t : List ℕ) (p s : ℕ) → 64 * p + 64 ≤ length t → (p ≡ s → ⊥)
+    → groupOf (onGroup t p (editMatches edit false vsid api)) s ≡ groupOf t s
+unfolding onGroup
+other-stays edit vsid api t p s inside apart =
+    group-other t p (editMatches edit false vsid api (groupOf t p)) inside (length-edit-matches edit false vsid api (groupOf t p) ∙ length-group t p inside) s (λ e. apart (sym e))
 
 mul-from : tie.Need-mul-from
 mul-from c = search needs
@@ -45,6 +55,9 @@ mul-next c = search needs
 add-end : tie.Need-add-end
 add-end c = search needs
 
+secondary-word-requires : tie.Need-secondary-word-requires
+secondary-word-requires c κs = search needs
+
 sub-edit-group-2 : tie.Need-sub-edit-group-2
 sub-edit-group-2 c = search needs
 
@@ -55,35 +68,38 @@ part-edit-group-end-2 : tie.Need-part-edit-group-end-2
 part-edit-group-end-2 c = search needs
 
 edit-group-requires-2 : tie.Need-edit-group-requires-2
-edit-group-requires-2 c κs =
-    let pre = c .before .before .before .before .before .before .before .pre in
-    (pre .0, search needs, pre .3, pre .4)
+edit-group-requires-2 c κs = search needs
 
 same-length : tie.Need-same-length
 same-length c = search needs
 
 returns : tie.Need-returns
-returns c =
-    let first = c .before .before .before .before .before .before in
-    let word = first .before .before in
-    let a = word .before .before .args in (
-      back-on _ (a .secondary) (editMatches (a .edit) true (a .vsid) (a .api)) _ (c .before .before .edit-group2 .ensures)
-          ∙ ap (λ (t : List ℕ). onGroup t (a .secondary) (editMatches (a .edit) true (a .vsid) (a .api)))
-          (back-on _ (a .primary) (editMatches (a .edit) false (a .vsid) (a .api)) _ (first .edit-group .ensures)),
-      λ m ms e.
-          ⊎-elim
-          (λ w. w .4 ∙ w .3 .ensures m ms e ∙ sym (ap (λ (x : Edit). editAnswer x m ms) (w .1 .given .1)))
-          (λ w. w .2 ∙ sym (ap (λ (x : Edit). editAnswer x m ms) (w .1 .given .1)))
-          (word .match .came),
+unfolding pairMatches
+returns c vsid api wants =
+    let two = c .before .before in
+    let word = two .before .before in
+    let one = edited-first word in
+    let start = begin one in
+    let a = start .args in
+    let t = a .table .now in
+    let p = a .page .primary in
+    let s = a .page .secondary in
+    let own = one .edit-group .ensures false vsid api wants in
+    let further = two .edit-group2 .ensures true vsid api (wants .0, wants .1, word .secondary-word .ensures vsid api (wants .0) (wants .1) (wants .2)) in
+    let first = back-on t p (editMatches (a .edit) false vsid api) _ (own .0) in
+    let matching : Bool → List ℕ → List Match = λ b group. groupMatches b vsid api group in (
+      back-on _ s (editMatches (a .edit) true vsid api) _ (further .0) ∙ ap (λ (u : List ℕ). onGroup u s (editMatches (a .edit) true vsid api)) first,
+      further .1
+          ∙ ap₂ marksOf
+          (ap (matching true) (lent-group _ s ∙ ap (λ (u : List ℕ). groupOf u s) first ∙ other-stays (a .edit) vsid api t p s (start .pre .1) (start .pre .3)))
+          (own .1 ∙ ap (λ (group : List ℕ). marksOf (matching false group) (a .second)) (lent-group t p))
+          ∙ sym (marks-append (matching false (groupOf t p)) (matching true (groupOf t s)) (a .second)),
     )
 
 pub edit-both-spec : {M : Type 1} → statement M
 edit-both-spec =
     tie.close
     (tie.spec
-    enum-told
-    merged-word-requires
-    enum-told-2
     mul-from
     add-to
     sub-edit-group
@@ -92,6 +108,7 @@ edit-both-spec =
     edit-group-requires
     mul-next
     add-end
+    secondary-word-requires
     sub-edit-group-2
     part-edit-group-start-2
     part-edit-group-end-2

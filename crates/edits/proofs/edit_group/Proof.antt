@@ -1,39 +1,35 @@
--- `edits::edit_group` meets its contract. The loop's invariant: the matches among the first i entries, as the group was at the start, are edited.
+-- `edits::edit_group` meets its contract. The loop's invariant: the matches among the first i entries, as the group was at the start, are edited, and the
+-- word has their marks.
 use Prim.Native.Nat.{ℕ, _-_, _≤_}
 use mathlib.Core.Path.{_≡_, refl, sym, ap, ap₂, _∙_}
+use mathlib.Core.Bool.{Bool}
 use mathlib.Core.Logic.{⊎-elim}
 use mathlib.Core.List.{List}
 use native.Mathlib.Omega.{arith}
-use borrow.Author.Needs.{needs}
 use lib.ListN.{length}
 use Rattle.entry.specs.Entry.{matches}
-use Rattle.tables.specs.Matches.{matchesBelow}
+use Rattle.tables.specs.Matches.{Match, matchesBelow}
 use Rattle.groups.specs.Group.{firstAt, secondAt, putEntry}
-use Rattle.matches.specs.Search.{hOf, groupMatches}
+use Rattle.groups.proofs.Entries.{length-entry}
+use Rattle.matches.specs.Search.{hOf, WantedWord, matchesTo, groupMatches, marksOf}
+use Rattle.matches.proofs.Matches.{wanted-matches, entryAt, matches-more, matches-same}
+use Rattle.matches.proofs.Summaries.{marks-none, marks-more}
 use Rattle.edits.specs.Edit.{editedWords, edited, editEach, editMatches}
-use Rattle.matches.proofs.Matches.{h-lt, word-matches, entryAt, matchesTo, matches-more, matches-same}
-use Rattle.edits.proofs.Edits.{edit-more, edit-later, length-edit}
+use Rattle.edits.proofs.Edits.{edit-more, edit-later}
 use Rattle.edits.proofs.edit_group.Statement.{statement}
 use Rattle.edits.proofs.edit_group.Tie as tie
 
 abbrev Inv-loop : tie.InvT-loop
-Inv-loop group₀ secondary vsid api edit wanted i₀ group i = (i ≤ 8) × (group ≡ editEach edit (matchesTo secondary vsid api group₀ i) group₀)
+Inv-loop group₀ wanted edit word merged₀ i₀ group merged i =
+    (i ≤ 8) × (length group ≡ 64) × ((secondary : Bool) (vsid api : ℕ) → WantedWord secondary vsid api wanted
+    → (group ≡ editEach edit (matchesTo secondary vsid api group₀ i) group₀) × (merged ≡ marksOf (matchesTo secondary vsid api group₀ i) word))
 
 abbrev μ-loop : tie.MeasureT-loop
-μ-loop group₀ secondary vsid api edit wanted i₀ group i = 8 - i
-
-len : (c : tie.At-loop Inv-loop μ-loop) → length (c .loop .group) ≡ 64
-len c = ap length (c .loop .inv .1) ∙ length-edit _ _ _ ∙ c .before .before .before .pre .1
-
-cast-match-word : tie.Need-cast-match-word Inv-loop μ-loop
-cast-match-word c = search needs
-
-match-word-requires : tie.Need-match-word-requires Inv-loop μ-loop
-match-word-requires c κs = let start = c .before in (start .pre .2, h-lt (start .args .secondary), start .pre .3)
+μ-loop group₀ wanted edit word merged₀ i₀ group merged i = 8 - i
 
 loop-holds : tie.Need-loop-holds Inv-loop μ-loop
 unfolding editEach matchesBelow
-loop-holds c = (omega arith, refl)
+loop-holds c = (omega arith, c .before .pre .1, λ secondary vsid api wants. (refl, sym (marks-none _)))
 
 mul-loop : tie.Need-mul-loop Inv-loop μ-loop
 mul-loop c = omega arith
@@ -42,13 +38,13 @@ mul-is-word : tie.Need-mul-is-word Inv-loop μ-loop
 mul-is-word c = omega arith
 
 is-word-requires : tie.Need-is-word-requires Inv-loop μ-loop
-is-word-requires c κs = omega (arith, len (c .before .before))
+is-word-requires c κs = omega arith
 
 mul-read-word : tie.Need-mul-read-word Inv-loop μ-loop
 mul-read-word c = omega arith
 
 read-word-requires : tie.Need-read-word-requires Inv-loop μ-loop
-read-word-requires c κs = omega (arith, len (c .before .before .before .before .before))
+read-word-requires c κs = omega arith
 
 mul-read-word-2 : tie.Need-mul-read-word-2 Inv-loop μ-loop
 mul-read-word-2 c = omega arith
@@ -57,73 +53,99 @@ add-read-word : tie.Need-add-read-word Inv-loop μ-loop
 add-read-word c = omega arith
 
 read-word-requires-2 : tie.Need-read-word-requires-2 Inv-loop μ-loop
-read-word-requires-2 c κs = omega (arith, len (c .before .before .before .before .before .before .before))
+read-word-requires-2 c κs = omega arith
+
+-- the loop and the start, of a turn whose entry was tested
+abbrev at-loop : tie.After-is-word Inv-loop μ-loop → tie.At-loop Inv-loop μ-loop
+at-loop c = c .before .before .before
+
+abbrev begin : tie.After-is-word Inv-loop μ-loop → tie.Start Inv-loop μ-loop
+begin c = at-loop c .before .before
+
+abbrev tested-at : tie.After-read-word2 Inv-loop μ-loop → tie.After-is-word Inv-loop μ-loop
+tested-at c = let one = c .before .before in one .before .before .before
 
 edited-words-requires : tie.Need-edited-words-requires Inv-loop μ-loop
-edited-words-requires c κs = c .before .before .before .before .before .before .before .before .before .before .before .pre .0
+edited-words-requires c κs = begin (tested-at c) .pre .0
 
 write-entry-requires : tie.Need-write-entry-requires Inv-loop μ-loop
-write-entry-requires c κs = let whole = len (c .before .before .before .before .before .before .before .before .before .before) in (omega (arith, whole), whole)
+write-entry-requires c κs = (omega arith, at-loop (tested-at (c .before .before)) .loop .inv .1)
+
+is-referenced-requires : tie.Need-is-referenced-requires Inv-loop μ-loop
+is-referenced-requires c κs = tt
+
+is-changed-requires : tie.Need-is-changed-requires Inv-loop μ-loop
+is-changed-requires c κs = tt
+
+with-marks-requires : tie.Need-with-marks-requires Inv-loop μ-loop
+with-marks-requires c κs = tt
 
 add-i : tie.Need-add-i Inv-loop μ-loop
 add-i c = omega arith
 
 loop-less : tie.Need-loop-less Inv-loop μ-loop
-loop-less c = omega (arith, len (c .before .before .before .before))
+loop-less c = omega arith
 
--- the words that are read are the entry's at the start: no edit has reached it
-module _ (c : tie.Joined1 Inv-loop μ-loop) where
-  abbrev at-loop : tie.At-loop Inv-loop μ-loop
-  at-loop = c .before .before .before .before
-
-  abbrev begin : tie.Start Inv-loop μ-loop
-  begin = at-loop .before .before .before
+module _ (c : tie.Joined1 Inv-loop μ-loop) (secondary : Bool) (vsid api : ℕ) (wants : WantedWord secondary vsid api (begin (c .before) .args .wanted)) where
+  abbrev loop : tie.At-loop Inv-loop μ-loop
+  loop = at-loop (c .before)
 
   abbrev start : List ℕ
-  start = begin .args .group .now
+  start = begin (c .before) .args .group .now
 
-  kept : (firstAt (at-loop .loop .group) (at-loop .loop .i) ≡ firstAt start (at-loop .loop .i))
-      × (secondAt (at-loop .loop .group) (at-loop .loop .i) ≡ secondAt start (at-loop .loop .i))
-  kept =
-      let a = begin .args in
-      edit-later (a .edit) (a .secondary) (a .vsid) (a .api) start (at-loop .loop .i) (at-loop .loop .group) (at-loop .loop .inv .1)
+  -- the words that are read are the entry's at the start: no edit has reached it
+  kept : (firstAt (loop .loop .group) (loop .loop .i) ≡ firstAt start (loop .loop .i)) × (secondAt (loop .loop .group) (loop .loop .i) ≡ secondAt start (loop .loop .i))
+  kept = edit-later (begin (c .before) .args .edit) secondary vsid api start (loop .loop .i) (loop .loop .group) (loop .loop .inv .2 secondary vsid api wants .0)
 
-  tested : c .before .is-word .result ≡ matches (begin .args .vsid) (hOf (begin .args .secondary)) (begin .args .api) (firstAt start (at-loop .loop .i))
+  -- the test is whether entry i matches
+  tested : c .before .is-word .result ≡ matches vsid (hOf secondary) api (firstAt start (loop .loop .i))
   unfolding firstAt
-  tested =
-      let a = begin .args in
-      word-matches (a .secondary) (a .vsid) (a .api) _ _ _ (begin .pre .2) (begin .pre .3) (at-loop .before .match-word .ensures) (c .before .is-word .ensures)
-      ∙ ap (matches (a .vsid) (hOf (a .secondary)) (a .api)) (kept .0)
+  tested = wanted-matches secondary vsid api _ _ _ wants (c .before .is-word .ensures) ∙ ap (matches vsid (hOf secondary) api) (kept .0)
 
 loop-again : tie.Need-loop-again Inv-loop μ-loop
 unfolding firstAt secondAt edited
 loop-again c =
-    let l = at-loop c in
-    let a = begin c .args in
+    let l = at-loop (c .before) in
+    let a = begin (c .before) .args in
     let g = a .group .now in
     let i = l .loop .i in
-    let b = a .secondary in
     ⊎-elim
-    (λ w.
-    let first : w .2 .result ≡ firstAt g i = w .2 .ensures ∙ kept c .0 in
-    let second : w .4 .result ≡ secondAt g i = w .4 .ensures ∙ kept c .1 in
-    let words : (w .5 .result .first, w .5 .result .second) ≡ edited (a .edit) (entryAt b g i) = w .5 .ensures ∙ ap₂ (editedWords (a .edit)) first second in (
-      omega (arith, len l),
-      w .10 ∙ w .7 .ensures ∙ ap₂ (λ (x : List ℕ) (uv : ℕ × ℕ). putEntry x i (uv .0) (uv .1)) (l .loop .inv .1) words
-          ∙ sym (ap (λ ms. editEach (a .edit) ms g) (matches-more b (a .vsid) (a .api) g i (sym (tested c) ∙ w .0 .taken)) ∙ edit-more _ _ _ _),
+    (λ w. (
+      omega arith,
+      ap length (w .13 ∙ w .7 .ensures) ∙ length-entry _ _ _ _ ∙ l .loop .inv .1,
+      λ secondary vsid api wants.
+          let so-far = l .loop .inv .2 secondary vsid api wants in
+          let x = entryAt secondary g i in
+          let own = kept c secondary vsid api wants in
+          let first : w .2 .result ≡ firstAt g i = w .2 .ensures ∙ own .0 in
+          let second : w .4 .result ≡ secondAt g i = w .4 .ensures ∙ own .1 in
+          let words : (w .5 .result .first, w .5 .result .second) ≡ edited (a .edit) x = w .5 .ensures ∙ ap₂ (editedWords (a .edit)) first second in
+          let more = matches-more secondary vsid api g i (sym (tested c secondary vsid api wants) ∙ w .0 .taken) in (
+            w .13 ∙ w .7 .ensures ∙ ap₂ (λ (b : List ℕ) (uv : ℕ × ℕ). putEntry b i (uv .0) (uv .1)) (so-far .0) words
+                ∙ sym (ap (λ (ms : List Match). editEach (a .edit) ms g) more ∙ edit-more _ _ _ _),
+            w .14 ∙ w .12 .ensures
+                ∙ marks-more (matchesTo secondary vsid api g i) x (a .word) _ _ _ _ (so-far .1) second (w .10 .ensures) (w .11 .ensures)
+                ∙ sym (ap (λ (ms : List Match). marksOf ms (a .word)) more),
+          ),
     ))
     (λ w. (
-      omega (arith, len l),
-      w .1 ∙ l .loop .inv .1 ∙ sym (ap (λ ms. editEach (a .edit) ms g) (matches-same b (a .vsid) (a .api) g i (sym (tested c) ∙ w .0 .left))),
+      omega arith,
+      ap length (w .1) ∙ l .loop .inv .1,
+      λ secondary vsid api wants.
+          let so-far = l .loop .inv .2 secondary vsid api wants in
+          let same = matches-same secondary vsid api g i (sym (tested c secondary vsid api wants) ∙ w .0 .left) in (
+            w .1 ∙ so-far .0 ∙ sym (ap (λ (ms : List Match). editEach (a .edit) ms g) same),
+            w .2 ∙ so-far .1 ∙ sym (ap (λ (ms : List Match). marksOf ms (a .word)) same),
+          ),
     ))
     (c .if1 .came)
 
 same-length : tie.Need-same-length Inv-loop μ-loop
-same-length c = omega (arith, len (c .before))
+same-length c = omega arith
 
 returns : tie.Need-returns Inv-loop μ-loop
 unfolding editMatches groupMatches
-returns c = let e : c .before .loop .i ≡ 8 = omega (arith, len (c .before)) in rw e at (c .before .loop .inv .1)
+returns c secondary vsid api wants = let e : c .before .loop .i ≡ 8 = omega arith in rw e at (c .before .loop .inv .2 secondary vsid api wants)
 
 pub edit-group-spec : {M : Type 1} → statement M
 edit-group-spec =
@@ -131,8 +153,6 @@ edit-group-spec =
     (tie.spec
     Inv-loop
     μ-loop
-    cast-match-word
-    match-word-requires
     loop-holds
     mul-loop
     mul-is-word
@@ -144,6 +164,9 @@ edit-group-spec =
     read-word-requires-2
     edited-words-requires
     write-entry-requires
+    is-referenced-requires
+    is-changed-requires
+    with-marks-requires
     add-i
     loop-less
     loop-again

@@ -9,8 +9,8 @@ use borrow.Author.Needs.{needs}
 use Rattle.entry.specs.Entry.{matches}
 use Rattle.tables.specs.Matches.{Match, matchesBelow}
 use Rattle.groups.specs.Group.{firstAt, secondAt}
-use Rattle.matches.specs.Search.{hOf, WantedWord, groupMatches, marksOf, summary}
-use Rattle.matches.proofs.Matches.{wanted-matches, entryAt, matchesTo, matches-more, matches-same}
+use Rattle.matches.specs.Search.{hOf, WantedWord, matchesTo, groupMatches, marksOf, summary}
+use Rattle.matches.proofs.Matches.{wanted-matches, entryAt, matches-more, matches-same}
 use Rattle.matches.proofs.Summaries.{first-place-le, marks-none, marks-more}
 use Rattle.matches.proofs.every_match.Statement.{statement}
 use Rattle.matches.proofs.every_match.Tie as tie

@@ -8,8 +8,8 @@ use native.Mathlib.Omega.{arith}
 use Rattle.entry.specs.Entry.{matches}
 use Rattle.tables.specs.Matches.{Match, matchesBelow}
 use Rattle.groups.specs.Group.{firstAt}
-use Rattle.matches.specs.Search.{hOf, WantedWord, groupMatches, onlyPlace}
-use Rattle.matches.proofs.Matches.{wanted-matches, entryAt, matchesTo, matches-more, matches-same, matches-extend}
+use Rattle.matches.specs.Search.{hOf, WantedWord, matchesTo, groupMatches, onlyPlace}
+use Rattle.matches.proofs.Matches.{wanted-matches, entryAt, matches-more, matches-same, matches-extend}
 use Rattle.matches.proofs.Summaries.{first-place-le, only-none, only-several}
 use Rattle.matches.proofs.only_place.Statement.{statement}
 use Rattle.matches.proofs.only_place.Tie as tie

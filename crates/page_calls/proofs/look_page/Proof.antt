@@ -1,98 +1,70 @@
--- `page_calls::look_page` meets its contract: the place of an only match tells its word; of several the search of both groups tells whether they agree.
+-- `page_calls::look_page` meets its contract: by what the search of the page's groups told: none, matches that contradict, or the first one's second word.
 use mathlib.Core.Path.{_≡_, refl, sym, ap, _∙_}
 use mathlib.Core.Bool.{true}
-use native.Mathlib.Omega.{arith}
-use lib.Dec.{leb}
+use Prim.Native.Nat.{ℕ}
+use lib.ListN.{length}
+use borrow.Author.Tests.{not-true, not-false}
 use Rattle.register_words.specs.Sdr1.{maskOnes}
+use Rattle.groups.specs.Page.{Page}
+use Rattle.groups.specs.Hash.{TableOf}
 use Rattle.matches.specs.Search.{found}
-use Rattle.matches.proofs.Only.{either-inside, only-match, only-second, only-searched}
+use Rattle.calls.specs.Answers.{wordAnswer}
+use Rattle.calls.specs.OnBytes.{ended}
 use Rattle.calls.proofs.PageCalls.{pageSearch, look-missing, look-contradicted, look-done}
-use Rattle.page_calls.proofs.located.AtPage.{locatable, search-is, AtGroups, at-groups, Told, told}
+use Rattle.page_calls.proofs.Searched.{locatable, primary-asked, secondary-asked, Known, known, First, first, differs-is, second-is}
 use borrow.Author.Needs.{needs}
 use Rattle.page_calls.proofs.look_page.Statement.{statement}
 use Rattle.page_calls.proofs.look_page.Tie as tie
 
-locate-requires : tie.Need-locate-requires
-locate-requires c κs = locatable _ _ (c .before .pre .1)
+-- what was told is of the page's matches and free entries
+module _ (c : tie.After-any) where
+  abbrev searched : tie.After-in-primary
+  searched = c .before .before
 
--- the groups are the page's
-ready : (c : tie.After-locate) →
-    let a = c .before .before .args in
-    AtGroups (a .sdr1) (record { vsid = a .vsid; index = a .index }) (a .table .now) (c .locate .result)
-ready c = let pre = c .before .before .pre in at-groups _ _ _ _ (pre .0) (pre .1) (pre .2) (pre .3) (c .locate .ensures)
+  abbrev at : tie.After-locate
+  at = searched .before
 
--- and the place is that of the page's only match
-module _ (c : tie.After-find) where
-  abbrev located-by : tie.After-locate
-  located-by = c .before .before .before .before .before
+  abbrev begin : tie.Start
+  begin = at .before .before
 
-  quick :
-      let a = located-by .before .before .args in
-      Told (a .sdr1) (record { vsid = a .vsid; index = a .index }) (a .table .now) (located-by .locate .result) (c .find .result)
-  quick = told _ _ _ _ (ready located-by) _ (c .find .ensures)
+  abbrev page : Page
+  page = record { vsid = begin .args .vsid; index = begin .args .index }
 
--- the search of both groups, of a page with several matches
-module _ (c : tie.After-search-both) where
-  abbrev found-by : tie.After-find
-  found-by = c .before .before .before
+  told-of : (sdr1 : ℕ) → TableOf sdr1 (length (begin .args .table .now))
+      → Known sdr1 page (begin .args .table .now) (at .locate .result) (c .before .in-secondary .result) (c .any .result)
+  told-of sdr1 right = known sdr1 page _ _ _ _ _ right (begin .pre .1) (at .locate .ensures) (searched .in-primary .ensures) (c .before .in-secondary .ensures) (c .any .ensures)
 
-  searched :
-      let a = located-by found-by .before .before .args in
-      c .search-both .result ≡ pageSearch (maskOnes (a .sdr1)) (a .table .now) (record { vsid = a .vsid; index = a .index })
-  searched = search-is _ _ _ (ready (located-by found-by) .own) _ _ (c .search-both .ensures)
-
-  some : found (c .search-both .result) ≡ true
-  some = ap found searched ∙ quick found-by .some (c .before .before .if1 .left)
-
-second-of-requires : tie.Need-second-of-requires
-second-of-requires c κs =
-    let f = c .before .before .before in
-    let g = ready (located-by f) in
-    (omega arith, rw (c .group-at .ensures) (either-inside _ _ _ (g .primary-in) (g .secondary-in) (leb 24 (f .find .result))))
-
-search-both-requires : tie.Need-search-both-requires
-search-both-requires c κs =
-    let g = ready (located-by (c .before .before)) in
-    (g .primary-in, g .secondary-in, g .vsid-fits, g .api-fits)
+-- there is a match
+found-first : (c : tie.After-differs) (sdr1 : ℕ) (right : TableOf sdr1 (length (begin (c .before .before) .args .table .now)))
+    → (found (pageSearch (maskOnes sdr1) (begin (c .before .before) .args .table .now) (page (c .before .before))) ≡ true)
+    × First _ _ _ _ (told-of (c .before .before) sdr1 right .at) _ (told-of (c .before .before) sdr1 right .is)
+found-first c sdr1 right =
+    let some = told-of (c .before .before) sdr1 right .some-is ∙ not-false _ (c .before .if1 .left) in
+    (some, first _ _ _ _ (told-of (c .before .before) sdr1 right .at) _ (told-of (c .before .before) sdr1 right .is) some)
 
 returns : tie.Need-returns
-returns c = sym (look-missing _ _ _ _ refl _ _ (quick (c .before) .missing (c .if1 .taken)))
+returns c sdr1 right = sym (look-missing _ _ _ _ refl _ _ (told-of (c .before) sdr1 right .some-is ∙ not-true _ (c .if1 .taken)))
 
 returns-2 : tie.Need-returns-2
-returns-2 c =
-    let g = c .before in
-    let more = g .before .before in
-    let f = more .before in
-    let one = only-match _ _ _ _ _ _ (quick f .in-groups) (more .if1 .left) (g .before .if2 .taken) in
-    let searched = search-is _ _ _ (ready (located-by f) .own) _ _ (only-searched _ _ _ _ _ _ one _ (only-second _ _ _ _ _ _ one _ _ (g .group-at .ensures) (c .second-of .ensures))) in
-    sym (look-done _ _ _ _ searched _ _ (ap found searched ∙ quick f .some (more .if1 .left)) refl)
+returns-2 c sdr1 right =
+    let (some, f) = found-first (c .before) sdr1 right in
+    sym (look-contradicted _ _ _ _ refl _ _ some (differs-is _ _ _ _ _ _ _ f _ (c .before .differs .ensures) ∙ c .if2 .taken))
 
 returns-3 : tie.Need-returns-3
-returns-3 c = sym (look-contradicted _ _ _ _ (searched (c .before)) _ _ (some (c .before)) (c .if3 .taken))
-
-returns-4 : tie.Need-returns-4
-returns-4 c = sym (look-done _ _ _ _ (searched (c .before)) _ _ (some (c .before)) (c .if3 .left))
+returns-3 c sdr1 right =
+    let (some, f) = found-first (c .before) sdr1 right in
+    sym (look-done _ _ _ _ refl _ _ some (differs-is _ _ _ _ _ _ _ f _ (c .before .differs .ensures) ∙ c .if2 .left)
+    ∙ ap (λ (word : ℕ). ended 0 (begin (c .before .before .before) .args .table .now) (wordAnswer 0 word)) (second-is _ _ _ _ _ _ _ f))
 
 pub look-page-spec : {M : Type 1} → statement M
 look-page-spec =
     tie.close
     (tie.spec
-    locate-requires
-    (λ c. let g = ready (c .before) in search needs)
-    (λ c. let g = ready (c .before) in search needs)
-    (λ c. let g = ready (c .before .before) in search needs)
-    (λ c. let g = ready (c .before .before) in search needs)
-    (λ c. search needs)
-    (λ c. search needs)
-    (λ c. let g = ready (c .before .before) in search needs)
-    (λ c. search needs)
-    (λ c. search needs)
-    (λ c. let g = ready (c .before .before .before) in search needs)
-    (λ c κs. let g = ready (c .before .before .before .before) in search needs)
+    (λ c κs. locatable _ _ (c .before .pre .0) (c .before .pre .1))
+    (λ c κs. let start = c .before .before in primary-asked _ (start .args .table .now) _ (start .pre .0) (start .pre .1) (c .locate .ensures))
+    (λ c κs. let located = c .before in let start = located .before .before in secondary-asked _ (start .args .table .now) _ (start .pre .0) (start .pre .1) (located .locate .ensures))
+    (λ c κs. search needs)
     returns
     (λ c κs. search needs)
-    second-of-requires
     returns-2
-    search-both-requires
-    returns-3
-    returns-4)
+    returns-3)

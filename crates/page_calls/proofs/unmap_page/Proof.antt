@@ -1,105 +1,116 @@
--- `page_calls::unmap_page` meets its contract: where the quick search found a match, each match becomes zero and their marks are merged.
+-- `page_calls::unmap_page` meets its contract: where the search told of a match, each match becomes zero and their marks are merged.
 use mathlib.Core.Path.{_≡_, refl, sym, ap, _∙_}
-use mathlib.Core.Bool.{true, false}
-use mathlib.Core.List.{List, [], _∷_}
+use mathlib.Core.Bool.{true}
+use mathlib.Core.List.{List, []}
 use Prim.Native.Nat.{ℕ}
+use lib.ListN.{length}
+use borrow.Author.Tests.{not-true, not-false}
 use Rattle.register_words.specs.Sdr1.{maskOnes}
-use Rattle.tables.specs.Matches.{Match}
-use Rattle.groups.specs.Group.{groupOf, onGroup}
-use Rattle.matches.specs.Search.{pairMatches, merged}
-use Rattle.edits.specs.Edit.{editMatches}
+use Rattle.groups.specs.Page.{Page}
+use Rattle.groups.specs.Hash.{TableOf}
+use Rattle.matches.specs.Search.{found, merged}
 use Rattle.edits.specs.declared.Edit.the-variants.{Clear}
 use Rattle.calls.specs.Request.{unmap}
 use Rattle.calls.specs.Answers.{wordAnswer}
 use Rattle.calls.specs.OnBytes.{ended, bytesDo}
-use Rattle.calls.proofs.PageCalls.{unmap-missing, unmap-done}
-use Rattle.page_calls.proofs.located.AtPage.{locatable, pair-is, edited-is, AtGroups, at-groups, Told, told}
+use Rattle.calls.proofs.PageCalls.{pageSearch, editedBoth, unmap-missing, unmap-done}
+use Rattle.page_calls.proofs.Searched.{locatable, primary-asked, secondary-asked, Known, known, First, first, word-is, entry-asked, all-edited, alone-edited}
 use borrow.Author.Needs.{needs}
 use Rattle.page_calls.proofs.unmap_page.Statement.{statement}
 use Rattle.page_calls.proofs.unmap_page.Tie as tie
 
-locate-requires : tie.Need-locate-requires
-locate-requires c κs = locatable _ _ (c .before .pre .1)
+-- what was told is of the page's matches and free entries
+module _ (c : tie.After-any) where
+  abbrev searched : tie.After-in-primary
+  searched = c .before .before .before
 
--- the groups are the page's
-ready : (c : tie.After-locate) →
-    let a = c .before .before .args in
-    AtGroups (a .sdr1) (record { vsid = a .vsid; index = a .index }) (a .table .now) (c .locate .result)
-ready c = let pre = c .before .before .pre in at-groups _ _ _ _ (pre .0) (pre .1) (pre .2) (pre .3) (c .locate .ensures)
-
--- and the place is that of the page's only match
-module _ (c : tie.After-find) where
-  abbrev located-by : tie.After-locate
-  located-by = c .before .before .before .before .before .before
+  abbrev at : tie.After-locate
+  at = searched .before .before
 
   abbrev begin : tie.Start
-  begin = located-by .before .before
+  begin = at .before .before
 
-  quick :
-      let a = begin .args in
-      Told (a .sdr1) (record { vsid = a .vsid; index = a .index }) (a .table .now) (located-by .locate .result) (c .find .result)
-  quick = told _ _ _ _ (ready located-by) _ (c .find .ensures)
+  abbrev page : Page
+  page = record { vsid = begin .args .vsid; index = begin .args .index }
 
--- each match edited, and their marks merged, is what the call does to the table and answers
-edited : (c : tie.After-find) → (c .find .result ≡ 0 → ⊥) → (u : List ℕ) (word : ℕ) →
-    let a = begin c .args in
-    let l = located-by c .locate .result in
-    (u ≡ onGroup (onGroup (a .table .now) (l .primary) (editMatches Clear false (a .vsid) (l .api))) (l .secondary) (editMatches Clear true (a .vsid) (l .api)))
-    × ((m : Match) (ms : List Match) → pairMatches (a .vsid) (l .api) (groupOf (a .table .now) (l .primary)) (groupOf (a .table .now) (l .secondary)) ≡ m ∷ ms → word ≡ merged m ms)
-    → ended 0 u (wordAnswer 0 word) ≡ bytesDo (maskOnes (a .sdr1)) (unmap (record { sdr1 = a .sdr1; page = record { vsid = a .vsid; index = a .index }; answer = [] })) (a .table .now)
-edited c some u word e =
-    let g = ready (located-by c) in
-    ap (λ (t : List ℕ). ended 0 t (wordAnswer 0 word)) (edited-is _ _ _ (g .own) _ Clear _ (e .0))
-    ∙ sym (unmap-done _ _ _ _ refl (g .both-in) (quick c .some some) _ _ word (λ x xs are is. e .1 x xs (pair-is _ _ _ (g .own) _ ∙ are)))
+  told-of : (sdr1 : ℕ) → TableOf sdr1 (length (begin .args .table .now))
+      → Known sdr1 page (begin .args .table .now) (at .locate .result) (c .before .in-secondary .result) (c .any .result)
+  told-of sdr1 right = known sdr1 page _ _ _ _ _ right (begin .pre .1) (at .locate .ensures) (searched .in-primary .ensures) (c .before .in-secondary .ensures) (c .any .ensures)
+
+-- there is a match
+module _ (c : tie.After-several) where
+  abbrev asked : tie.After-any
+  asked = c .before .before
+
+  module _ (sdr1 : ℕ) (right : TableOf sdr1 (length (begin asked .args .table .now))) where
+    some : found (pageSearch (maskOnes sdr1) (begin asked .args .table .now) (page asked)) ≡ true
+    some = told-of asked sdr1 right .some-is ∙ not-false _ (c .before .if1 .left)
+
+    leader : First _ _ _ _ (told-of asked sdr1 right .at) _ (told-of asked sdr1 right .is)
+    leader = first _ _ _ _ (told-of asked sdr1 right .at) _ (told-of asked sdr1 right .is) some
+
+    -- each match edited, and their marks merged, is what the call does to the table and answers
+    finish : (u : List ℕ) (word : ℕ)
+        → (u ≡ editedBoth (maskOnes sdr1) (begin asked .args .table .now) (page asked) Clear) × (word ≡ merged (leader .x) (leader .xs))
+        → ended 0 u (wordAnswer 0 word) ≡ bytesDo (maskOnes sdr1) (unmap (record { sdr1 = sdr1; page = page asked; answer = [] })) (begin asked .args .table .now)
+    finish u word e =
+        ap (λ (t : List ℕ). ended 0 t (wordAnswer 0 word)) (e .0)
+        ∙ sym (unmap-done _ _ _ _ refl (told-of asked sdr1 right .at .both-in) some _ _ word (λ x xs are is. word-is _ _ _ _ _ _ _ leader word (e .1) x xs are))
 
 edit-both-requires : tie.Need-edit-both-requires
 edit-both-requires c κs =
-    let f = c .before .before .before in
-    let g = ready (located-by f) in
-    (tt, g .primary-in, g .secondary-in, g .vsid-fits, g .api-fits)
+    let several = c .before .before in
+    let pre = begin (asked several) .pre in
+    let g = told-of (asked several) (pre .0 .0) (pre .0 .1) .at in
+    (tt, g .primary-in, g .secondary-in, g .apart)
 
-edit-place-requires : tie.Need-edit-place-requires
-edit-place-requires c κs =
-    let more = c .before .before in
-    let f = more .before in
-    let g = ready (located-by f) in
-    (tt, g .primary-in, g .secondary-in, g .vsid-fits, g .api-fits, g .apart, more .if1 .left, c .before .if2 .left, quick f .in-groups)
+-- the one match, by its group and number
+abbrev alone-at : tie.After-entry → tie.After-several
+alone-at c = let arg = c .before .before .before in arg .before .before
+
+edit-entry-requires : tie.Need-edit-entry-requires
+edit-entry-requires c κs =
+    let several = alone-at c in
+    let pre = begin (asked several) .pre .0 in
+    let f = leader several (pre .0) (pre .1) in
+    let (small, inside) = entry-asked _ _ _ _ _ _ _ f _ _ _ (c .before .before .in-secondary2 .ensures) (c .entry .ensures) (c .before .group .ensures) in
+    (tt, small, inside)
 
 returns : tie.Need-returns
-returns c = sym (unmap-missing _ _ _ _ refl _ _ (quick (c .before) .missing (c .if1 .taken)))
+returns c sdr1 right = sym (unmap-missing _ _ _ _ refl _ _ (told-of (c .before) sdr1 right .some-is ∙ not-true _ (c .if1 .taken)))
 
 returns-2 : tie.Need-returns-2
-returns-2 c =
+returns-2 c sdr1 right =
     let e = c .before .before in
-    let more = e .before .before .before in
-    edited (more .before) (more .if1 .left) _ _ (e .edit-both .ensures)
+    let several = e .before .before .before in
+    finish several sdr1 right _ _ (all-edited _ _ _ _ _ _ _ (leader several sdr1 right) _ _ _ (e .edit-both .ensures))
 
 returns-3 : tie.Need-returns-3
-returns-3 c =
+returns-3 c sdr1 right =
     let e = c .before .before in
-    let more = e .before .before .before in
-    edited (more .before) (more .if1 .left) _ _ (e .edit-place .ensures)
+    let entry = e .before in
+    let several = alone-at entry in
+    let alone = entry .before .before .before in
+    finish several sdr1 right _ _
+    (alone-edited _ _ _ _ _ _ _ (leader several sdr1 right) _ _ _ (entry .before .before .in-secondary2 .ensures) (entry .entry .ensures) (entry .before .group .ensures)
+    _ (several .several .ensures) (alone .before .if2 .left) _ _ _ (e .edit-entry .ensures))
 
 pub unmap-page-spec : {M : Type 1} → statement M
 unmap-page-spec =
     tie.close
     (tie.spec
-    locate-requires
-    (λ c. let g = ready (c .before) in search needs)
-    (λ c. let g = ready (c .before) in search needs)
-    (λ c. let g = ready (c .before .before) in search needs)
-    (λ c. let g = ready (c .before .before) in search needs)
-    (λ c. search needs)
-    (λ c. search needs)
-    (λ c. let g = ready (c .before .before .before) in search needs)
-    (λ c. search needs)
-    (λ c. search needs)
-    (λ c. let g = ready (c .before .before .before .before) in search needs)
-    (λ c κs. let g = ready (c .before .before .before .before .before) in search needs)
+    (λ c κs. locatable _ _ (c .before .pre .0) (c .before .pre .1))
+    (λ c κs. let start = c .before .before .before in primary-asked _ (start .args .table .now) _ (start .pre .0) (start .pre .1) (c .before .locate .ensures))
+    (λ c κs. let located = c .before .before .before in let start = located .before .before in secondary-asked _ (start .args .table .now) _ (start .pre .0) (start .pre .1) (located .locate .ensures))
+    (λ c κs. search needs)
     (λ c. search needs)
     returns
+    (λ c κs. search needs)
     edit-both-requires
-    edit-place-requires
+    (λ c κs. search needs)
+    (λ c κs. search needs)
+    (λ c κs. search needs)
+    edit-entry-requires
     (λ c. search needs)
     returns-2
     (λ c. search needs)

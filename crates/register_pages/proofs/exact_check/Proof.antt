@@ -1,27 +1,20 @@
--- `register_pages::exact_check` meets its contract: the words that were read are the set's, and the check is of them.
+-- `register_pages::exact_check` meets its contract: the check by the page's own words is that of the set of 49.
+use mathlib.Core.Path.{sym, _∙_}
+use Rattle.registers.proofs.Pages.{check-set}
 use borrow.Author.Needs.{needs}
-use mathlib.Core.Path.{ap, _∙_}
-use lib.ListN.{length}
-use Rattle.register_words.specs.Block.{blWidth}
-use Rattle.registers.specs.Set.{isLong, checkWords}
 use Rattle.register_pages.proofs.exact_check.Statement.{statement}
 use Rattle.register_pages.proofs.exact_check.Tie as tie
+use Rattle.register_pages.proofs.exact_check.Reads as reads
+use Rattle.register_pages.proofs.exact_check.Lts as lts
+use Rattle.register_pages.proofs.check.Reads as check-reads
 
-slice-aggregate-read-words : tie.Need-slice-aggregate-read-words
-slice-aggregate-read-words c = search needs
+-- src/lib.rt:380:5
+check-requires : tie.Need-check-requires
+check-requires c κs = search needs
 
-read-words-requires : tie.Need-read-words-requires
-read-words-requires c κs = search needs
-
-check-words-requires : tie.Need-check-words-requires
-check-words-requires c κs = search needs
-
+-- src/lib.rt:376:1
 returns : tie.Need-returns
-returns c =
-    let read = c .before .before .before in
-    c .check-words .ensures ∙ ap (checkWords 8 (blWidth (isLong (length (read .before .before .before .args .page .now))))) (read .read-words .ensures)
+returns c = let start = c .before .before in c .check .ensures ∙ sym (check-set (start .args .page .now) (start .pre))
 
 pub exact-check-spec : {M : Type 1} → statement M
-exact-check-spec =
-    tie.close
-    (tie.spec slice-aggregate-read-words read-words-requires check-words-requires returns)
+exact-check-spec = tie.close (tie.spec check-requires returns)

@@ -14,7 +14,8 @@ use Rattle.words.specs.Words.{wordAt}
 use Rattle.words.proofs.Tests.{both}
 use Rattle.register_words.specs.Block.{lengthGood}
 use Rattle.register_pages.proofs.Digits.{not-crowded}
-use Rattle.register_pages.proofs.Quick.{Asked, Seen, seen-none, off-byte, next-off, next-on, side-good, side-empty}
+use Rattle.register_pages.proofs.Pass.{off-byte}
+use Rattle.register_pages.proofs.Quick.{Asked, Seen, seen-none, next-off, next-on, side-good, side-empty}
 use Rattle.register_pages.proofs.quick_side.Statement.{statement}
 use Rattle.register_pages.proofs.quick_side.Tie as tie
 

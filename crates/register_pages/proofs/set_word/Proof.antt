@@ -1,104 +1,138 @@
--- `register_pages::set_word` meets its contract. Where the quick test decides, the page with the word put in passes the check, which is what replacing
--- it asks; else the page is as it was when `exact_set` gets it.
-use borrow.Author.Needs.{needs}
+-- `register_pages::set_word` meets its contract: the set is the page's, and where it is a new one its word is the one that was given.
+use borrow.Author.Tests.{eq-eqb, ne-eqb}
 use native.Mathlib.Omega.{arith}
-use mathlib.Core.Path.{_≡_, sym, ap, ap₂, _∙_}
+use mathlib.Core.Bool.{Bool, cond}
 use mathlib.Core.List.{List}
-use mathlib.Core.Logic.{⊎-elim}
-use Prim.Native.Nat.{ℕ, _+_, _*_, _<_, _≤_}
-use lib.ListN.{length}
-use Rattle.words.specs.Words.{withWord}
-use Rattle.register_words.specs.Block.{blWidth}
-use Rattle.registers.specs.Set.{isPage, isLong, registerCount, checkWords, setWords}
-use Rattle.register_pages.specs.Replace.{pageReplaced}
-use Rattle.register_pages.proofs.Replace.{number-fits, put-right, put-passes, put-back}
+use mathlib.Core.Path.{_≡_, sym, ap, _∙_}
+use Prim.Native.Nat.{ℕ, _+_, _*_, _≤_, min}
+use lib.ListN.{length, take, length-take}
+use Rattle.words.specs.Words.{wordAt, withWord}
+use Rattle.words.proofs.Words.{length-withWord, word-same}
+use Rattle.registers.specs.Set.{isLong, registerCount, registerWords, replacing}
+use Rattle.registers.proofs.Set.{replaced-number}
+use Rattle.register_pages.specs.Replace.{pageOf, pageReplaced}
+use Rattle.register_pages.proofs.Replace.{number-fits}
+use Rattle.register_pages.proofs.Sides.{part-word}
+use borrow.Author.Needs.{needs}
 use Rattle.register_pages.proofs.set_word.Statement.{statement}
 use Rattle.register_pages.proofs.set_word.Tie as tie
+use Rattle.register_pages.proofs.set_word.Reads as reads
+use Rattle.register_pages.proofs.set_word.Lts as lts
+use Rattle.register_pages.proofs.Set.with_word.Reads as with-word-reads
+use Rattle.register_pages.proofs.read_set.Reads as read-set-reads
+use Rattle.words.proofs.read_word.Reads as read-word-reads
+use Rattle.words.proofs.write_word.Reads as write-word-reads
 
--- past the first test the number is one of the page's own, and its word lies on the page
-own-number : (c : tie.Then1) → let start = c .before .before .before in start .args .number < registerCount (isLong (length (start .args .page .now)))
-own-number c = rw (← c .before .count-of .ensures) (c .if1 .taken)
+-- src/lib.rt:464:9
+read-set-requires : tie.Need-read-set-requires
+read-set-requires c κs = search needs
 
-on-page : (c : tie.Then1) → let start = c .before .before .before in 4 * start .args .number + 4 ≤ length (start .args .page .now)
-on-page c =
-    let start = c .before .before .before in
-    number-fits (start .args .page .now) (start .pre) (start .args .number) (own-number c)
+-- src/lib.rt:465:9
+with-word-requires : tie.Need-with-word-requires
+with-word-requires c κs = c .read-set .ensures .0
 
--- where the ways meet, the page is as it was
-page-same : (c : tie.Joined1) → c .if1 .page ≡ c .before .before .before .args .page .now
-page-same c =
-    let start = c .before .before .before in
-    ⊎-elim
-    (λ w. w .14
-    ∙ w .11 .ensures
-    ∙ ap₂ (λ (s : List ℕ) (old : ℕ). withWord s (4 * start .args .number) old) (w .4 .ensures) (w .2 .ensures)
-    ∙ put-back (start .args .page .now) (4 * start .args .number) (start .args .word) (λ i. c .before .before .slice-known .given i .fits)
-    (on-page record { before = c .before; if1 = w .0 }))
-    (λ w. w .1) (c .if1 .came)
+-- src/lib.rt:469:18
+mul-byte : tie.Need-mul-byte
+mul-byte c = search needs
 
-count-of-requires : tie.Need-count-of-requires
-count-of-requires c κs = search needs
+-- src/lib.rt:470:54
+slice-aggregate-read-word : tie.Need-slice-aggregate-read-word
+slice-aggregate-read-word c = search needs
 
-mul-at : tie.Need-mul-at
-mul-at c = search needs
+-- src/lib.rt:470:37
+-- what the method answered is the definition's answer for the page
+module _ (c : tie.After-with-word) where
+  abbrev begin : tie.Start
+  begin = c .before .before .before .before
+
+  abbrev page : List ℕ
+  page = begin .args .page .now
+
+  abbrev number : ℕ
+  number = begin .args .number
+
+  abbrev word : ℕ
+  word = begin .args .word
+
+  abbrev asked : ℕ
+  asked = replacing (isLong (length page)) (registerWords page) number word
+
+  is-replaced : (c .with-word .result .result, pageOf (c .with-word .result .set)) ≡ pageReplaced page number word
+  is-replaced = c .with-word .ensures ∙ ap (λ (p : List ℕ). pageReplaced p number word) (c .before .read-set .ensures .1)
+
+  result-is : c .with-word .result .result ≡ asked
+  unfolding pageReplaced
+  result-is = ap (λ (p : ℕ × List ℕ). p .0) is-replaced
+
+  -- where it is 0, the new set holds the page with the word put in
+  module _ (done : c .with-word .result .result ≡ 0) where
+    abbrev new : List ℕ
+    new = c .with-word .result .set .bytes
+
+    abbrev size : ℕ
+    size = c .with-word .result .set .size
+
+    fits : 4 * number + 4 ≤ length page
+    fits = number-fits page (begin .pre) number (replaced-number (isLong (length page)) (registerWords page) number word (sym result-is ∙ done))
+
+    new-is : take size new ≡ withWord page (4 * number) word
+    unfolding pageReplaced
+    new-is = ap (λ (p : ℕ × List ℕ). p .1) is-replaced ∙ ap (λ (t : Bool). cond t (withWord page (4 * number) word) page) (eq-eqb asked 0 (sym result-is ∙ done))
+
+    new-fits : 4 * number + 4 ≤ min size (length new)
+    new-fits =
+        let long = ap length new-is ∙ length-withWord page (4 * number) word in
+        omega (arith, fits, length-take size new)
+
+    word-is : wordAt new (4 * number) ≡ word
+    word-is =
+        ap (wordAt new) (omega arith)
+        ∙ sym (part-word new 0 size (4 * number) (omega (arith, new-fits)))
+        ∙ ap (λ (s : List ℕ). wordAt s (4 * number)) new-is
+        ∙ word-same page (4 * number) word fits (begin .fits .word .fits)
 
 read-word-requires : tie.Need-read-word-requires
-read-word-requires c κs = on-page (c .before)
+read-word-requires c κs = let t = c .before .before .before in omega (arith, new-fits (t .before) (t .if1 .taken))
 
+-- src/lib.rt:470:9
 write-word-requires : tie.Need-write-word-requires
-write-word-requires c κs = on-page (c .before .before .before)
+write-word-requires c κs = let t = c .before .before .before .before in fits (t .before) (t .if1 .taken)
 
-quick-set-requires : tie.Need-quick-set-requires
-quick-set-requires c κs =
-    let put = c .before .before .before in
-    let start = put .before .before .before .before .before .before .before in
-    ap (λ (s : List ℕ). isPage (length s)) (put .write-word .ensures)
-    ∙ put-right (start .args .page .now) (start .pre) (4 * start .args .number) (start .args .word)
-
+-- src/lib.rt:460:1
 same-length : tie.Need-same-length
 same-length c = search needs
 
+-- src/lib.rt:460:1
 returns : tie.Need-returns
+unfolding pageReplaced
 returns c =
-    let put = c .before .before .before .before .before in
-    let at-if = put .before .before .before .before in
-    let start = at-if .before .before .before in
-    let e = put .write-word .ensures in
-    let passed = sym (ap (λ (s : List ℕ). checkWords 8 (blWidth (isLong (length s))) (setWords s)) e) ∙ c .before .quick-set .ensures .0 (c .if2 .taken) in
-    ap (λ (s : List ℕ). (0, s)) e
-    ∙ sym (put-passes (start .args .page .now) (start .pre) (start .args .number) (own-number at-if) (start .args .word) (omega arith) passed)
+    let at-write = c .before .before in
+    let t = at-write .before .before .before .before .before in
+    let k = t .before in
+    rw (← result-is k, eq-eqb _ _ (t .if1 .taken))
+    (ap (λ (b : List ℕ). (k .with-word .result .result, b))
+    (at-write .write-word .ensures ∙ ap (withWord (page k) (4 * number k)) (at-write .before .read-word .ensures ∙ word-is k (t .if1 .taken))))
 
-write-word-requires-2 : tie.Need-write-word-requires-2
-write-word-requires-2 c κs =
-    let fits = on-page (c .before .before .before .before .before .before .before .before .before .before) in
-    omega arith
-
-exact-set-requires : tie.Need-exact-set-requires
-exact-set-requires c κs = ap (λ (s : List ℕ). isPage (length s)) (page-same (c .before)) ∙ c .before .before .before .before .pre
-
+-- src/lib.rt:460:1
 same-length-2 : tie.Need-same-length-2
-same-length-2 c =
-    let kept = ap length (page-same (c .before .before .before .before)) in
-    omega arith
+same-length-2 c = search needs
 
+-- src/lib.rt:460:1
 returns-2 : tie.Need-returns-2
-returns-2 c =
-    let start = c .before .before .before .before .before .before .before in
-    c .before .before .exact-set .ensures
-    ∙ ap (λ (s : List ℕ). pageReplaced s (start .args .number) (start .args .word)) (page-same (c .before .before .before .before))
+unfolding pageReplaced
+returns-2 c = rw (← result-is (c .before), ne-eqb _ _ (c .if1 .left))
 
 pub set-word-spec : {M : Type 1} → statement M
 set-word-spec =
     tie.close
     (tie.spec
-    count-of-requires
-    mul-at
+    read-set-requires
+    with-word-requires
+    mul-byte
+    slice-aggregate-read-word
     read-word-requires
     write-word-requires
-    quick-set-requires
     same-length
     returns
-    write-word-requires-2
-    exact-set-requires
     same-length-2
     returns-2)

@@ -4,18 +4,14 @@ use mathlib.Core.Bool.{not, _&&_}
 use native.Mathlib.Nat.{div-one}
 use native.Mathlib.Omega.{arith}
 use Prim.Native.Nat.{ℕ, _+_, _-_, _*_, _/_, _%_, _^_, _<_}
-use lib.Bits.{bitAnd, bitOr, and-mask, and-mod, or-shr, or-mod, or-add-and, or-comm, or-zero-r}
+use lib.Bits.{bitAnd, bitOr, and-mask, and-mod, or-shr, or-mod, or-comm, or-zero-r}
 use lib.Dec.{eqb}
 use lib.Pow.{split, pow-pos}
-use native.Mathlib.Nat.{mod-lt, mod-mod}
+use Rattle.words.proofs.Masks.{or-full}
 use Rattle.words.proofs.Tests.{eqb-same}
 use Rattle.register_words.specs.Block.{clash, commonV, shareAddress, blOf, bepiOf}
 use Rattle.register_words.proofs.blocks_clash.Statement.{statement}
 use Rattle.register_words.proofs.blocks_clash.Tie as tie
-
--- ones stay ones
-or-full : (k z : ℕ) → bitOr (z % 2 ^ k) (2 ^ k - 1) ≡ 2 ^ k - 1
-or-full k z = omega (arith, or-add-and (z % 2 ^ k) (2 ^ k - 1), and-mask (z % 2 ^ k) k, mod-mod z (2 ^ k))
 
 module _ (a b : ℕ) (a-lt : a < 2 ^ 32) (b-lt : b < 2 ^ 32) where
   -- the BL bits of either in the places of BEPI, with ones below

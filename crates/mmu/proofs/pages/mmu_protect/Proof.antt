@@ -1,12 +1,14 @@
 -- `mmu::pages::mmu_protect` meets its contract: the work is done on a table of right length, with PP in its range.
-use mathlib.Core.Path.{sym, _∙_}
+use mathlib.Core.Path.{_≡_, sym, _∙_}
 use mathlib.Core.Bool.{_&&_}
 use Prim.Native.Nat.{_^_}
 use lib.Dec.{ltb}
+use lib.ListN.{length}
 use Rattle.calls.specs.Request.{ProtectCall}
-use Rattle.calls.proofs.PageCalls.{kept, page-ranges, protect-refused, protect-taken}
+use Rattle.calls.proofs.PageCalls.{Kept, kept, page-ranges, protect-refused, protect-taken}
 use borrow.Author.Tests.{ltb-true}
 use Rattle.words.proofs.Tests.{both}
+use Rattle.page_calls.proofs.Searched.{table-of}
 use borrow.Author.Needs.{needs}
 use Rattle.mmu.proofs.pages.mmu_protect.Statement.{statement}
 use Rattle.mmu.proofs.pages.mmu_protect.Tie as tie
@@ -14,6 +16,12 @@ use Rattle.mmu.proofs.pages.mmu_protect.Tie as tie
 -- what the call brings
 abbrev called : (c : tie.Start) → ProtectCall
 called c = let a = c .args in record { sdr1 = a .sdr1; page = record { vsid = a .vsid; index = a .index }; pp = a .pp }
+
+-- what holds where nothing is refused
+rules-kept : (c : tie.After-page-refusal) → c .page-refusal .result ≡ 0 →
+    let a = c .before .before .before .args in
+    Kept (c .before .page-in-range .result && ltb (a .pp) (2 ^ 2)) (a .sdr1) (length (a .table .now))
+rules-kept c z = kept _ _ _ (sym (c .page-refusal .ensures) ∙ z)
 
 page-in-range-requires : tie.Need-page-in-range-requires
 page-in-range-requires c κs = search needs
@@ -31,10 +39,10 @@ protect-page-requires c κs =
     let n = c .before .before in
     let a = n .before .before .before .args in
     let in-range = n .before .page-in-range .result in
-    let k = kept (in-range && ltb (a .pp) (2 ^ 2)) _ _ (sym (n .page-refusal .ensures) ∙ c .before .if1 .left) in
+    let k = rules-kept n (c .before .if1 .left) in
     let (in-page, pp) = both in-range (ltb (a .pp) (2 ^ 2)) (k .in-range) in
     let (vsid, index) = page-ranges _ in-range (n .before .page-in-range .ensures) in-page in
-    (k .shape, k .right-length, vsid, index, ltb-true (a .pp) (2 ^ 2) pp)
+    ((_, table-of _ _ _ k), record { vsid-lt = vsid; index-lt = index }, ltb-true (a .pp) (2 ^ 2) pp)
 
 same-length : tie.Need-same-length
 same-length c = search needs
@@ -43,7 +51,8 @@ returns-2 : tie.Need-returns-2
 returns-2 c =
     let w = c .before .before in
     let i = w .before .before in
-    protect-taken (called (i .before .before .before .before)) _ _ (i .before .before .page-in-range .ensures) _ (i .before .page-refusal .ensures) (i .if1 .left) _ (w .protect-page .ensures)
+    protect-taken (called (i .before .before .before .before)) _ _ (i .before .before .page-in-range .ensures) _ (i .before .page-refusal .ensures) (i .if1 .left) _
+    (w .protect-page .ensures _ (table-of _ _ _ (rules-kept (i .before) (i .if1 .left))))
 
 pub mmu-protect-spec : {M : Type 1} → statement M
 mmu-protect-spec =

@@ -9,7 +9,8 @@ use Rattle.calls.specs.Request.{AnsweredCall}
 use Rattle.calls.specs.Rules.{pageInRange}
 use Rattle.calls.specs.Answers.{wordAnswer}
 use Rattle.calls.specs.OnBytes.{ended}
-use Rattle.calls.proofs.PageCalls.{pageRules, kept, page-ranges, unmap-11, unmap-refused, unmap-taken}
+use Rattle.calls.proofs.PageCalls.{pageRules, Kept, kept, page-ranges, unmap-11, unmap-refused, unmap-taken}
+use Rattle.page_calls.proofs.Searched.{table-of}
 use borrow.Author.Needs.{needs}
 use Rattle.mmu.proofs.pages.mmu_unmap.Statement.{statement}
 use Rattle.mmu.proofs.pages.mmu_unmap.Tie as tie
@@ -23,6 +24,12 @@ number-is : (c : tie.After-word-refusal) →
     let start = c .before .before .before .before in
     c .word-refusal .result .result ≡ firstBroken (pageRules (pageInRange (called start .page)) (start .args .sdr1) (length (start .args .table .now)))
 number-is c = ap (λ (r : WordAnswer). r .result) (c .word-refusal .ensures)
+
+-- what holds where nothing is refused
+rules-kept : (c : tie.After-word-refusal) → c .word-refusal .result .result ≡ 0 →
+    let start = c .before .before .before .before in
+    Kept (pageInRange (called start .page)) (start .args .sdr1) (length (start .args .table .now))
+rules-kept c z = kept _ _ _ (sym (number-is c) ∙ z)
 
 returns : tie.Need-returns
 returns c = sym (unmap-11 (called (c .before .before .before)) _ (c .if1 .taken))
@@ -49,9 +56,9 @@ unmap-page-requires c κs =
     let e = c .before in
     let r = e .before .before in
     let page = called (r .before .before .before .before) .page in
-    let k = kept (pageInRange page) _ _ (sym (number-is r) ∙ e .if2 .left) in
+    let k = rules-kept r (e .if2 .left) in
     let (vsid, index) = page-ranges page (pageInRange page) refl (k .in-range) in
-    (k .shape, k .right-length, vsid, index)
+    ((_, table-of _ _ _ k), record { vsid-lt = vsid; index-lt = index })
 
 write-answer-requires-2 : tie.Need-write-answer-requires-2
 write-answer-requires-2 c κs = search needs
@@ -69,7 +76,8 @@ returns-3 c =
     let e = u .before .before in
     let r = e .before .before in
     ap (ended _ _) (w .write-answer2 .ensures)
-    ∙ unmap-taken (called (r .before .before .before .before)) _ _ (number-is r) (r .before .if1 .left) (e .if2 .left) _ (u .unmap-page .ensures)
+    ∙ unmap-taken (called (r .before .before .before .before)) _ _ (number-is r) (r .before .if1 .left) (e .if2 .left) _
+    (u .unmap-page .ensures _ (table-of _ _ _ (rules-kept r (e .if2 .left))))
 
 pub mmu-unmap-spec : {M : Type 1} → statement M
 mmu-unmap-spec =

@@ -96,6 +96,20 @@ module _ (c : MapCall) (t : List ℕ) (a : Taken (mapPage c) t) where
   map-on-any =
       let kept = map-kept (length t) c (a .not-refused) in
       record {
+        done-where = (
+          λ z.
+              by-matches (own mk t (c .page))
+              (λ e.
+              by-place (freePlace (layout mk) t (c .page)) (λ n. absurd (let q = sym (number-of (map-full e n)) ∙ z in omega arith))
+              (λ place n. (no-match mk t (c .page) e, (place .0, place .1, place-free mk t (c .page) (place .0) (place .1) n .is-free))))
+              (λ x xs e. absurd (let q = sym (number-of (map-matched x xs e)) ∙ z in omega arith)),
+          λ (out, (b, i, f)).
+              by-matches (own mk t (c .page))
+              (λ e.
+              by-place (freePlace (layout mk) t (c .page)) (λ n. absurd (none-free mk t (c .page) n b i f))
+              (λ place n. number-of (map-free e (place .0) (place .1) n)))
+              (λ x xs e. absurd (out (some-match mk t (c .page) x xs e))),
+        );
         refused-7 = (
           λ z.
               by-matches (own mk t (c .page))
@@ -297,6 +311,15 @@ module _ (c : AnsweredCall (List ℕ)) (t : List ℕ) (a : Taken (look c) t) whe
 
   look-on-any : LookOnAny c t lk
   look-on-any = record {
+    done-where = (
+      λ z.
+          look-by (λ e. absurd (let q = sym (number-of (look-none e)) ∙ z in omega arith))
+          (λ x xs e d. absurd (let q = sym (number-of (look-ten x xs e d)) ∙ z in omega arith))
+          (λ x xs e d. (some-match lk t (c .page) x xs e, λ dis. true≢false (sym (contradicts lk t (c .page) x xs e dis) ∙ d))),
+      λ (matched, agreed).
+          look-by (λ e. absurd (no-match lk t (c .page) e matched)) (λ x xs e d. absurd (agreed (disagree lk t (c .page) x xs e d)))
+          (λ x xs e d. number-of (look-one x xs e d)),
+    );
     refused-10 = (
       λ z.
           look-by (λ e. absurd (let q = sym (number-of (look-none e)) ∙ z in omega arith)) (λ x xs e d. disagree lk t (c .page) x xs e d)

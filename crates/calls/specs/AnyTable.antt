@@ -124,6 +124,7 @@ module _ (c : MapCall) (t : List ℕ) where
   mapped = onBytes (mapPage c) t
 
   pub record MapOnAny (k : ℕ) : Type 0 where
+    pub done-where : (mapped .number ≡ done) ↔ ((SomeMatch k t (c .page) → ⊥) × ((b : Bool) × (i : ℕ) × Free k t (c .page) b i))
     pub refused-7 : (mapped .number ≡ refusedMapped) ↔ SomeMatch k t (c .page)
     pub refused-9 : (mapped .number ≡ refusedFull) ↔ ((SomeMatch k t (c .page) → ⊥) × ((b : Bool) (i : ℕ) → Free k t (c .page) b i → ⊥))
     pub entered : mapped .number ≡ done → (b : Bool) (i : ℕ) → FirstFree k t (c .page) b i
@@ -165,6 +166,7 @@ module _ (c : AnsweredCall (List ℕ)) (t : List ℕ) where
   looked = onBytes (look c) t
 
   pub record LookOnAny (k : ℕ) : Type 0 where
+    pub done-where : (looked .number ≡ done) ↔ (SomeMatch k t (c .page) × (Disagreeing k t (c .page) → ⊥))
     pub refused-10 : (looked .number ≡ refusedContradiction) ↔ Disagreeing k t (c .page)
     pub refused-8 : (looked .number ≡ refusedNoMatch) ↔ (SomeMatch k t (c .page) → ⊥)
     pub word : looked .number ≡ done → (b : Bool) (i : ℕ) → FirstMatch k t (c .page) b i → looked .answer ≡ wordAnswer done (secondHere k t (c .page) b i)
@@ -264,6 +266,8 @@ module _ (c : AccessCall (List ℕ)) (t : List ℕ) where
       pub first : FirstMatch k t (wantedPage wanted) b i
 
     pub record AccessOnAny : Type 0 where
+      -- done exactly where each part is
+      pub done-where : (accessed .number ≡ done) ↔ ((answered false .result ≡ done) × (HasPart true → answered true .result ≡ done))
       -- each part goes through steps 1 to 3 at its own start, and answers for itself where they decide it
       pub own-steps : (second : Bool)
           → earlyOf c second ≡ beforeSearch (blockPairs (onLongPage c)) (blWidth (onLongPage c)) (registerWords (c .registers)) (c .mode) (c .kind) (partStart (c .address) (c .length) second)

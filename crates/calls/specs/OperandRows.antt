@@ -3,7 +3,7 @@
 use Prim.Native.Nat.{ℕ}
 use mathlib.Core.List.{List, [], _∷_, _++_}
 use lib.ListN.{replicate}
-use Rattle.numbers.specs.Numbers.{done, dataStorageFault, instructionStorageFault, refusedNoMatch, refusedContradiction, refusedLentLength, refusedOperandLength}
+use Rattle.numbers.specs.Numbers.{done, dataStorageFault, instructionStorageFault, refusedContradiction, refusedLentLength}
 use Rattle.words.specs.Rows.{Hold}
 use Rattle.words.specs.Words.{withWord, bytesOf}
 use Rattle.calls.specs.Made.{toAccess}
@@ -152,8 +152,7 @@ pub record OperandRows : Type 0 where
       )
       ∷ []
       )
-  -- what is compared of an answer: every byte, of unmap, look and access when they are refused too; not the place of an entry in rules 4 to 6;
-  -- nothing where a length is refused
+  -- what is compared of an answer: every byte; not the place of an entry in rules 4 to 6; nothing where a length is refused
   pub compared-bytes : Hold (
       (compared done (oneByte 1 2 3 (rule 6 2 7 1)), (done, bytesOf (done ∷ 1 ∷ 2 ∷ 3 ∷ 0 ∷ 0 ∷ 1 ∷ 0 ∷ 6 ∷ 2 ∷ [])))
       ∷ (compared dataStorageFault (stop dataStorageFault 1 2 3 (rule 5 7 7 1)), (dataStorageFault, bytesOf (dataStorageFault ∷ 1 ∷ 2 ∷ 3 ∷ 0 ∷ 0 ∷ 0 ∷ 0 ∷ 5 ∷ 7 ∷ [])))
@@ -161,9 +160,6 @@ pub record OperandRows : Type 0 where
       ∷ (compared dataStorageFault (stop dataStorageFault 1 2 3 (rule 3 0 7 1)), (dataStorageFault, stop dataStorageFault 1 2 3 (rule 3 0 7 1)))
       ∷ (compared done (oneByte 1 2 3 (rule 1 3 7 1)), (done, oneByte 1 2 3 (rule 1 3 7 1)))
       ∷ (compared done (wordAnswer done 0x12345012), (done, wordAnswer done 0x12345012))
-      ∷ (compared refusedNoMatch (wordAnswer refusedNoMatch 7), (refusedNoMatch, wordAnswer refusedNoMatch 7))
-      ∷ (compared refusedContradiction (wordAnswer refusedContradiction 7), (refusedContradiction, wordAnswer refusedContradiction 7))
-      ∷ (compared refusedOperandLength (stop refusedOperandLength 0 0 7 noRule), (refusedOperandLength, stop refusedOperandLength 0 0 7 noRule))
       ∷ (compared refusedLentLength (oneByte 1 2 3 noRule), (refusedLentLength, []))
       ∷ []
       )

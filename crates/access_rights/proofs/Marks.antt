@@ -41,7 +41,7 @@ use Rattle.calls.proofs.TakenCalls.{good-table, does, state-of}
 use Rattle.calls.proofs.Access.{by-early, late-done, unmarked, unmarked-decided}
 use Rattle.calls.proofs.AnyEntries.{by-matches, own, first-of}
 use Rattle.calls.proofs.TwoMarks.{mark-reads, own-match}
-use Rattle.table_access.specs.Part.{OfFirst, ByPart}
+use Rattle.access_rights.proofs.ByTable.{OfFirst, ByTable}
 use Rattle.table_access.specs.declared.Part.{Part}
 use Rattle.access_rights.specs.Rights.{newMarks}
 
@@ -156,8 +156,8 @@ module _ (c : AccessCall (List ℕ)) (t : List ℕ) (taken : Taken (access c) t)
         rw (ends-done z, rule-told, group-told, entry-told, reaches, after, ← m .second-word)
 
   -- what a part holds of its entry tells the marks of a done access
-  pub part-marks : (p : Part) → ByPart k t (c .kind) (startOf c false) (earlyOf c false) p → p .answer .result ≡ 0
-      → cond (ltb (p .entry) 8) (withMarks true (storing (c .kind)) (p .second) - p .second) 0 ≡ newMarks t (onBytes (access c) t)
+  pub part-marks : (p : Part) → ByTable k t (c .kind) (startOf c false) (earlyOf c false) p → p .answer .result ≡ 0
+      → cond (ltb (p .found .entry) 8) (withMarks true (storing (c .kind)) (p .found .second) - p .found .second) 0 ≡ newMarks t (onBytes (access c) t)
   unfolding OfFirst searched outcomeOf
   part-marks p is done = by-early (earlyOf c false) decided searching
     where
@@ -168,13 +168,13 @@ module _ (c : AccessCall (List ℕ)) (t : List ℕ) (taken : Taken (access c) t)
       left u e = state-of (ends-done z) ∙ e
 
       decided : (outcome : Outcome) → earlyOf c false ≡ Decided outcome
-          → cond (ltb (p .entry) 8) (withMarks true (storing (c .kind)) (p .second) - p .second) 0 ≡ newMarks t (onBytes (access c) t)
+          → cond (ltb (p .found .entry) 8) (withMarks true (storing (c .kind)) (p .found .second) - p .found .second) 0 ≡ newMarks t (onBytes (access c) t)
       decided outcome e =
-          let none : p .entry ≡ 8 = rw e at (is .first) in
+          let none : p .found .entry ≡ 8 = rw e at (is .first) in
           rw none (sym (unchanged-none t (onBytes (access c) t) (left t (rw e (unmarked-decided k (c .kind) outcome 0 t)))))
 
       searching : (wanted : Wanted) → earlyOf c false ≡ Search wanted
-          → cond (ltb (p .entry) 8) (withMarks true (storing (c .kind)) (p .second) - p .second) 0 ≡ newMarks t (onBytes (access c) t)
+          → cond (ltb (p .found .entry) 8) (withMarks true (storing (c .kind)) (p .found .second) - p .found .second) 0 ≡ newMarks t (onBytes (access c) t)
       searching wanted e =
           by-matches (own k t (wantedPage wanted))
           (λ none.
@@ -184,6 +184,6 @@ module _ (c : AccessCall (List ℕ)) (t : List ℕ) (taken : Taken (access c) t)
           let other : Nothing ≡ At second = sym (ap searched none) ∙ found in
           absurd (true≢false (cc)))
           (λ x xs are.
-          let (group, entry, second) = (rw e at (is .first)) x xs are in
+          let (entry, second) = (rw e at (is .first)) x xs are in
           let small : x .entry < 8 = own-match k (c .kind) wanted t x xs are .in-range in
           rw (entry, second, lt-ltb (x .entry) 8 small) (sym (page-marks wanted e z x xs are)))

@@ -1,6 +1,6 @@
 -- The access of each kind: its rules after 11 by the page's own limits, what it ends in where one is broken, and what a part of its own comes to.
 use Prim.Native.Nat.{ℕ, _-_, _<_, _^_}
-use mathlib.Core.Path.{_≡_, refl, sym, ap, ap₂, _∙_}
+use mathlib.Core.Path.{_≡_, refl, sym, ap, ap₂, subst, _∙_}
 use mathlib.Core.Bool.{Bool, true, false, cond}
 use mathlib.Core.List.{List}
 use native.Mathlib.Omega.{arith}
@@ -26,11 +26,12 @@ use Rattle.calls.specs.AnyTable.{Taken}
 use Rattle.calls.proofs.Access.{rulesThen, then-kept, access-refused}
 use Rattle.calls.proofs.TakenCalls.{state-of, answer-of}
 use Rattle.calls.proofs.Pages.{sdr1-set, early-set}
-use Rattle.table_access.specs.Part.{ByPart}
+use Rattle.groups.specs.Hash.{TableOf}
 use Rattle.table_access.specs.declared.Part.{Part}
 use Rattle.access_rights.specs.Rights.{RightsCall, asking, wouldEnd}
 use Rattle.access_rights.specs.Held.{Tells}
 use Rattle.access_rights.specs.declared.Right.{Right}
+use Rattle.access_rights.proofs.ByTable.{ByTable}
 use Rattle.access_rights.proofs.Marks.{unchanged-none, ends-done, ends-stopped, part-marks}
 
 -- one byte lies in one page
@@ -64,16 +65,16 @@ module _ (c : RightsCall) (page : isPage (length (c .registers)) ≡ true) (kind
           let all = then-kept (blockPairs (isLong (length (c .registers)))) (blWidth (isLong (length (c .registers)))) (registerWords (c .registers)) (c .mode) kind 1 (length t) (sym (own-rules (length t)) ∙ kept) in
           (all .3, all .1, all .2)
 
-      pub set-fits : (sdr1Shape (sdr1Of (setWords (c .registers))) ≡ true) × (length t ≡ tableLength (sdr1Of (setWords (c .registers))))
-      set-fits = rw (sdr1-set (c .registers) page) (passed .1, passed .2)
+      pub set-fits : TableOf (sdr1Of (setWords (c .registers))) (length t)
+      set-fits = subst (λ (s : ℕ). TableOf s (length t)) (sym (sdr1-set (c .registers) page)) (record { shape = passed .1; right = passed .2 })
 
       module _ (bytes : (i : ℕ) → getD t i 0 < 2 ^ 8) (p : Part)
-          (is : ByPart (maskOnes (sdr1Of (setWords (c .registers)))) t kind (c .address) (beforeSearch 8 15 (setWords (c .registers)) (c .mode) kind (c .address)) p) where
+          (is : ByTable (maskOnes (sdr1Of (setWords (c .registers)))) t kind (c .address) (beforeSearch 8 15 (setWords (c .registers)) (c .mode) kind (c .address)) p) where
         taken : Taken (access (asking c kind)) t
         taken = record { not-refused = kept; bytes = bytes }
 
         -- the part by the page's own limits
-        own-part : ByPart (maskOnes (sdr1In (access (asking c kind)))) t kind (startOf (asking c kind) false) (earlyOf (asking c kind) false) p
+        own-part : ByTable (maskOnes (sdr1In (access (asking c kind)))) t kind (startOf (asking c kind) false) (earlyOf (asking c kind) false) p
         unfolding sdr1In partStart
         own-part = rw (early-set (c .registers) page (passed .0) (c .mode) kind (c .address), sdr1-set (c .registers) page) at is
 
@@ -88,7 +89,7 @@ module _ (c : RightsCall) (page : isPage (length (c .registers)) ≡ true) (kind
 
         -- a part that is done
         pub done-tells : p .answer .result ≡ 0 → (right : Right) → right .told ≡ within (p .answer) (p .decision) 1
-            → right .marks ≡ cond (ltb (p .entry) 8) (withMarks true (storing kind) (p .second) - p .second) 0 → Tells t (wouldEnd c t kind) right
+            → right .marks ≡ cond (ltb (p .found .entry) 8) (withMarks true (storing kind) (p .found .second) - p .found .second) 0 → Tells t (wouldEnd c t kind) right
         done-tells z right told marks =
             let ends = ends-done (asking c kind) t taken (one-byte (c .address)) (sym (ap (λ (x : Answer). x .result) (own-part .answers)) ∙ z) in
             record {

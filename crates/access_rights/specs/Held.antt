@@ -1,18 +1,39 @@
--- What the code holds of the three accesses, against what they would end in.
-use Prim.Native.Nat.{ℕ}
+-- What the code holds of an address and of the three accesses there, against what they would end in.
+use Prim.Native.Nat.{ℕ, _^_, _<_}
+use mathlib.Core.Bool.{true, false}
 use mathlib.Core.List.{List}
 use mathlib.Core.Path.{_≡_}
-use lib.ListN.{length}
+use lib.ListN.{length, getD}
 use Rattle.numbers.specs.Numbers.{fetch, load, store}
+use Rattle.register_words.specs.Sdr1.{maskOnes}
+use Rattle.register_words.specs.Block.{blWidth}
+use Rattle.registers.specs.Set.{blockPairs, coveringPair, sdr1Of, setWords}
+use Rattle.protection.specs.Access.{userMode}
+use Rattle.translation.specs.Steps.{segmentAt, wantedOf}
+use Rattle.table_access.specs.Part.{foundIn}
 use Rattle.calls.specs.Request.{access, fed}
 use Rattle.calls.specs.Rules.{refusal}
 use Rattle.calls.specs.Answers.{accessAnswer}
 use Rattle.calls.specs.OnBytes.{Ended}
 use Rattle.access_rights.specs.Rights.{RightsCall, asking, wouldEnd, newMarks}
+use Rattle.access_rights.specs.declared.Standing.{Standing}
 use Rattle.access_rights.specs.declared.Right.{Right}
 use Rattle.access_rights.specs.declared.Rights.{Rights}
 
--- of one: its answer and its new marks
+-- what stands at an address, in a table for a mask of k ones: the pairs that cover it, and what is found of its page
+abbrev pub standsAt : List ℕ → ℕ → ℕ → ℕ → List ℕ → Standing
+standsAt words mode address k t = record {
+  ibat = coveringPair (blockPairs true) (blWidth true) words false (userMode mode) address;
+  dbat = coveringPair (blockPairs true) (blWidth true) words true (userMode mode) address;
+  found = foundIn k t (wantedOf (userMode mode) (segmentAt words address) address);
+}
+
+-- in a table of bytes, by the register page of a call
+abbrev pub StandsIn : RightsCall → List ℕ → Standing → Type 0
+StandsIn c t at =
+    ((i : ℕ) → getD t i 0 < 2 ^ 8) × (at ≡ standsAt (setWords (c .registers)) (c .mode) (c .address) (maskOnes (sdr1Of (setWords (c .registers)))) t)
+
+-- of one access: its answer and its new marks
 pub record Tells (t : List ℕ) (e : Ended (List ℕ)) (right : Right) : Type 0 where
   pub answer : accessAnswer (right .told) ≡ e .answer
   pub marks : right .marks ≡ newMarks t e

@@ -2,5 +2,6 @@
 pub mod Cache
 pub mod Hits
 pub mod Steps
+pub mod None
 pub mod Computes
 pub mod Tables

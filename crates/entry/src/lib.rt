@@ -2,8 +2,10 @@
 ghost use mathlib.Core.Path.{_≡_};
 ghost use mathlib.Core.Bool.{cond};
 ghost use Prim.Native.Nat.{ℕ, _<_, _^_};
+ghost use lib.Dec.{eqb};
 ghost use Rattle.words.specs.Words.{swapped};
-ghost use Rattle.entry.specs.Entry.{firstWord, secondWord, withinWidths, packed, unpacked, free};
+ghost use Rattle.words.specs.Bits.{bits};
+ghost use Rattle.entry.specs.Entry.{firstWord, secondWord, withinWidths, packed, wimgOf, ppOf, unpacked, free};
 ghost use Rattle.entry.specs.Entry.{referenced, changed, withMarks, withPP, physicalAddress, pageIndex, apiOf};
 
 // The fields of an entry.
@@ -162,6 +164,34 @@ pub fn with_pp(second: u32, pp: u32) -> u32
     ensures { λ r. ⌜ r ≡ withPP pp second ⌝ }
 {
     (second & 0xFFFFFFFC) | pp
+}
+
+// The VSID of a first word.
+pub fn vsid_of(first: u32) -> u32
+    ensures { λ r. ⌜ r ≡ bits 1 24 first ⌝ }
+{
+    (first >> 7) & 0xFFFFFF
+}
+
+// Whether H of a first word is one: the entry stands in the secondary group of its page.
+pub fn is_secondary(first: u32) -> bool
+    ensures { λ r. ⌜ r ≡ eqb (bits 25 25 first) 1 ⌝ }
+{
+    (first >> 6) & 1 == 1
+}
+
+// WIMG of a second word.
+pub fn wimg_of(second: u32) -> u32
+    ensures { λ r. ⌜ r ≡ wimgOf second ⌝ }
+{
+    (second >> 3) & 0xF
+}
+
+// PP of a second word.
+pub fn pp_of(second: u32) -> u32
+    ensures { λ r. ⌜ r ≡ ppOf second ⌝ }
+{
+    second % 4
 }
 
 // The physical address of an effective one, by the entry's second word.

@@ -32,5 +32,7 @@ pub extern "C" fn mmu_access(
         address,
         length,
     };
-    table_access::translate(registers, asked, table, answer)
+    // No cache is lent.
+    let mut none = [0u8; 8];
+    table_access::translate(registers, asked, table, &mut none[0..0], answer)
 }

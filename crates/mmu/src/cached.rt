@@ -34,8 +34,7 @@ pub extern "C" fn mmu_access_cached(
         address,
         length,
     };
-    let told = cached_access::translate(registers, asked, table, cache);
-    table_access::tell(answer, told)
+    table_access::translate(registers, asked, table, cache, answer)
 }
 
 // Zeroes the set of a page index in the cache.

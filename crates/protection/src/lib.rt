@@ -1,8 +1,8 @@
 // The right to an access and its faults: mode and kind, the key, protection by PP, and fault words.
 ghost use mathlib.Core.Path.{_≡_};
 ghost use Rattle.register_words.specs.Segment.{keyOf};
-ghost use Rattle.protection.specs.Access.{relocated};
-ghost use Rattle.protection.specs.Protection.{pageAllows, blockAllows};
+ghost use Rattle.protection.specs.Access.{userMode, fetching, storing, relocated, sideOf};
+ghost use Rattle.protection.specs.Protection.{pageAllows, blockAllows, guarded};
 ghost use Rattle.protection.specs.Fault.{faultOf};
 
 // The causes of a fault: no match, N or G, protection.
@@ -17,6 +17,41 @@ pub struct Fault {
     pub result: u32,
     pub word: u32,
     pub offset: u32,
+}
+
+// Whether PR is on: the access is the user's, else the supervisor's.
+pub fn user_mode(mode: u32) -> bool
+    ensures { λ r. ⌜ r ≡ userMode mode ⌝ }
+{
+    (mode >> 2) & 1 == 1
+}
+
+// Whether the access is a fetch.
+pub fn is_fetch(kind: u32) -> bool
+    ensures { λ r. ⌜ r ≡ fetching kind ⌝ }
+{
+    kind == numbers::FETCH
+}
+
+// Whether the access is a store.
+pub fn is_store(kind: u32) -> bool
+    ensures { λ r. ⌜ r ≡ storing kind ⌝ }
+{
+    kind == numbers::STORE
+}
+
+// The side whose blocks count: true for data, false for instructions.
+pub fn side_of(kind: u32) -> bool
+    ensures { λ r. ⌜ r ≡ sideOf kind ⌝ }
+{
+    !is_fetch(kind)
+}
+
+// Whether G of the attributes is one.
+pub fn is_guarded(wimg: u32) -> bool
+    ensures { λ r. ⌜ r ≡ guarded wimg ⌝ }
+{
+    wimg % 2 == 1
 }
 
 // Whether IR for a fetch, or DR for data, is on.

@@ -17,7 +17,7 @@ use Rattle.register_words.proofs.Blocks.{off-covers}
 use Rattle.registers.specs.Set.{isPage, isLong, blockPairs, registerCount, sdr1Of, segmentOf, sideStart, upperOf, lowerOf, pairCovers, coveringPair, registerWords, widened, setWords}
 use Rattle.registers.proofs.Set.{short-page}
 use Rattle.registers.proofs.Widened.{zero-off, at-front, upper-first, lower-first, upper-last}
-use Rattle.register_pages.specs.Quick.{sideByte}
+use Rattle.register_pages.specs.Side.{sideByte}
 
 -- how long a page is, by whether it is long
 pub data PageSize : ℕ → Bool → Type 0 where

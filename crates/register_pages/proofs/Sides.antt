@@ -1,6 +1,6 @@
 -- The two sides of a register page as parts of its bytes: what the pass tells of a part is the test of the side, by the page's own words.
-use mathlib.Core.Path.{_≡_, refl, sym, ap, ap₂, subst, _∙_}
-use mathlib.Core.Bool.{Bool, true, false, cond, not, _&&_, and-true}
+use mathlib.Core.Path.{_≡_, refl, sym, ap, ap₂, _∙_}
+use mathlib.Core.Bool.{Bool, true, false, cond, not, _&&_}
 use mathlib.Core.List.{List}
 use Prim.Native.Nat.{ℕ, zero, suc, _+_, _-_, _*_, _/_, _%_, _≤_, _<_}
 use native.Mathlib.Omega.{arith}
@@ -19,8 +19,7 @@ use Rattle.register_words.proofs.Blocks.{off-shape, off-clash}
 use Rattle.registers.specs.Set.{isPage, isLong, blockPairs, sideStart, upperOf, lowerOf, sideShape, pairApart, sideApart, sdr1Of, segmentsShape, checkWords, registerWords}
 use Rattle.registers.proofs.Wide.{apart-wide}
 use Rattle.register_pages.specs.declared.Side.{Side}
-use Rattle.register_pages.specs.Quick.{sideByte}
-use Rattle.register_pages.specs.Side.{upperAt, lowerAt, pairsOff, pairsShape, apartFrom, pairsApart, Gathered, blocksRefusal}
+use Rattle.register_pages.specs.Side.{sideByte, upperAt, lowerAt, pairsOff, pairsShape, apartFrom, pairsApart, Gathered, blocksRefusal}
 use Rattle.register_pages.proofs.Page.{PageSize, short-size, long-size, page-size, pair-byte, own-at, own-sdr1}
 
 -- a word of a part
@@ -149,9 +148,6 @@ module _ (page : List ℕ) where
     -- the tests of the first n sides; those of sharing count only where each block has its shape
     abbrev shapes : ℕ → Bool
     shapes n = everyBelow n (λ s. shapeOf (eqb s 1))
-
-    abbrev aparts : ℕ → Bool
-    aparts n = everyBelow n (λ s. apartOf (eqb s 1))
 
     pub record SidesSeen (n : ℕ) (good apart : Bool) : Type 0 where
       pub shape : good ≡ everyBelow n (λ s. shapeOf (eqb s 1))

@@ -1,4 +1,3 @@
--- What the quick test of a register page says, in the terms of its blocks, and what replacing a word of it comes to.
+-- The pairs of a register page's sides, what the check's pass over them tells, and what replacing a word of a page comes to.
 pub mod Side
-pub mod Quick
 pub mod Replace

@@ -1,6 +1,6 @@
--- The pairs of a side as their bytes, the upper word and the lower word of each, and what the check's pass over them tells.
+-- The pairs of a side: where they begin on a page, the upper word and the lower word of each by their bytes, and what the check's pass over them tells.
 use Prim.Native.Nat.{ℕ, _+_, _*_, _/_}
-use mathlib.Core.Bool.{Bool, true, false, not, _&&_}
+use mathlib.Core.Bool.{Bool, true, false, cond, not, _&&_}
 use mathlib.Core.List.{List, [], _∷_}
 use mathlib.Core.Path.{_≡_}
 use lib.Bits.{bitAnd}
@@ -14,6 +14,10 @@ use Rattle.register_words.specs.Block.{blWidth, off, blockShape, clash}
 use Rattle.registers.specs.Rules.{firstBroken}
 use Rattle.registers.specs.Set.{blockPairs, sideShape, sideApart}
 use Rattle.register_pages.specs.declared.Side.{Side}
+
+-- the byte at which a side's pairs begin on a short or a long page
+abbrev pub sideByte : Bool → Bool → ℕ
+sideByte long side = cond side (cond long 132 100) 68
 
 module _ (pairs : List ℕ) where
   -- the upper and the lower word of pair i

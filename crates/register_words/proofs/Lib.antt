@@ -1,7 +1,6 @@
 -- What callers' proofs cite of a register word.
 pub mod Sdr1
 pub mod Blocks
-pub mod Quick
 pub mod Asked
 pub mod Shape
 pub mod Order

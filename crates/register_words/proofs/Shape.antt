@@ -15,7 +15,7 @@ use Rattle.words.specs.Ones.{lowOnes}
 use Rattle.words.proofs.Ones.{true-ones, ones-true, ones-width}
 use Rattle.words.proofs.Tests.{both, by-test, same-test}
 use Rattle.words.proofs.Zero.{or-leaves}
-use Rattle.register_words.specs.Asked.{blPlace, sideSum, zeroBits}
+use Rattle.register_words.specs.Asked.{sideSum, zeroBits}
 use Rattle.register_words.specs.Block.{blWidth, blOf, bepiOf, brpnOf, off, lowerShape, blockShape}
 use Rattle.register_words.proofs.Blocks.{wideUpper, shape-wide, high-masked, bl-same}
 use Rattle.register_words.proofs.Asked.{asked, Length, asked-fits, asked-low, asked-length, length-asked}

@@ -3,7 +3,7 @@ use Prim.Native.Nat.{ℕ, _+_, _-_, _*_, _^_}
 use mathlib.Core.Bool.{Bool, cond}
 use lib.Bits.{bitOr}
 use lib.Ieee.{size}
-use Rattle.register_words.specs.Block.{blWidth, blOf, bepiOf}
+use Rattle.register_words.specs.Block.{blOf, bepiOf}
 
 -- as many ones as BL has binary digits in the places of BEPI, BL and BRPN at once, and 17 ones at the low end
 unfoldable pub pairOnes : ℕ → ℕ

@@ -1,6 +1,6 @@
 -- A block pair, its upper and its lower word (rules 3), over the width of BL.
 use Prim.Native.Nat.{ℕ, _+_, _-_, _^_}
-use mathlib.Core.Bool.{Bool, true, cond, not, _&&_, _||_}
+use mathlib.Core.Bool.{Bool, cond, not, _&&_, _||_}
 use lib.Bits.{bitAnd, bitOr}
 use lib.Dec.{eqb}
 use Rattle.words.specs.Bits.{bits, placed}
@@ -57,10 +57,6 @@ module _ (width : ℕ) where
   lowerShape side upper lower =
       eqb (bitAnd (brpnOf lower) (blOf upper)) 0 && eqb (bits 15 24 lower) 0 && eqb (bits 29 29 lower) 0 && not (eqb (bits 25 26 lower) 3)
       && (side || (eqb (bits 25 25 lower) 0 && eqb (bits 28 28 lower) 0))
-
-  -- the part of a pair's shape that is about its length: BL is ones only at its low end, and BEPI's and BRPN's bits under it are zero
-  unfoldable pub lengthGood : ℕ → ℕ → Bool
-  lengthGood upper lower = lowOnes (blOf upper) && eqb (bitAnd (bepiOf upper) (blOf upper)) 0 && eqb (bitAnd (brpnOf lower) (blOf upper)) 0
 
   -- a pair that is off may hold anything else; the side is true for data blocks and false for instruction blocks
   unfoldable pub blockShape : Bool → ℕ → ℕ → Bool

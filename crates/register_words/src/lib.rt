@@ -4,10 +4,10 @@ ghost use mathlib.Core.Bool.{Bool, true, false};
 ghost use Prim.Native.Nat.{_+_, _-_, _*_, _/_, _%_, _^_};
 ghost use lib.Bits.{bitAnd};
 ghost use lib.Dec.{eqb};
-ghost use Rattle.words.specs.Bits.{bits};
 ghost use Rattle.register_words.specs.Sdr1.{sdr1Shape, tableLength, hashBits};
 ghost use Rattle.register_words.specs.Asked.{pairOnes, blPlace, sideSum, zeroBits, lastOf};
-ghost use Rattle.register_words.specs.Block.{blWidth, off, blockShape, lengthGood, clash, covers, inBlock, blockPhysical};
+ghost use Rattle.register_words.specs.Segment.{noExecute, segmentVsid};
+ghost use Rattle.register_words.specs.Block.{blWidth, off, blockAttributes, blockPP, blockShape, clash, covers, inBlock, blockPhysical};
 
 // Whether SDR1 has its shape.
 pub fn sdr1_shape(sdr1: u32) -> bool
@@ -34,6 +34,20 @@ pub fn hash_mask(sdr1: u32) -> u32
     ensures { λ r. ⌜ r ≡ 2 ^ hashBits sdr1 - 1 ⌝ }
 {
     ((sdr1 & 0x1FF) << 10) | 0x3FF
+}
+
+// Whether N of a segment register is one: nothing is fetched from the segment.
+pub fn no_execute(word: u32) -> bool
+    ensures { λ r. ⌜ r ≡ noExecute word ⌝ }
+{
+    (word >> 28) & 1 == 1
+}
+
+// The VSID of a segment register.
+pub fn segment_vsid(word: u32) -> u32
+    ensures { λ r. ⌜ r ≡ segmentVsid word ⌝ }
+{
+    word % 0x1000000
 }
 
 // As many ones as BL of a pair has bits, its upper word in the high half, in BEPI's, BL's and BRPN's places at once, and the low 17 bits all ones.
@@ -63,15 +77,6 @@ pub fn end_of(pair: u64, ones: u64) -> u64
     ensures { λ r. ⌜ r ≡ lastOf (pair / 2 ^ 32) * 2 ^ 49 + (2 ^ 49 - 1) ⌝ }
 {
     pair | ones | 0x1FFFFFFFFFFFF
-}
-
-// What a quick test asks of a pair, its upper word in the high half: its low 17 bits as they are, and above them zeros, only where BL has at most 11
-// bits and is ones at its low end with zeros of BEPI and BRPN under them.
-pub fn asked_bits(pair: u64) -> u64
-    ensures { λ r. ⌜ (r % 2 ^ 17 ≡ pair % 2 ^ 17)
-        × (r / 2 ^ 17 ≡ 0 → (lengthGood (blWidth true) (pair / 2 ^ 32) (pair % 2 ^ 32) ≡ true) × (bits 15 18 (pair / 2 ^ 32) ≡ 0)) ⌝ }
-{
-    (pair ^ 0x1FFC00000000) & ones_of(pair)
 }
 
 // Whether two blocks have a V bit in common and share an effective address. Here and below BL has 15 bits, of which a short page's blocks use 11.
@@ -104,4 +109,18 @@ pub fn block_physical(upper: u32, lower: u32, address: u32) -> u32
 {
     let start = (lower >> 17) | ((address >> 17) & ((upper >> 2) & 0x7FFF));
     (start << 17) | (address & 0x1FFFF)
+}
+
+// WIMG of a block's lower word.
+pub fn block_attributes(lower: u32) -> u32
+    ensures { λ r. ⌜ r ≡ blockAttributes lower ⌝ }
+{
+    (lower >> 3) & 0xF
+}
+
+// PP of a block's lower word.
+pub fn block_pp(lower: u32) -> u32
+    ensures { λ r. ⌜ r ≡ blockPP lower ⌝ }
+{
+    lower % 4
 }

@@ -1,15 +1,13 @@
--- A register page of either length as the set of 49 words: the check is that of the page by its own limits.
-use mathlib.Core.Path.{_≡_, refl, sym, ap, _∙_}
+-- A register page of either length as the set of 49 words: a long page's own, a short page's widened.
+use mathlib.Core.Path.{_≡_, ap, _∙_}
 use mathlib.Core.Bool.{Bool, true, false}
 use mathlib.Core.List.{List}
 use Prim.Native.Nat.{ℕ}
 use lib.ListN.{length}
 use borrow.Author.Tests.{eqb-false}
 use Rattle.words.proofs.Words.{length-wordsAt}
-use Rattle.register_words.specs.Block.{blWidth}
-use Rattle.registers.specs.Set.{isPage, isLong, blockPairs, checkWords, registerWords, widened, setWords}
+use Rattle.registers.specs.Set.{isPage, isLong, registerWords, widened, setWords}
 use Rattle.registers.proofs.Set.{short-page, words-short}
-use Rattle.registers.proofs.Widened.{check-widened}
 
 module _ (registers : List ℕ) where
   abbrev pub long : Bool
@@ -31,10 +29,3 @@ module _ (registers : List ℕ) where
     -- a page that is not long has 33 words
     pub short-full : long ≡ false → length words ≡ 33
     short-full e = ap length (words-short registers (short-page (length registers) page (eqb-false (length registers) 196 e))) ∙ length-wordsAt registers 0 33
-
-    pub check-set : checkWords 8 (blWidth long) (setWords registers) ≡ checkWords (blockPairs long) (blWidth long) words
-    check-set = go long refl
-      where
-        go : (t : Bool) → long ≡ t → checkWords 8 (blWidth t) (setWords registers) ≡ checkWords (blockPairs t) (blWidth t) words
-        go true e = ap (checkWords 8 15) (set-long e)
-        go false e = ap (checkWords 8 11) (set-short e) ∙ check-widened words (short-full e) 11

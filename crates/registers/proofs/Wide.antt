@@ -1,14 +1,13 @@
 -- Laws of BL of 11 bits beside BL of 15 bits: for pairs that are off or have bits 15 to 18 zero every test of a set is the same.
-use mathlib.Core.Path.{_≡_, refl, sym, ap, ap₂, _∙_}
-use mathlib.Core.Bool.{Bool, true, false, not, _&&_}
+use mathlib.Core.Path.{_≡_, refl, ap}
+use mathlib.Core.Bool.{Bool, true, false, not}
 use mathlib.Core.List.{List}
 use Prim.Native.Nat.{ℕ, _<_}
 use native.Mathlib.Omega.{arith}
 use Rattle.words.proofs.Below.{every-at, every-same, first-same}
-use Rattle.register_words.specs.Sdr1.{sdr1Shape}
-use Rattle.register_words.specs.Block.{blWidth, narrow, blockShape, clash}
+use Rattle.register_words.specs.Block.{blWidth, narrow, blockShape}
 use Rattle.register_words.proofs.Blocks.{shape-narrow, shape-same, clash-same, covers-same}
-use Rattle.registers.specs.Set.{sdr1Of, segmentsShape, upperOf, lowerOf, sideShape, pairApart, sideApart, checkWords, pairCovers, coveringPair}
+use Rattle.registers.specs.Set.{upperOf, lowerOf, sideShape, pairApart, sideApart, checkWords, pairCovers, coveringPair}
 
 module _ (pairs : ℕ) (words : List ℕ) where
   -- each pair of a side is off or has bits 15 to 18 zero

@@ -1,3 +1,5 @@
--- Laws of an operand's parts that the functions' proofs cite.
-pub mod Told
-pub mod ByPart
+-- Laws of the parts of an access that the functions' proofs cite.
+pub mod Finds
+pub mod Parts
+pub mod Operands
+pub mod Calls

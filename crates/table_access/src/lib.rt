@@ -1,33 +1,32 @@
-// One access on a lent table: the rules of its arguments in order, the parts of its operand, each by the steps and the search of its page's two
-// groups, the marks and the answer.
-mod first;
-mod second;
-
-use page_calls::located::locate;
+// One access on a lent table, with a cache of translations or without one: the rules of its arguments in order, the parts of its operand, each by the
+// steps, the marks, the loads and the answer.
+use translation::operand::OperandAnswer;
 ghost use mathlib.Core.Path.{_≡_};
 ghost use mathlib.Core.Bool.{Bool, true, false, not, _&&_};
 ghost use mathlib.Core.List.{List, [], _∷_, _++_};
-ghost use Prim.Native.Nat.{ℕ, _+_, _*_, _<_, _≤_, _^_};
+ghost use Prim.Native.Nat.{ℕ, _+_, _*_, _<_, _≤_};
 ghost use lib.Dec.{eqb, ltb};
 ghost use lib.ListN.{length};
-ghost use Rattle.numbers.specs.Numbers.{refusedTableLength, refusedArgument, refusedOperandLength, accessAnswerSize, groupEntries, done};
+ghost use Rattle.numbers.specs.Numbers.{refusedTableLength, refusedArgument, refusedOperandLength, accessAnswerSize};
 ghost use Rattle.registers.specs.Rules.{firstBroken};
-ghost use Rattle.register_words.specs.Sdr1.{sdr1Shape, tableLength, maskOnes};
+ghost use Rattle.register_words.specs.Sdr1.{tableLength, maskOnes};
 ghost use Rattle.register_words.specs.Block.{blWidth};
-ghost use Rattle.registers.specs.Set.{isPage, isLong, blockPairs, sdr1Of, registerRules, checkWords, setWords};
-ghost use Rattle.register_pages.specs.Quick.{everywhere, TellsBlocks};
-ghost use Rattle.matches.specs.Search.{summary};
-ghost use Rattle.tables.specs.Matches.{Match};
-ghost use Rattle.protection.specs.Access.{relocated};
+ghost use Rattle.registers.specs.Set.{isPage, isLong, blockPairs, coveringPair, sdr1Of, registerRules, registerWords, setWords};
+ghost use Rattle.groups.specs.Page.{InRange};
+ghost use Rattle.groups.specs.Hash.{TableOf, SomeTable};
+ghost use Rattle.protection.specs.Access.{userMode, relocated, sideOf};
 ghost use Rattle.translation.specs.Steps.{blockOutcome, beforeSearch, answerOf};
-ghost use Rattle.translation.specs.Decision.{decided, decisionOf};
-ghost use Rattle.translation.specs.Operand.{firstBytes, partStart};
-ghost use Rattle.translation.specs.declared.Early.the-variants.{Search};
+ghost use Rattle.translation.specs.Decision.{decisionOf};
+ghost use Rattle.translation.specs.Operand.{partStart, operandAnswer};
+ghost use Rattle.translation.specs.declared.Outcome.the-variants.{Real};
+ghost use Rattle.translation.specs.declared.Wanted.{Wanted};
+ghost use Rattle.cache.specs.Cache.{cacheSize};
 ghost use Rattle.calls.specs.Request.{access};
 ghost use Rattle.calls.specs.Rules.{operandInRange};
 ghost use Rattle.calls.specs.Answers.{accessAnswer};
-ghost use Rattle.calls.specs.OnBytes.{ended, searched, onBytes};
-ghost use Rattle.table_access.specs.Part.{marked, withoutEntry, withEntry, ByPart, partEarly, wholeTold, tableLeft, EndsAs};
+ghost use Rattle.calls.specs.OnBytes.{ended, wantedPage, onBytes};
+ghost use Rattle.cached_calls.specs.Cached.{onCached};
+ghost use Rattle.table_access.specs.Part.{callOf, SearchTold, PageAndTable, CacheOrNone, nothingFound, foundIn, foundBy, withoutPage, byOutcome, byFound, begun, partBy, takenBy, partEarly, EndsAs};
 
 // What an access asks for.
 pub struct Access {
@@ -37,25 +36,55 @@ pub struct Access {
     pub length: u32,
 }
 
-// What a part of an operand answers, what decided it, and the entry that it marks where the operand is done: its group, its number (8 where there
-// is none to mark) and its second word.
+// The entry number that stands for a hit, and for no entry: nothing is marked there.
+pub const NO_ENTRY: u32 = 8;
+
+// What the cache or the search finds of a page: whether there is a match, whether its matches contradict, the first match's second word, and the
+// numbers of its group and its entry.
+pub struct Found {
+    pub any: bool,
+    pub differs: bool,
+    pub second: u32,
+    pub group: u32,
+    pub entry: u32,
+}
+
+impl Found {
+    // No match.
+    pub fn nothing() -> Self
+        ensures { λ r. ⌜ r ≡ nothingFound ⌝ }
+    {
+        Self {
+            any: false,
+            differs: false,
+            second: 0,
+            group: 0,
+            entry: NO_ENTRY,
+        }
+    }
+}
+
+// What a part of an operand answers, what decided it, and what was found of its page, whose entry is marked where the operand is done.
 pub struct Part {
     pub answer: translation::Answer,
     pub decision: translation::decision::Decision,
-    pub group: usize,
-    pub entry: usize,
-    pub second: u32,
+    pub found: Found,
 }
 
-// The first broken rule after the lent lengths, or 0: the arguments' ranges, then the register page, then the table's length. `begins` is what the
-// quick test of the page answered; where it did not decide, the exact check does.
-pub fn refusal(registers: &[u8], begins: u64, access: Access, lent: usize) -> u32
-    requires { ⌜ (isPage (length (now registers)) ≡ true)
-        × ((begins ≡ everywhere → ⊥) → checkWords (blockPairs true) (blWidth (isLong (length (now registers)))) (setWords (now registers)) ≡ 0) ⌝ }
+// What the steps before the search come to: the part, or the page that it wants.
+pub enum Begun {
+    Told(Part),
+    Wants(translation::Wanted),
+}
+
+// The first broken rule after the lent lengths, or 0: the arguments' ranges, then the register page, then the table's length.
+pub fn refusal(registers: &[u8], access: Access, lent: usize) -> u32
+    requires { ⌜ isPage (length (now registers)) ≡ true ⌝ }
     ensures { λ r. ⌜ r ≡ firstBroken ((not (ltb (access .mode) 8 && ltb (access .kind) 3), refusedArgument)
         ∷ (not (operandInRange (access .length)), refusedOperandLength)
-        ∷ registerRules (blockPairs true) (blWidth (isLong (length (now (registers .entry))))) (setWords (now (registers .entry)))
-        ++ ((not (eqb lent (tableLength (sdr1Of (setWords (now (registers .entry)))))), refusedTableLength) ∷ [])) ⌝ }
+        ∷ registerRules (blockPairs (isLong (length (now (registers .entry))))) (blWidth (isLong (length (now (registers .entry)))))
+        (registerWords (now (registers .entry)))
+        ++ ((not (eqb lent (tableLength (sdr1Of (registerWords (now (registers .entry)))))), refusedTableLength) ∷ [])) ⌝ }
 {
     if !((access.mode < 8) & (access.kind < 3)) {
         return numbers::REFUSED_ARGUMENT;
@@ -63,11 +92,9 @@ pub fn refusal(registers: &[u8], begins: u64, access: Access, lent: usize) -> u3
     if !((0 < access.length) & (access.length <= numbers::LONGEST_OPERAND)) {
         return numbers::REFUSED_OPERAND_LENGTH;
     }
-    if begins == register_pages::EVERYWHERE {
-        let broken = register_pages::exact_check(registers);
-        if broken != numbers::DONE {
-            return broken;
-        }
+    let broken = register_pages::check(registers);
+    if broken != numbers::DONE {
+        return broken;
     }
     if lent != register_words::table_length(register_pages::sdr1(registers)) {
         return numbers::REFUSED_TABLE_LENGTH;
@@ -75,155 +102,192 @@ pub fn refusal(registers: &[u8], begins: u64, access: Access, lent: usize) -> u3
     numbers::DONE
 }
 
-// What the matches that a search noted come to.
-pub fn searched_of(search: matches::Summary) -> translation::Searched
-    ensures { λ r. ⌜ ((ms : List Match) → search ≡ summary ms → r ≡ searched ms) ⌝ }
+// What the search of a page's two groups told of it: the first match.
+pub fn found_in(page: groups::Located, told: matches::Told) -> Found
+    requires { ⌜ ((sdr1 : ℕ) × ((t : List ℕ) × ((wanted : Wanted) × SearchTold sdr1 t wanted page told))) ⌝ }
+    ensures { λ r. ⌜ ((sdr1 : ℕ) (t : List ℕ) (wanted : Wanted) → SearchTold sdr1 t wanted page told → r ≡ foundIn (maskOnes sdr1) t wanted) ⌝ }
 {
-    if !search.found() {
-        return translation::Searched::Nothing;
+    if !told.any() {
+        return Found::nothing();
     }
-    if search.differs {
-        return translation::Searched::Contradicting;
-    }
-    translation::Searched::At(search.second)
-}
-
-// Steps 4 to 6 of a part at an address: the search of its page's groups. The entry to mark is the first match.
-fn by_page(table: &[u8], sdr1: u32, kind: u32, address: u32, wanted: translation::Wanted) -> Part
-    requires { ⌜ (sdr1Shape sdr1 ≡ true) × (length (now table) ≡ tableLength sdr1) × (wanted .vsid < 2 ^ 24) × (wanted .index < 2 ^ 16) ⌝ }
-    ensures { λ r. ⌜ ByPart (maskOnes sdr1) (now (table .entry)) kind address (Search wanted) r ⌝ }
-{
-    let at = locate(table.len(), wanted.vsid, wanted.index);
-    let from = at.primary * numbers::GROUP_SIZE;
-    let to = from + numbers::GROUP_SIZE;
-    let next = at.secondary * numbers::GROUP_SIZE;
-    let end = next + numbers::GROUP_SIZE;
-    let place = matches::find(&table[from..to], &table[next..end], wanted.vsid, at.api);
-    let search = matches::search_at(table, at.primary, at.secondary, wanted.vsid, at.api, place);
-    let outcome = translation::after_search(kind, wanted.key, searched_of(search));
-    let group = at.group(search.in_secondary());
-    let entry = search.entry();
-    let used = translation::decision::Used {
-        key: wanted.key,
-        group: group as u32,
-        entry: entry as u32,
-    };
-    Part {
-        answer: translation::answer_of(kind, address, outcome),
-        decision: translation::decision::decision_of(used, outcome),
-        group,
-        entry,
-        second: search.second,
+    Found {
+        any: true,
+        differs: told.differs(),
+        second: told.second,
+        group: page.group(told.in_secondary()) as u32,
+        entry: told.entry() as u32,
     }
 }
 
-// The steps of a part at an address.
-pub fn part_of(
-    table: &[u8],
-    registers: &[u8],
-    begins: u64,
-    mode: u32,
-    kind: u32,
-    address: u32,
-) -> Part
-    requires { ⌜ (isPage (length (now registers)) ≡ true) × TellsBlocks (setWords (now registers)) begins
-        × (sdr1Shape (sdr1Of (setWords (now registers))) ≡ true) × (length (now table) ≡ tableLength (sdr1Of (setWords (now registers)))) ⌝ }
-    ensures { λ r. ⌜ ByPart (maskOnes (sdr1Of (setWords (now (registers .entry))))) (now (table .entry)) kind address
-        (beforeSearch (blockPairs true) (blWidth true) (setWords (now (registers .entry))) mode kind address) r ⌝ }
+// Step 4 with a cache: a hit is what the search finds. It shows the group that the loaded H names.
+fn cached_search(table: &[u8], cache: &[u8], kind: u32, wanted: translation::Wanted) -> Found
+    requires { ⌜ SomeTable (length (now table)) × InRange (wantedPage wanted) × CacheOrNone (now cache) ⌝ }
+    ensures { λ r. ⌜ ((sdr1 : ℕ) → TableOf sdr1 (length (now (table .entry)))
+        → r ≡ foundBy (maskOnes sdr1) kind (now (table .entry)) (now (cache .entry)) wanted) ⌝ }
 {
-    match translation::before_search(registers, begins, mode, kind, address) {
-        translation::Early::Decided(outcome) => Part {
-            answer: translation::answer_of(kind, address, outcome),
-            decision: translation::decision::decision_of(
-                translation::decision::Used::nothing(),
-                outcome,
-            ),
-            group: 0,
-            entry: numbers::GROUP_ENTRIES,
-            second: 0,
-        },
-        translation::Early::Search(wanted) => by_page(
-            table,
-            register_pages::sdr1(registers),
-            kind,
-            address,
-            wanted,
-        ),
+    let page = groups::locate(table.len(), wanted.vsid, wanted.index);
+    if cache.len() == cache::SIZE {
+        let store = protection::is_store(kind);
+        let hit = cache::find(cache, store, wanted.vsid, wanted.index);
+        if hit.found {
+            return Found {
+                any: true,
+                differs: false,
+                second: hit.second,
+                group: page.group(entry::is_secondary(hit.first)) as u32,
+                entry: NO_ENTRY,
+            };
+        }
     }
+    let primary = matches::in_primary(table, page);
+    let told = matches::in_secondary(table, page, primary);
+    found_in(page, told)
 }
 
-// A part that no entry decides.
-pub fn without_entry(answer: translation::Answer, rule: u32, detail: u32) -> Part
-    ensures { λ r. ⌜ r ≡ withoutEntry answer (decided rule detail) ⌝ }
+// A part that no page decides.
+pub fn without_page(answer: translation::Answer, rule: u32, detail: u32) -> Part
+    ensures { λ r. ⌜ r ≡ withoutPage rule detail answer ⌝ }
 {
     Part {
         answer,
         decision: translation::decision::decided(rule, detail),
-        group: 0,
-        entry: numbers::GROUP_ENTRIES,
-        second: 0,
+        found: Found::nothing(),
     }
 }
 
-// Step 2 of a part, by the block of a pair that covers its address.
-pub fn by_block(registers: &[u8], kind: u32, address: u32, pair: usize) -> Part
-    requires { ⌜ (isPage (length (now registers)) ≡ true) × (pair < blockPairs (isLong (length (now registers)))) ⌝ }
-    ensures { λ r. ⌜ r ≡ withoutEntry (answerOf kind address (blockOutcome (blockPairs true) (blWidth true) (setWords (now (registers .entry))) kind address pair))
-        (decisionOf (record { key = false; group = 0; entry = 0 })
-        (blockOutcome (blockPairs true) (blWidth true) (setWords (now (registers .entry))) kind address pair)) ⌝ }
+// Step 1: in real mode the address is its own.
+pub fn real_part(address: u32) -> Part
+    ensures { λ r. ⌜ ((kind : ℕ) → r ≡ byOutcome kind address Real) ⌝ }
 {
-    let upper = register_pages::upper(registers, kind != numbers::FETCH, pair);
-    let lower = register_pages::lower(registers, kind != numbers::FETCH, pair);
-    if !protection::block_allows(lower & 3, kind) {
+    let real = translation::done_answer(address, numbers::ATTRIBUTES_REAL, address);
+    without_page(real, numbers::RULE_REAL, 0)
+}
+
+// Step 2, by the block of a pair that covers the address.
+fn by_block(registers: &[u8], kind: u32, address: u32, pair: usize) -> Part
+    requires { ⌜ (isPage (length (now registers)) ≡ true) × (pair < blockPairs (isLong (length (now registers)))) ⌝ }
+    ensures { λ r. ⌜ r ≡ byOutcome kind address (blockOutcome (blockPairs true) (blWidth true) (setWords (now (registers .entry))) kind address pair) ⌝ }
+{
+    let side = protection::side_of(kind);
+    let upper = register_pages::upper(registers, side, pair);
+    let lower = register_pages::lower(registers, side, pair);
+    if !protection::block_allows(register_words::block_pp(lower), kind) {
         let fault = translation::fault_answer(protection::PROTECTION, kind, address);
-        return without_entry(fault, numbers::RULE_BLOCK, pair as u32);
+        return without_page(fault, numbers::RULE_BLOCK, pair as u32);
     }
     let physical = register_words::block_physical(upper, lower, address);
-    let done = translation::done_answer(physical, (lower >> 3) & 0xF, address);
-    without_entry(done, numbers::RULE_BLOCK, pair as u32)
+    let attributes = register_words::block_attributes(lower);
+    let done = translation::done_answer(physical, attributes, address);
+    without_page(done, numbers::RULE_BLOCK, pair as u32)
 }
 
-// Steps 5 and 6 of a part, by the entry that its page's search found.
-pub fn by_entry(kind: u32, address: u32, key: bool, group: usize, entry: usize, second: u32) -> Part
-    requires { ⌜ (group < 2 ^ 32) × (entry < groupEntries) ⌝ }
-    ensures { λ r. ⌜ r ≡ withEntry kind address key group entry second ⌝ }
+// Steps 2 and 3 of a translated part, by the pair that covers the address: a block, else a fetch with N = 1, else the search.
+pub fn before_search(registers: &[u8], mode: u32, kind: u32, address: u32, pair: usize) -> Begun
+    requires { ⌜ (isPage (length (now registers)) ≡ true) × (relocated mode kind ≡ true)
+        × (pair ≡ coveringPair (blockPairs true) (blWidth true) (setWords (now registers)) (sideOf kind) (userMode mode) address) ⌝ }
+    ensures { λ r. ⌜ r ≡ begun kind address (beforeSearch (blockPairs true) (blWidth true) (setWords (now (registers .entry))) mode kind address) ⌝ }
 {
+    if pair < registers::BLOCK_PAIRS {
+        return Begun::Told(by_block(registers, kind, address, pair));
+    }
+    let segment = register_pages::segment(registers, (address >> 28) as usize);
+    if protection::is_fetch(kind) & register_words::no_execute(segment) {
+        let fault = translation::fault_answer(protection::NO_FETCH, kind, address);
+        return Begun::Told(without_page(fault, numbers::RULE_NO_EXECUTE, 0));
+    }
+    let user = protection::user_mode(mode);
+    Begun::Wants(translation::wanted_of(user, segment, address))
+}
+
+// Steps 4 to 6, by what was found of the page.
+pub fn after_search(kind: u32, address: u32, key: bool, found: Found) -> Part
+    ensures { λ r. ⌜ r ≡ byFound kind address key found ⌝ }
+{
+    if !found.any {
+        return Part {
+            answer: translation::fault_answer(protection::NO_MATCH, kind, address),
+            decision: translation::decision::decided(numbers::RULE_NO_MATCH, 0),
+            found,
+        };
+    }
+    if found.differs {
+        return Part {
+            answer: translation::refused_answer(numbers::REFUSED_CONTRADICTION),
+            decision: translation::decision::decided(0, 0),
+            found,
+        };
+    }
+    let second = found.second;
+    let wimg = entry::wimg_of(second);
     let used = translation::decision::Used {
         key,
-        group: group as u32,
-        entry: entry as u32,
+        group: found.group,
+        entry: found.entry,
     };
-    if (kind == numbers::FETCH) & ((second >> 3) & 1 == 1) {
+    if protection::is_fetch(kind) & protection::is_guarded(wimg) {
         return Part {
             answer: translation::fault_answer(protection::NO_FETCH, kind, address),
             decision: translation::decision::by_entry(numbers::RULE_GUARDED, 0, used),
-            group,
-            entry,
-            second,
+            found,
         };
     }
     let detail = translation::decision::key_and_pp(key, second);
-    if !protection::page_allows(key, second & 3, kind) {
+    if !protection::page_allows(key, entry::pp_of(second), kind) {
         return Part {
             answer: translation::fault_answer(protection::PROTECTION, kind, address),
             decision: translation::decision::by_entry(numbers::RULE_PROTECTION, detail, used),
-            group,
-            entry,
-            second,
+            found,
         };
     }
     let physical = entry::physical_address(second, address);
     Part {
-        answer: translation::done_answer(physical, (second >> 3) & 0xF, address),
+        answer: translation::done_answer(physical, wimg, address),
         decision: translation::decision::by_entry(numbers::RULE_DONE, detail, used),
-        group,
-        entry,
-        second,
+        found,
+    }
+}
+
+// Steps 2 to 6 of a translated part at an address.
+fn part_of(registers: &[u8], table: &[u8], cache: &[u8], mode: u32, kind: u32, address: u32) -> Part
+    requires { ⌜ PageAndTable (now registers) (now table) × CacheOrNone (now cache) × (relocated mode kind ≡ true) ⌝ }
+    ensures { λ r. ⌜ r ≡ partBy kind address (foundBy (maskOnes (sdr1Of (setWords (now (registers .entry))))) kind (now (table .entry)) (now (cache .entry)))
+        (beforeSearch (blockPairs true) (blWidth true) (setWords (now (registers .entry))) mode kind address) ⌝ }
+{
+    let side = protection::side_of(kind);
+    let user = protection::user_mode(mode);
+    let pair = register_pages::covering_pair(registers, side, user, address);
+    match before_search(registers, mode, kind, address, pair) {
+        Begun::Told(part) => part,
+        Begun::Wants(wanted) => {
+            let found = cached_search(table, cache, kind, wanted);
+            after_search(kind, address, wanted.key, found)
+        }
+    }
+}
+
+// Step 7 of a part of a done operand: R, and C on a store, in the entry that did it, and its page loaded where a cache is lent.
+fn take(table: &mut [u8], cache: &mut [u8], kind: u32, address: u32, found: Found)
+    requires { ⌜ (64 * found .group + 64 ≤ length (now table)) × CacheOrNone (now cache) ⌝ }
+    ensures { λ _. ⌜ (now (table .exit), now (cache .exit)) ≡ takenBy kind address found (now (table .entry), now (cache .entry)) ⌝ }
+{
+    let entry = found.entry as usize;
+    if entry < numbers::GROUP_ENTRIES {
+        let group = found.group as usize;
+        let first = words::read_word(
+            table,
+            group * numbers::GROUP_SIZE + numbers::ENTRY_SIZE * entry,
+        );
+        let second = entry::with_marks(found.second, true, protection::is_store(kind));
+        groups::put_entry(table, group, entry, first, second);
+        if cache.len() == cache::SIZE {
+            let vsid = entry::vsid_of(first);
+            cache::load(cache, vsid, entry::page_index(address), first, second);
+        }
     }
 }
 
 // Writes the twelve words of what an operand answers, and hands its result back.
-pub fn tell(answer: &mut [u8], told: translation::operand::OperandAnswer) -> u32
+pub fn tell(answer: &mut [u8], told: OperandAnswer) -> u32
     requires { ⌜ length (now answer) ≡ accessAnswerSize ⌝ }
     ensures { λ r. ⌜ (r ≡ told .part .result) × (now (answer .exit) ≡ accessAnswer told) ⌝ }
 {
@@ -247,124 +311,93 @@ pub fn tell(answer: &mut [u8], told: translation::operand::OperandAnswer) -> u32
     part.result
 }
 
-// Step 7 of a part of a done operand: R, and C on a store, in the entry that did it.
-pub fn mark(table: &mut [u8], kind: u32, part: Part)
-    requires { ⌜ 64 * part .group + 64 ≤ length (now table) ⌝ }
-    ensures { λ _. ⌜ now (table .exit) ≡ marked kind part (now (table .entry)) ⌝ }
-{
-    if part.entry < numbers::GROUP_ENTRIES {
-        let word = entry::with_marks(part.second, true, kind == numbers::STORE);
-        groups::put_second(table, part.group, part.entry, word);
-    }
-}
-
-// An operand over a page edge whose first part is done: the second part by itself, and both marks when it is done too.
-fn over_edge(
-    registers: &[u8],
-    begins: u64,
-    access: Access,
-    first: Part,
-    bytes: u32,
-    table: &mut [u8],
-    answer: &mut [u8],
-) -> u32
-    requires { ⌜ (isPage (length (now registers)) ≡ true) × TellsBlocks (setWords (now registers)) begins × (relocated (access .mode) (access .kind) ≡ true)
-        × (sdr1Shape (sdr1Of (setWords (now registers))) ≡ true) × (length (now table) ≡ tableLength (sdr1Of (setWords (now registers))))
-        × (bytes ≡ firstBytes (access .address) (access .length)) × (bytes < access .length)
-        × ByPart (maskOnes (sdr1Of (setWords (now registers)))) (now table) (access .kind) (partStart (access .address) (access .length) false)
-        (partEarly (setWords (now registers)) access false) first
-        × (first .answer .result ≡ done) × (length (now answer) ≡ accessAnswerSize) ⌝ }
-    ensures { λ r. ⌜ EndsAs (setWords (now (registers .entry))) access (maskOnes (sdr1Of (setWords (now (registers .entry))))) (now (table .entry))
-        r (now (table .exit)) (now (answer .exit)) ⌝ }
-{
-    let start = translation::operand::next_start(access.address, bytes);
-    let second = second::second_part(table, registers, begins, access.mode, access.kind, start);
-    let further = second.answer;
-    if further.result != numbers::DONE {
-        let stopped = translation::operand::stopped(further, second.decision);
-        return tell(answer, stopped);
-    }
-    mark(table, access.kind, first);
-    mark(table, access.kind, second);
-    let own = first.answer;
-    let both = translation::operand::across_edge(
-        own,
-        first.decision,
-        further,
-        bytes,
-        access.length,
-    );
-    tell(answer, both)
-}
-
-// The parts of a translated operand whose arguments are not refused.
+// The parts of a translated operand that is not refused: the first page's, and then the next page's where the operand goes on there.
 fn by_parts(
     registers: &[u8],
-    begins: u64,
     access: Access,
     table: &mut [u8],
+    cache: &mut [u8],
     answer: &mut [u8],
 ) -> u32
-    requires { ⌜ (isPage (length (now registers)) ≡ true) × TellsBlocks (setWords (now registers)) begins × (relocated (access .mode) (access .kind) ≡ true)
-        × (sdr1Shape (sdr1Of (setWords (now registers))) ≡ true) × (length (now table) ≡ tableLength (sdr1Of (setWords (now registers))))
+    requires { ⌜ PageAndTable (now registers) (now table) × CacheOrNone (now cache) × (relocated (access .mode) (access .kind) ≡ true)
         × (length (now answer) ≡ accessAnswerSize) ⌝ }
-    ensures { λ r. ⌜ EndsAs (setWords (now (registers .entry))) access (maskOnes (sdr1Of (setWords (now (registers .entry))))) (now (table .entry))
-        r (now (table .exit)) (now (answer .exit)) ⌝ }
+    ensures { λ r. ⌜ EndsAs access (maskOnes (sdr1Of (setWords (now (registers .entry))))) (now (table .entry), now (cache .entry))
+        (partEarly (setWords (now (registers .entry))) access) r (now (table .exit), now (cache .exit)) (now (answer .exit)) ⌝ }
 {
-    let first = first::first_part(
-        table,
-        registers,
-        begins,
-        access.mode,
-        access.kind,
-        access.address,
-    );
-    let own = first.answer;
-    if own.result != numbers::DONE {
-        let stopped = translation::operand::stopped(own, first.decision);
-        return tell(answer, stopped);
-    }
+    let kind = access.kind;
     let bytes = translation::operand::first_bytes(access.address, access.length);
-    if bytes < access.length {
-        return over_edge(registers, begins, access, first, bytes, table, answer);
+    let mut address = access.address;
+    let mut further = false;
+    // The first part, once the second is asked for.
+    let mut first = real_part(address);
+    loop {
+        let part = part_of(registers, table, cache, access.mode, kind, address);
+        let own = part.answer;
+        if own.result != numbers::DONE {
+            let stopped = translation::operand::stopped(own, part.decision);
+            return tell(answer, stopped);
+        }
+        if further {
+            take(table, cache, kind, access.address, first.found);
+            take(table, cache, kind, address, part.found);
+            let both = translation::operand::across_edge(
+                first.answer,
+                first.decision,
+                own,
+                bytes,
+                access.length,
+            );
+            return tell(answer, both);
+        }
+        if access.length <= bytes {
+            take(table, cache, kind, address, part.found);
+            let within = translation::operand::within(own, part.decision, access.length);
+            return tell(answer, within);
+        }
+        first = part;
+        address = translation::operand::next_start(address, bytes);
+        further = true;
     }
-    mark(table, access.kind, first);
-    let within = translation::operand::within(own, first.decision, access.length);
-    tell(answer, within)
 }
 
-// An operand that is not translated: each part's address is its own, and nothing is marked.
-pub fn untranslated(access: Access) -> translation::operand::OperandAnswer
-    requires { ⌜ relocated (access .mode) (access .kind) ≡ false ⌝ }
-    ensures { λ r. ⌜ ((words : List ℕ) (k : ℕ) (t : List ℕ) → (r ≡ wholeTold words access k t) × (t ≡ tableLeft words access k t)) ⌝ }
+// An operand in real mode: each part's address is its own, and nothing is marked.
+fn untranslated(address: u32, length: u32) -> OperandAnswer
+    ensures { λ r. ⌜ ((kind : ℕ) → r ≡ operandAnswer address length (λ second. answerOf kind (partStart address length second) Real)
+        (λ second. decisionOf (record { key = false; group = 0; entry = 0 }) Real)) ⌝ }
 {
-    let real = translation::Outcome::Real;
-    let none = translation::decision::decision_of(translation::decision::Used::nothing(), real);
-    let first = translation::answer_of(access.kind, access.address, real);
-    let bytes = translation::operand::first_bytes(access.address, access.length);
-    if bytes < access.length {
-        let start = translation::operand::next_start(access.address, bytes);
-        let second = translation::answer_of(access.kind, start, real);
-        return translation::operand::across_edge(first, none, second, bytes, access.length);
+    let first = real_part(address);
+    let bytes = translation::operand::first_bytes(address, length);
+    if bytes < length {
+        let second = real_part(translation::operand::next_start(address, bytes));
+        return translation::operand::across_edge(
+            first.answer,
+            first.decision,
+            second.answer,
+            bytes,
+            length,
+        );
     }
-    translation::operand::within(first, none, access.length)
+    translation::operand::within(first.answer, first.decision, length)
 }
 
-// One access whose lent lengths are right: its answer is written and the marks are made. The quick test reads the register page once.
-pub fn translate(registers: &[u8], asked: Access, table: &mut [u8], answer: &mut [u8]) -> u32
-    requires { ⌜ (isPage (length (now registers)) ≡ true) × (length (now answer) ≡ accessAnswerSize) ⌝ }
-    ensures { λ r. ⌜ ended r (now (table .exit)) (now (answer .exit))
-        ≡ onBytes (access (record {
-          registers = now (registers .entry);
-          mode = asked .mode;
-          kind = asked .kind;
-          address = asked .address;
-          length = asked .length;
-          answer = now (answer .entry);
-        })) (now (table .entry)) ⌝ }
+// One access whose lent lengths are right: its answer is written, the marks are made, and what went to the table is loaded. Where no cache is lent, it
+// has no bytes.
+pub fn translate(
+    registers: &[u8],
+    asked: Access,
+    table: &mut [u8],
+    cache: &mut [u8],
+    answer: &mut [u8],
+) -> u32
+    requires { ⌜ (isPage (length (now registers)) ≡ true) × CacheOrNone (now cache) × (length (now answer) ≡ accessAnswerSize) ⌝ }
+    ensures cached { λ r. ⌜ (length (now (cache .entry)) ≡ cacheSize
+        → ended r (now (table .exit), now (cache .exit)) (now (answer .exit))
+        ≡ onCached (callOf (now (registers .entry)) asked (now (answer .entry))) (now (table .entry), now (cache .entry))) ⌝ }
+    ensures uncached { λ r. ⌜ (length (now (cache .entry)) ≡ 0
+        → ended r (now (table .exit)) (now (answer .exit))
+        ≡ onBytes (access (callOf (now (registers .entry)) asked (now (answer .entry)))) (now (table .entry))) ⌝ }
 {
-    let begins = register_pages::quick_page(registers);
-    let number = refusal(registers, begins, asked, table.len());
+    let number = refusal(registers, asked, table.len());
     if number != numbers::DONE {
         let refused = translation::refused_answer(number);
         let none = translation::decision::decided(0, 0);
@@ -372,8 +405,8 @@ pub fn translate(registers: &[u8], asked: Access, table: &mut [u8], answer: &mut
         return tell(answer, stopped);
     }
     if !protection::is_relocated(asked.mode, asked.kind) {
-        let real = untranslated(asked);
+        let real = untranslated(asked.address, asked.length);
         return tell(answer, real);
     }
-    by_parts(registers, begins, asked, table, answer)
+    by_parts(registers, asked, table, cache, answer)
 }

@@ -1,8 +1,6 @@
 // The rule that decided a part of an operand, and what it went by.
-use crate::Outcome;
 ghost use mathlib.Core.Path.{_≡_};
-ghost use mathlib.Core.Bool.{false};
-ghost use Rattle.translation.specs.Decision.{decided, byEntry, keyAndPP, decisionOf};
+ghost use Rattle.translation.specs.Decision.{decided, byEntry, keyAndPP};
 
 // The number of the rule; the block's number in rule 1, key × 4 + PP in rules 5 and 6; the numbers of the group and the entry in rules 4 to 6.
 pub struct Decision {
@@ -17,19 +15,6 @@ pub struct Used {
     pub key: bool,
     pub group: u32,
     pub entry: u32,
-}
-
-impl Used {
-    // What a part goes by that no search decides.
-    pub fn nothing() -> Self
-        ensures { λ r. ⌜ r ≡ record { key = false; group = 0; entry = 0 } ⌝ }
-    {
-        Self {
-            key: false,
-            group: 0,
-            entry: 0,
-        }
-    }
 }
 
 // A decision in which no entry plays a part.
@@ -60,27 +45,6 @@ pub fn by_entry(rule: u32, detail: u32, used: Used) -> Decision
 pub fn key_and_pp(key: bool, second: u32) -> u32
     ensures { λ r. ⌜ r ≡ keyAndPP key second ⌝ }
 {
-    let pp = second % 4;
+    let pp = entry::pp_of(second);
     if key { 4 + pp } else { pp }
-}
-
-// The decision that an outcome shows.
-pub fn decision_of(used: Used, outcome: Outcome) -> Decision
-    ensures { λ r. ⌜ r ≡ decisionOf used outcome ⌝ }
-{
-    match outcome {
-        Outcome::Real => decided(numbers::RULE_REAL, 0),
-        Outcome::Block(pair, _, _) => decided(numbers::RULE_BLOCK, pair),
-        Outcome::BlockProtection(pair) => decided(numbers::RULE_BLOCK, pair),
-        Outcome::NoExecute => decided(numbers::RULE_NO_EXECUTE, 0),
-        Outcome::NoMatch => decided(numbers::RULE_NO_MATCH, 0),
-        Outcome::Guarded => by_entry(numbers::RULE_GUARDED, 0, used),
-        Outcome::Protection(second) => by_entry(
-            numbers::RULE_PROTECTION,
-            key_and_pp(used.key, second),
-            used,
-        ),
-        Outcome::Done(second) => by_entry(numbers::RULE_DONE, key_and_pp(used.key, second), used),
-        Outcome::Refused(_) => decided(0, 0),
-    }
 }

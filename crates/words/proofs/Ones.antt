@@ -1,16 +1,16 @@
 -- The laws of `size` and `lowOnes`: one step of halving, and that `lowOnes` holds exactly for the fields 2 ^ k - 1.
-use mathlib.Core.Path.{_≡_, refl, sym, ap, _∙_}
+use mathlib.Core.Path.{_≡_, refl}
 use mathlib.Core.Bool.{Bool, true, false}
 use mathlib.Core.Logic.{⊎-elim}
-use Prim.Native.Nat.{ℕ, zero, suc, _-_, _*_, _/_, _%_, _^_, _≤_, _<_}
+use Prim.Native.Nat.{ℕ, zero, suc, _-_, _/_, _^_, _≤_, _<_}
 use native.Mathlib.Nat.{pow-suc}
 use native.Mathlib.Omega.{arith}
 use lib.Pow.{pow-pos, pow-mono, pow-lt}
 use lib.Dec.{leb}
 use lib.Ieee.{size}
 use lib.Ieee.Digits.{size-lt, size-reaches}
-use borrow.Author.Tests.{eq-eqb, ne-eqb, eqb-true, leb-true, leb-false}
-use Rattle.words.proofs.Tests.{eqb-same, three}
+use borrow.Author.Tests.{eq-eqb, eqb-true, leb-true, leb-false}
+use Rattle.words.proofs.Tests.{three}
 use Rattle.words.specs.Ones.{lowOnes}
 
 module _ (f : ℕ) where
@@ -30,23 +30,6 @@ size-step f h = size-is f (suc (size (f / 2))) (omega (arith, size-lt (f / 2), p
     reaches : (m : ℕ) → m < suc (size (f / 2)) → 2 ^ m ≤ f
     reaches zero l = omega arith
     reaches (suc m) l = omega (arith, size-reaches (f / 2) m (omega arith), pow-suc 2 m)
-
--- an even field that is not 0 has a zero below a one
-pub ones-even : (f : ℕ) → (f ≡ 0 → ⊥) → f % 2 ≡ 0 → false ≡ lowOnes f
-unfolding lowOnes
-ones-even f h even =
-    sym (ne-eqb f (2 ^ size f - 1)
-    (λ e. omega (arith, simp (size-step f h) at e, pow-suc 2 (size (f / 2)), pow-pos (size (f / 2)))))
-
--- the lowest bit of an odd field says nothing of the rest
-pub ones-odd : (f : ℕ) → f % 2 ≡ 1 → lowOnes (f / 2) ≡ lowOnes f
-unfolding lowOnes
-ones-odd f odd =
-    let d = size (f / 2) in
-    let s : size f ≡ suc d = size-step f (λ e. omega arith) in
-    let p : 2 ^ size f ≡ 2 ^ d * 2 = ap (λ (k : ℕ). 2 ^ k) s ∙ pow-suc 2 d in
-    let q : 0 < 2 ^ d = pow-pos d in
-    eqb-same (f / 2) (2 ^ d - 1) f (2 ^ size f - 1) (λ e. omega arith) (λ e. omega arith)
 
 -- 2 ^ k - 1 has k bits
 pub size-ones : (k : ℕ) → size (2 ^ k - 1) ≡ k

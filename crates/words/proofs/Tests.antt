@@ -1,5 +1,5 @@
 -- Laws of Bool tests that every crate's proofs use: conjunctions taken apart, equal tests, a case by a test, the order of two numbers.
-use mathlib.Core.Bool.{Bool, true, false, cond, _&&_, _||_}
+use mathlib.Core.Bool.{Bool, true, false, cond, _&&_}
 use mathlib.Core.Logic.{_⊎_, inl, inr}
 use mathlib.Core.Path.{_≡_, refl, sym}
 use Prim.Native.Nat.{ℕ, _≤_, _<_}
@@ -54,8 +54,3 @@ three k n = first (ltb k n) refl
 pub by-test : {X : Type 0} (t : Bool) → (t ≡ true → X) → (t ≡ false → X) → X
 by-test true holds fails = holds refl
 by-test false holds fails = fails refl
-
--- of two tests joined by or that holds, one holds
-pub one-of : (a b : Bool) → (a || b) ≡ true → (a ≡ true) ⊎ (b ≡ true)
-one-of true b e = inl refl
-one-of false b e = inr e

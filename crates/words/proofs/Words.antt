@@ -196,11 +196,6 @@ unfoldable pub written : List ℕ → ℕ → List ℕ → List ℕ
 written s at [] = s
 written s at (w ∷ ws) = written (withWord s at w) (at + 4) ws
 
-pub length-bytesOf : (ws : List ℕ) → length (bytesOf ws) ≡ 4 * length ws
-unfolding bytesOf
-length-bytesOf [] = refl
-length-bytesOf (w ∷ ws) = length-append (wordBytes w) (bytesOf ws) ∙ omega (arith, length-bytesOf ws, length-wordBytes w)
-
 stored : (w : ℕ) (s : List ℕ) (at : ℕ) → at + length (wordBytes w) ≤ length s
     → withWord s at w ≡ take at s ++ wordBytes w ++ drop (at + length (wordBytes w)) s
 unfolding withWord

@@ -11,7 +11,7 @@ use lib.Ieee.{size}
 use lib.Ieee.Digits.{size-lt}
 use lib.Pow.{split, pow-mono}
 use Rattle.words.proofs.Tests.{both-zero}
-use Rattle.words.proofs.Without.{two, or-odd, and-odd, digit-lt}
+use Rattle.words.proofs.Without.{or-odd, and-odd, digit-lt}
 
 digit-distr : (a b m : ℕ) → m < 2 → min (max a b) m ≡ max (min a m) (min b m)
 digit-distr a b m h = omega arith

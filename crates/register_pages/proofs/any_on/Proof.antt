@@ -1,9 +1,9 @@
 -- `register_pages::any_on` meets its contract. The invariant: each pair that was passed is off.
 use borrow.Author.Needs.{needs}
 use native.Mathlib.Omega.{arith}
-use mathlib.Core.Bool.{true, false, true≢false}
-use mathlib.Core.Path.{_≡_, refl, sym, ap, subst, _∙_}
-use Prim.Native.Nat.{ℕ, _+_, _-_, _*_, _/_, _%_, _≤_}
+use mathlib.Core.Bool.{true, true≢false}
+use mathlib.Core.Path.{_≡_, refl, ap, _∙_}
+use Prim.Native.Nat.{ℕ, _-_, _*_, _/_, _%_, _≤_}
 use lib.ListN.{length}
 use Rattle.words.specs.Below.{everyBelow}
 use Rattle.words.specs.Words.{wordAt}
@@ -12,8 +12,6 @@ use Rattle.register_pages.specs.Side.{upperAt, pairsOff}
 use Rattle.register_pages.proofs.Pass.{off-byte, at-pair, passed-more}
 use Rattle.register_pages.proofs.any_on.Statement.{statement}
 use Rattle.register_pages.proofs.any_on.Tie as tie
-use Rattle.register_pages.proofs.any_on.Reads as reads
-use Rattle.register_pages.proofs.any_on.Lts as lts
 
 abbrev Inv-loop : tie.InvT-loop
 Inv-loop pairs at₀ at = (at ≤ length pairs) × (at % 8 ≡ 0) × (pairsOff pairs (at / 8) ≡ true)
@@ -21,32 +19,25 @@ Inv-loop pairs at₀ at = (at ≤ length pairs) × (at % 8 ≡ 0) × (pairsOff p
 abbrev μ-loop : tie.MeasureT-loop
 μ-loop pairs at₀ at = length pairs - at
 
--- src/lib.rt:282:5
 loop-holds : tie.Need-loop-holds Inv-loop μ-loop
 unfolding pairsOff everyBelow
 loop-holds c = (omega arith, refl, refl)
 
--- src/lib.rt:283:18
 add-if1 : tie.Need-add-if1 Inv-loop μ-loop
 add-if1 c = search needs
 
--- src/lib.rt:283:12
 shared-slice-read-if1 : tie.Need-shared-slice-read-if1 Inv-loop μ-loop
 shared-slice-read-if1 c = search needs
 
--- src/lib.rt:284:13
 returns : tie.Need-returns Inv-loop μ-loop
 returns c = λ e. absurd (true≢false e)
 
--- src/lib.rt:286:9
 add-at : tie.Need-add-at Inv-loop μ-loop
 add-at c = search needs
 
--- src/lib.rt:282:5
 loop-less : tie.Need-loop-less Inv-loop μ-loop
 loop-less c = search needs
 
--- src/lib.rt:282:5
 loop-again : tie.Need-loop-again Inv-loop μ-loop
 unfolding pairsOff
 loop-again c =
@@ -56,7 +47,6 @@ loop-again c =
     let here : off (wordAt pairs (8 * (l .at / 8))) ≡ true = ap (λ (n : ℕ). off (wordAt pairs n)) (at-pair (l .at) whole) ∙ off-byte pairs (l .at) (c .if1 .left) in
     (omega (arith, c .before .before .loop-test .taken, c .before .before .before .before .pre), omega arith, passed-more (λ i. off (upperAt pairs i)) (l .at) whole before here)
 
--- src/lib.rt:277:1
 returns-2 : tie.Need-returns-2 Inv-loop μ-loop
 returns-2 c =
     let l = c .before .loop in

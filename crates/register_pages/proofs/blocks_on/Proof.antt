@@ -1,10 +1,9 @@
 -- `register_pages::blocks_on` meets its contract: the eight pairs of a short page lie in one part, the sixteen of a long one in two.
 use borrow.Author.Tests.{eq-eqb, ne-eqb, ltb-true, ltb-false}
 use native.Mathlib.Omega.{arith}
-use mathlib.Core.Bool.{Bool, true, false, true≢false}
-use mathlib.Core.List.{List}
-use mathlib.Core.Path.{_≡_, sym, ap, subst, _∙_}
-use Prim.Native.Nat.{ℕ, _+_, _-_, _*_, _/_, _≤_, _<_}
+use mathlib.Core.Bool.{Bool, true, true≢false}
+use mathlib.Core.Path.{_≡_, sym, ap, _∙_}
+use Prim.Native.Nat.{ℕ, _+_, _-_, _*_, _<_}
 use lib.Dec.{ltb}
 use lib.ListN.{length}
 use Rattle.words.specs.Words.{wordAt}
@@ -16,47 +15,34 @@ use Rattle.register_pages.proofs.Sides.{part-off, off-kept}
 use borrow.Author.Needs.{needs}
 use Rattle.register_pages.proofs.blocks_on.Statement.{statement}
 use Rattle.register_pages.proofs.blocks_on.Tie as tie
-use Rattle.register_pages.proofs.blocks_on.Reads as reads
-use Rattle.register_pages.proofs.blocks_on.Lts as lts
-use Rattle.register_pages.proofs.any_on.Reads as any-on-reads
 
--- src/lib.rt:329:15
 sub-any-on : tie.Need-sub-any-on
 sub-any-on c = search needs
 
--- src/lib.rt:329:15
 part-any-on-start : tie.Need-part-any-on-start
 part-any-on-start c = search needs
 
--- src/lib.rt:329:15
 part-any-on-end : tie.Need-part-any-on-end
 part-any-on-end c = omega (arith, page-least (length (c .before .args .page .now)) (c .before .pre))
 
--- src/lib.rt:329:8
 any-on-requires : tie.Need-any-on-requires
 any-on-requires c κs = search needs
 
--- src/lib.rt:330:9
 returns : tie.Need-returns
 returns c = λ e. absurd (true≢false e)
 
--- src/lib.rt:333:23
 sub-any-on-2 : tie.Need-sub-any-on-2
 sub-any-on-2 c = search needs
 
--- src/lib.rt:333:23
 part-any-on-start-2 : tie.Need-part-any-on-start-2
 part-any-on-start-2 c = search needs
 
--- src/lib.rt:333:23
 part-any-on-end-2 : tie.Need-part-any-on-end-2
 part-any-on-end-2 c = search needs
 
--- src/lib.rt:333:9
 any-on-requires-2 : tie.Need-any-on-requires-2
 any-on-requires-2 c κs = search needs
 
--- src/lib.rt:333:9
 -- the first eight pairs are off
 front : (c : tie.Else1) (i : ℕ) → i < 8 → off (wordAt (c .before .before .before .before .args .page .now) (68 + 8 * i)) ≡ true
 front c i l =
@@ -75,7 +61,6 @@ returns-2 c = λ e.
     let here : 132 + 8 * (i - 8) ≡ 68 + 8 * i = omega arith in
     ap (λ (b : ℕ). off (wordAt page b)) (sym here) ∙ part-off page 132 8 (i - 8) (omega arith) (c .any-on2 .ensures e) (omega arith)))
 
--- src/lib.rt:325:1
 returns-3 : tie.Need-returns-3
 returns-3 c = λ e.
     let else1 = c .before in

@@ -2,12 +2,11 @@
 use borrow.Author.Needs.{needs}
 use borrow.Author.Tests.{not-true, not-false}
 use native.Mathlib.Omega.{arith}
-use mathlib.Core.Bool.{Bool, true, false, cond, _&&_, and-true}
+use mathlib.Core.Bool.{Bool, true, cond, _&&_, and-true}
 use mathlib.Core.List.{List}
 use mathlib.Core.Logic.{⊎-elim}
-use mathlib.Core.Path.{_≡_, refl, sym, ap, ap₂, subst, _∙_}
-use Prim.Native.Nat.{ℕ, _+_, _-_, _*_, _/_, _%_, _^_, _≤_, _<_}
-use lib.Dec.{eqb}
+use mathlib.Core.Path.{_≡_, refl, sym, ap, subst, _∙_}
+use Prim.Native.Nat.{ℕ, _+_, _-_, _*_, _/_, _%_, _≤_}
 use lib.ListN.{length, take, drop}
 use Rattle.register_words.specs.Asked.{blPlace}
 use Rattle.registers.specs.Set.{isPage, isLong, blockPairs}
@@ -15,10 +14,6 @@ use Rattle.register_pages.proofs.Page.{page-least, PageSize, short-size
 use Rattle.register_pages.proofs.Sides.{times-most, half-whole, SidesSeen, sides-none, sides-more, sides-wrong, sides-right, lent-length, lent-good, lent-rises, lent-apart}
 use Rattle.register_pages.proofs.blocks_refusal.Statement.{statement}
 use Rattle.register_pages.proofs.blocks_refusal.Tie as tie
-use Rattle.register_pages.proofs.blocks_refusal.Reads as reads
-use Rattle.register_pages.proofs.blocks_refusal.Lts as lts
-use Rattle.register_pages.proofs.side_apart.Reads as side-apart-reads
-use Rattle.register_pages.proofs.side_of.Reads as side-of-reads
 
 abbrev Inv-loop : tie.InvT-loop
 Inv-loop page half lengths good₀ apart₀ side₀ good apart side =
@@ -28,11 +23,9 @@ Inv-loop page half lengths good₀ apart₀ side₀ good apart side =
 abbrev μ-loop : tie.MeasureT-loop
 μ-loop page half lengths good₀ apart₀ side₀ good apart side = 2 - side
 
--- src/lib.rt:296:17
 sub-half : tie.Need-sub-half Inv-loop μ-loop
 sub-half c = omega (arith, page-least (length (c .before .args .page .now)) (c .before .pre))
 
--- src/lib.rt:305:5
 -- a page's half behind its segment registers, by its length
 halves : {size : ℕ} {long : Bool} → PageSize size long → ((size - 68) / 2 ≡ 8 * blockPairs long) × (68 + 2 * ((size - 68) / 2) ≡ size)
 halves short-size = (refl, refl)
@@ -57,7 +50,6 @@ loop-holds c =
       λ right. sides-none (start .args .page .now) right,
     )
 
--- src/lib.rt:306:23
 -- the bytes of the side at hand lie on the page
 module _ (c : tie.In-loop Inv-loop μ-loop) where
   abbrev at-loop : tie.At-loop Inv-loop μ-loop
@@ -90,67 +82,51 @@ module _ (c : tie.In-loop Inv-loop μ-loop) where
 mul-at : tie.Need-mul-at Inv-loop μ-loop
 mul-at c = omega (arith, most c)
 
--- src/lib.rt:306:18
 add-at : tie.Need-add-at Inv-loop μ-loop
 add-at c = omega (arith, most c)
 
--- src/lib.rt:307:18
 add-to : tie.Need-add-to Inv-loop μ-loop
 add-to c = omega (arith, most c)
 
--- src/lib.rt:308:28
 sub-side-of : tie.Need-sub-side-of Inv-loop μ-loop
 sub-side-of c = search needs
 
--- src/lib.rt:308:28
 part-side-of-start : tie.Need-part-side-of-start Inv-loop μ-loop
 part-side-of-start c = search needs
 
--- src/lib.rt:308:28
 part-side-of-end : tie.Need-part-side-of-end Inv-loop μ-loop
 part-side-of-end c = omega (arith, most c)
 
--- src/lib.rt:308:52
 mul-side-of : tie.Need-mul-side-of Inv-loop μ-loop
 mul-side-of c = search needs
 
--- src/lib.rt:308:13
 side-of-requires : tie.Need-side-of-requires Inv-loop μ-loop
 side-of-requires c κs = let (whole, few) = half-whole (isLong (length (page (c .before)))) in (ap (λ (n : ℕ). n % 32) (own-length (c .before)) ∙ whole, omega (arith, own-length (c .before)))
 
--- src/lib.rt:310:57
 mul-good : tie.Need-mul-good Inv-loop μ-loop
 mul-good c = search needs
 
--- src/lib.rt:310:36
 sub-good : tie.Need-sub-good Inv-loop μ-loop
 sub-good c = search needs
 
--- src/lib.rt:312:40
 sub-side-apart : tie.Need-sub-side-apart Inv-loop μ-loop
 sub-side-apart c = search needs
 
--- src/lib.rt:312:40
 part-side-apart-start : tie.Need-part-side-apart-start Inv-loop μ-loop
 part-side-apart-start c = search needs
 
--- src/lib.rt:312:40
 part-side-apart-end : tie.Need-part-side-apart-end Inv-loop μ-loop
 part-side-apart-end c = omega (arith, most (c .before .before .before .before .before))
 
--- src/lib.rt:312:29
 side-apart-requires : tie.Need-side-apart-requires Inv-loop μ-loop
 side-apart-requires c κs = let i = c .before .before .before .before .before .before in omega (arith, own-length i)
 
--- src/lib.rt:305:9
 add-side : tie.Need-add-side Inv-loop μ-loop
 add-side c = search needs
 
--- src/lib.rt:305:5
 loop-less : tie.Need-loop-less Inv-loop μ-loop
 loop-less c = search needs
 
--- src/lib.rt:305:5
 loop-again : tie.Need-loop-again Inv-loop μ-loop
 loop-again c =
     let i = c .before .before .before .before .before in
@@ -175,7 +151,6 @@ loop-again c =
           (c .if2 .came)),
     )
 
--- src/lib.rt:316:9
 -- both sides were passed
 both-sides : (c : tie.After-loop Inv-loop μ-loop) →
     let start = c .before .before .before .before in

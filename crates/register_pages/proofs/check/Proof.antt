@@ -4,7 +4,6 @@ use native.Mathlib.Omega.{arith}
 use mathlib.Core.Bool.{Bool, true, cond}
 use mathlib.Core.Logic.{⊎-elim}
 use mathlib.Core.Path.{_≡_, sym, ap, _∙_}
-use Prim.Native.Nat.{ℕ}
 use lib.ListN.{length}
 use Rattle.words.specs.Words.{wordAt}
 use Rattle.register_words.specs.Sdr1.{sdr1Shape}
@@ -15,23 +14,13 @@ use Rattle.register_pages.proofs.Sides.{sdr1-broken, blocks-broken, blo
 use borrow.Author.Needs.{needs}
 use Rattle.register_pages.proofs.check.Statement.{statement}
 use Rattle.register_pages.proofs.check.Tie as tie
-use Rattle.register_pages.proofs.check.Reads as reads
-use Rattle.register_pages.proofs.check.Lts as lts
-use Rattle.register_pages.proofs.blocks_on.Reads as blocks-on-reads
-use Rattle.register_pages.proofs.blocks_refusal.Reads as blocks-refusal-reads
-use Rattle.register_pages.proofs.segments_good.Reads as segments-good-reads
-use Rattle.register_words.proofs.sdr1_shape.Reads as sdr1-shape-reads
-use Rattle.words.proofs.read_word.Reads as read-word-reads
 
--- src/lib.rt:360:36
 read-word-requires : tie.Need-read-word-requires
 read-word-requires c κs = omega (arith, page-least (length (c .before .args .whole .now)) (c .before .pre))
 
--- src/lib.rt:360:9
 sdr1-shape-requires : tie.Need-sdr1-shape-requires
 sdr1-shape-requires c κs = search needs
 
--- src/lib.rt:361:9
 -- what the test of SDR1 told
 sdr1-told : (c : tie.After-sdr1-shape) → c .sdr1-shape .result ≡ sdr1Shape (wordAt (c .before .before .before .args .whole .now) 0)
 sdr1-told c = c .sdr1-shape .ensures ∙ ap sdr1Shape (c .before .read-word .ensures)
@@ -46,32 +35,26 @@ none-broken c = ⊎-elim (λ w. sym (w .1 .ensures) ∙ w .2 .left) (λ w. c .be
 returns : tie.Need-returns
 returns c = sdr1-broken (c .before .before .before .before .args .whole .now) (sym (sdr1-told (c .before)) ∙ not-true _ (c .if1 .taken))
 
--- src/lib.rt:363:8
 blocks-on-requires : tie.Need-blocks-on-requires
 blocks-on-requires c κs = search needs
 
--- src/lib.rt:364:13
 blocks-refusal-requires : tie.Need-blocks-refusal-requires
 blocks-refusal-requires c κs = search needs
 
--- src/lib.rt:366:13
 returns-2 : tie.Need-returns-2
 returns-2 c =
     let refusal = c .before .blocks-refusal .ensures in
     let else1 = c .before .before .before .before in
     refusal ∙ blocks-broken _ (sdr1-kept else1) (λ none. c .if3 .taken (refusal ∙ none))
 
--- src/lib.rt:369:8
 segments-good-requires : tie.Need-segments-good-requires
 segments-good-requires c κs = search needs
 
--- src/lib.rt:370:9
 returns-3 : tie.Need-returns-3
 returns-3 c =
     let joined = c .before .before in
     ap (λ (t : Bool). cond t 0 5) (sym (sym (c .before .segments-good .ensures) ∙ c .if4 .taken)) ∙ blocks-kept _ (sdr1-kept (joined .before .before)) (none-broken joined)
 
--- src/lib.rt:353:1
 returns-4 : tie.Need-returns-4
 returns-4 c =
     let joined = c .before .before in

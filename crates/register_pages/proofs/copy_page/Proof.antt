@@ -2,7 +2,7 @@
 use native.Mathlib.Omega.{arith}
 use mathlib.Core.List.{List, _++_}
 use mathlib.Core.Path.{_≡_, sym, ap, ap₂, _∙_}
-use Prim.Native.Nat.{ℕ, _+_, _≤_}
+use Prim.Native.Nat.{ℕ, _≤_}
 use lib.ListN.{length, take, drop, length-append, length-drop}
 use lib.Seq.{length-take-le}
 use borrow.Rule.Slice.PartMut.{putMid}
@@ -12,47 +12,34 @@ use Rattle.register_pages.proofs.Replace.{copied-more}
 use borrow.Author.Needs.{needs}
 use Rattle.register_pages.proofs.copy_page.Statement.{statement}
 use Rattle.register_pages.proofs.copy_page.Tie as tie
-use Rattle.register_pages.proofs.copy_page.Reads as reads
-use Rattle.register_pages.proofs.copy_page.Lts as lts
-use Rattle.register_pages.proofs.copy.Reads as copy-reads
 
--- src/lib.rt:440:10
 sub-copy : tie.Need-sub-copy
 sub-copy c = search needs
 
--- src/lib.rt:440:10
 part-copy-start : tie.Need-part-copy-start
 part-copy-start c = search needs
 
--- src/lib.rt:440:10
 part-copy-end : tie.Need-part-copy-end
 part-copy-end c = omega (arith, page-least (c .before .before .args .size) (c .before .before .pre .0), c .before .before .pre .1)
 
--- src/lib.rt:440:26
 sub-copy-2 : tie.Need-sub-copy-2
 sub-copy-2 c = search needs
 
--- src/lib.rt:440:26
 part-copy-start-2 : tie.Need-part-copy-start-2
 part-copy-start-2 c = search needs
 
--- src/lib.rt:440:26
 part-copy-end-2 : tie.Need-part-copy-end-2
 part-copy-end-2 c = omega (arith, page-least (c .before .before .before .args .size) (c .before .before .before .pre .0), c .before .before .before .pre .2)
 
--- src/lib.rt:440:5
 copy-requires : tie.Need-copy-requires
 copy-requires c κs = search needs
 
--- src/lib.rt:441:10
 sub-copy-3 : tie.Need-sub-copy-3
 sub-copy-3 c = search needs
 
--- src/lib.rt:441:10
 part-copy-start-3 : tie.Need-part-copy-start-3
 part-copy-start-3 c = search needs
 
--- src/lib.rt:441:10
 part-copy-end-3 : tie.Need-part-copy-end-3
 part-copy-end-3 c =
     let at-first = c .before .before in
@@ -63,57 +50,44 @@ part-copy-end-3 c =
     let front : length (at-first .copy .last .0) ≡ 68 = ap length (at-first .copy .ensures) ∙ length-take-le 68 from (omega (arith, start .pre .2)) in
     omega (arith, length-append (at-first .copy .last .0) (drop 68 to), length-drop 68 to, start .pre .1)
 
--- src/lib.rt:441:28
 sub-copy-4 : tie.Need-sub-copy-4
 sub-copy-4 c = search needs
 
--- src/lib.rt:441:28
 part-copy-start-4 : tie.Need-part-copy-start-4
 part-copy-start-4 c = search needs
 
--- src/lib.rt:441:28
 part-copy-end-4 : tie.Need-part-copy-end-4
 part-copy-end-4 c =
     let start = c .before .before .before .before .before .before .before .before in
     omega (arith, page-least (start .args .size) (start .pre .0), start .pre .2)
 
--- src/lib.rt:441:5
 copy-requires-2 : tie.Need-copy-requires-2
 copy-requires-2 c κs = search needs
 
--- src/lib.rt:443:14
 sub-copy-5 : tie.Need-sub-copy-5
 sub-copy-5 c = search needs
 
--- src/lib.rt:443:14
 part-copy-start-5 : tie.Need-part-copy-start-5
 part-copy-start-5 c = search needs
 
--- src/lib.rt:443:14
 part-copy-end-5 : tie.Need-part-copy-end-5
 part-copy-end-5 c = search needs
 
--- src/lib.rt:443:33
 sub-copy-6 : tie.Need-sub-copy-6
 sub-copy-6 c = search needs
 
--- src/lib.rt:443:33
 part-copy-start-6 : tie.Need-part-copy-start-6
 part-copy-start-6 c = search needs
 
--- src/lib.rt:443:33
 part-copy-end-6 : tie.Need-part-copy-end-6
 part-copy-end-6 c = search needs
 
--- src/lib.rt:443:9
 copy-requires-3 : tie.Need-copy-requires-3
 copy-requires-3 c κs = search needs
 
--- src/lib.rt:436:1
 same-length : tie.Need-same-length
 same-length c = search needs
 
--- src/lib.rt:436:1
 -- what the first two parts left
 module _ (c : tie.After-slice-known3) where
   abbrev at-second : tie.After-copy2
@@ -146,11 +120,9 @@ returns c =
     ∙ copied-more (to known) (from known) 132 64 (omega (arith, least known, begin known .pre .2))
     ∙ ap (λ (n : ℕ). take n (from known) ++ drop n (to known)) (sym (c .before .before .before .before .before .if1 .taken))
 
--- src/lib.rt:436:1
 same-length-2 : tie.Need-same-length-2
 same-length-2 c = search needs
 
--- src/lib.rt:436:1
 returns-2 : tie.Need-returns-2
 returns-2 c =
     two-parts (c .before)

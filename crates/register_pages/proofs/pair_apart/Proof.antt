@@ -3,8 +3,8 @@ use borrow.Author.Needs.{needs}
 use native.Mathlib.Omega.{arith}
 use mathlib.Core.Bool.{Bool, true, not}
 use mathlib.Core.List.{List}
-use mathlib.Core.Path.{_≡_, refl, sym, ap, subst, _∙_}
-use Prim.Native.Nat.{ℕ, _+_, _-_, _*_, _/_, _%_, _≤_, _<_}
+use mathlib.Core.Path.{_≡_, refl, sym, ap, _∙_}
+use Prim.Native.Nat.{ℕ, _-_, _/_, _%_, _≤_}
 use Rattle.words.specs.Below.{everyBelow}
 use Rattle.words.specs.Words.{wordAt}
 use Rattle.words.proofs.Below.{every-not}
@@ -13,10 +13,6 @@ use Rattle.register_pages.specs.Side.{upperAt, apartFrom}
 use Rattle.register_pages.proofs.Pass.{at-pair, passed-more}
 use Rattle.register_pages.proofs.pair_apart.Statement.{statement}
 use Rattle.register_pages.proofs.pair_apart.Tie as tie
-use Rattle.register_pages.proofs.pair_apart.Reads as reads
-use Rattle.register_pages.proofs.pair_apart.Lts as lts
-use Rattle.register_words.proofs.blocks_clash.Reads as blocks-clash-reads
-use Rattle.words.proofs.read_word.Reads as read-word-reads
 
 abbrev Inv-loop : tie.InvT-loop
 Inv-loop pairs at own before₀ before = (before ≤ at) × (before % 8 ≡ 0) × (apartFrom pairs own (before / 8) ≡ true)
@@ -24,20 +20,16 @@ Inv-loop pairs at own before₀ before = (before ≤ at) × (before % 8 ≡ 0) �
 abbrev μ-loop : tie.MeasureT-loop
 μ-loop pairs at own before₀ before = at - before
 
--- src/lib.rt:248:5
 loop-holds : tie.Need-loop-holds Inv-loop μ-loop
 unfolding apartFrom everyBelow
 loop-holds c = (omega arith, refl, refl)
 
--- src/lib.rt:249:41
 read-word-requires : tie.Need-read-word-requires Inv-loop μ-loop
 read-word-requires c κs = search needs
 
--- src/lib.rt:249:12
 blocks-clash-requires : tie.Need-blocks-clash-requires Inv-loop μ-loop
 blocks-clash-requires c κs = search needs
 
--- src/lib.rt:250:13
 -- what the call gave is the test of the pair at hand
 module _ (c : tie.After-blocks-clash Inv-loop μ-loop) where
   abbrev at-loop : tie.At-loop Inv-loop μ-loop
@@ -65,15 +57,12 @@ returns c =
     every-not (apart (c .before)) (a .args .at / 8) (l .before / 8) (omega (arith, c .before .before .before .loop-test .taken, a .pre .1, l .inv .1))
     (apart-is (c .before) ∙ ap not (c .if1 .taken))
 
--- src/lib.rt:252:9
 add-before : tie.Need-add-before Inv-loop μ-loop
 add-before c = search needs
 
--- src/lib.rt:248:5
 loop-less : tie.Need-loop-less Inv-loop μ-loop
 loop-less c = search needs
 
--- src/lib.rt:248:5
 loop-again : tie.Need-loop-again Inv-loop μ-loop
 unfolding apartFrom
 loop-again c =
@@ -84,7 +73,6 @@ loop-again c =
       passed-more (apart (c .before)) (l .before) whole before (apart-is (c .before) ∙ ap not (c .if1 .left)),
     )
 
--- src/lib.rt:243:1
 returns-2 : tie.Need-returns-2 Inv-loop μ-loop
 returns-2 c =
     let l = c .before .loop in

@@ -2,27 +2,20 @@
 use native.Mathlib.Omega.{arith}
 use mathlib.Core.List.{List, _++_}
 use mathlib.Core.Path.{_≡_, refl, ap, _∙_}
-use Prim.Native.Nat.{ℕ, _≤_}
+use Prim.Native.Nat.{ℕ}
 use lib.ListN.{length, take, drop, replicate, length-append, length-drop}
 use lib.Seq.{take-at, take-length}
-use Rattle.words.proofs.Words.{Bytes}
 use Rattle.register_pages.proofs.Replace.{page-most, bytes-append, bytes-drop, bytes-zeros}
 use borrow.Author.Needs.{needs}
 use Rattle.register_pages.proofs.read_set.Statement.{statement}
 use Rattle.register_pages.proofs.read_set.Tie as tie
-use Rattle.register_pages.proofs.read_set.Reads as reads
-use Rattle.register_pages.proofs.read_set.Lts as lts
-use Rattle.register_pages.proofs.copy_page.Reads as copy-page-reads
 
--- src/lib.rt:454:15
 slice-aggregate-copy-page : tie.Need-slice-aggregate-copy-page
 slice-aggregate-copy-page c = search needs
 
--- src/lib.rt:454:5
 copy-page-requires : tie.Need-copy-page-requires
 copy-page-requires c κs = let start = c .before .before in (start .pre, page-most (length (start .args .page .now)) (start .pre), omega arith)
 
--- src/lib.rt:448:1
 returns : tie.Need-returns
 returns c =
     let start = c .before .before .before .before in

@@ -23,9 +23,6 @@ use Rattle.registers.specs.Set.{segmentsShape}
 use Rattle.register_pages.proofs.Page.{page-least, own-segment}
 use Rattle.register_pages.proofs.segments_good.Statement.{statement}
 use Rattle.register_pages.proofs.segments_good.Tie as tie
-use Rattle.register_pages.proofs.segments_good.Reads as reads
-use Rattle.register_pages.proofs.segments_good.Lts as lts
-use Rattle.words.proofs.raw_pair.Reads as raw-pair-reads
 
 -- segment register i has its shape
 abbrev good : List ℕ → ℕ → Bool
@@ -38,24 +35,19 @@ Inv-loop page any₀ at₀ any at =
 abbrev μ-loop : tie.MeasureT-loop
 μ-loop page any₀ at₀ any at = 68 - at
 
--- src/lib.rt:345:5
 loop-holds : tie.Need-loop-holds Inv-loop μ-loop
 unfolding everyBelow
 loop-holds c = (omega arith, omega arith, refl, refl)
 
--- src/lib.rt:346:21
 raw-pair-requires : tie.Need-raw-pair-requires Inv-loop μ-loop
 raw-pair-requires c κs = let start = c .before .before .before in omega (arith, page-least (length (start .args .page .now)) (start .pre))
 
--- src/lib.rt:347:9
 add-at : tie.Need-add-at Inv-loop μ-loop
 add-at c = search needs
 
--- src/lib.rt:345:5
 loop-less : tie.Need-loop-less Inv-loop μ-loop
 loop-less c = search needs
 
--- src/lib.rt:345:5
 swapped-lt : (w : ℕ) → swapped w < 2 ^ 32
 unfolding swapped
 swapped-lt w = omega arith
@@ -105,7 +97,6 @@ loop-again c =
     let (least, most, whole, before) = l .inv in
     (omega arith, omega (arith, c .before .loop-test .taken), omega arith, more _ (l .any) (c .raw-pair .result) (l .at) least whole before (c .raw-pair .ensures))
 
--- src/lib.rt:339:1
 returns : tie.Need-returns Inv-loop μ-loop
 unfolding segmentsShape
 returns c =

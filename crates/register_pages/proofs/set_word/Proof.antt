@@ -8,7 +8,7 @@ use Prim.Native.Nat.{ℕ, _+_, _*_, _≤_, min}
 use lib.ListN.{length, take, length-take}
 use Rattle.words.specs.Words.{wordAt, withWord}
 use Rattle.words.proofs.Words.{length-withWord, word-same}
-use Rattle.registers.specs.Set.{isLong, registerCount, registerWords, replacing}
+use Rattle.registers.specs.Set.{isLong, registerWords, replacing}
 use Rattle.registers.proofs.Set.{replaced-number}
 use Rattle.register_pages.specs.Replace.{pageOf, pageReplaced}
 use Rattle.register_pages.proofs.Replace.{number-fits}
@@ -16,30 +16,19 @@ use Rattle.register_pages.proofs.Sides.{part-word}
 use borrow.Author.Needs.{needs}
 use Rattle.register_pages.proofs.set_word.Statement.{statement}
 use Rattle.register_pages.proofs.set_word.Tie as tie
-use Rattle.register_pages.proofs.set_word.Reads as reads
-use Rattle.register_pages.proofs.set_word.Lts as lts
-use Rattle.register_pages.proofs.Set.with_word.Reads as with-word-reads
-use Rattle.register_pages.proofs.read_set.Reads as read-set-reads
-use Rattle.words.proofs.read_word.Reads as read-word-reads
-use Rattle.words.proofs.write_word.Reads as write-word-reads
 
--- src/lib.rt:464:9
 read-set-requires : tie.Need-read-set-requires
 read-set-requires c κs = search needs
 
--- src/lib.rt:465:9
 with-word-requires : tie.Need-with-word-requires
 with-word-requires c κs = c .read-set .ensures .0
 
--- src/lib.rt:469:18
 mul-byte : tie.Need-mul-byte
 mul-byte c = search needs
 
--- src/lib.rt:470:54
 slice-aggregate-read-word : tie.Need-slice-aggregate-read-word
 slice-aggregate-read-word c = search needs
 
--- src/lib.rt:470:37
 -- what the method answered is the definition's answer for the page
 module _ (c : tie.After-with-word) where
   abbrev begin : tie.Start
@@ -94,15 +83,12 @@ module _ (c : tie.After-with-word) where
 read-word-requires : tie.Need-read-word-requires
 read-word-requires c κs = let t = c .before .before .before in omega (arith, new-fits (t .before) (t .if1 .taken))
 
--- src/lib.rt:470:9
 write-word-requires : tie.Need-write-word-requires
 write-word-requires c κs = let t = c .before .before .before .before in fits (t .before) (t .if1 .taken)
 
--- src/lib.rt:460:1
 same-length : tie.Need-same-length
 same-length c = search needs
 
--- src/lib.rt:460:1
 returns : tie.Need-returns
 unfolding pageReplaced
 returns c =
@@ -113,11 +99,9 @@ returns c =
     (ap (λ (b : List ℕ). (k .with-word .result .result, b))
     (at-write .write-word .ensures ∙ ap (withWord (page k) (4 * number k)) (at-write .before .read-word .ensures ∙ word-is k (t .if1 .taken))))
 
--- src/lib.rt:460:1
 same-length-2 : tie.Need-same-length-2
 same-length-2 c = search needs
 
--- src/lib.rt:460:1
 returns-2 : tie.Need-returns-2
 unfolding pageReplaced
 returns-2 c = rw (← result-is (c .before), ne-eqb _ _ (c .if1 .left))

@@ -5,8 +5,8 @@ use native.Mathlib.Omega.{arith}
 use mathlib.Core.Bool.{Bool, true, not}
 use mathlib.Core.List.{List}
 use mathlib.Core.Logic.{⊎-elim}
-use mathlib.Core.Path.{_≡_, refl, sym, ap, ap₂, _∙_}
-use Prim.Native.Nat.{ℕ, _+_, _-_, _*_, _/_, _%_, _≤_, _<_}
+use mathlib.Core.Path.{_≡_, refl, sym, ap, _∙_}
+use Prim.Native.Nat.{ℕ, _-_, _/_, _%_, _≤_}
 use lib.ListN.{length}
 use Rattle.words.specs.Below.{everyBelow}
 use Rattle.words.specs.Words.{wordAt}
@@ -16,10 +16,6 @@ use Rattle.register_pages.specs.Side.{upperAt, apartFrom, pairsApart}
 use Rattle.register_pages.proofs.Pass.{off-word, at-pair, passed-more}
 use Rattle.register_pages.proofs.side_apart.Statement.{statement}
 use Rattle.register_pages.proofs.side_apart.Tie as tie
-use Rattle.register_pages.proofs.side_apart.Reads as reads
-use Rattle.register_pages.proofs.side_apart.Lts as lts
-use Rattle.register_pages.proofs.pair_apart.Reads as pair-apart-reads
-use Rattle.words.proofs.read_word.Reads as read-word-reads
 
 abbrev Inv-loop : tie.InvT-loop
 Inv-loop pairs at₀ at = (at ≤ length pairs) × (at % 8 ≡ 0) × (pairsApart pairs (at / 8) ≡ true)
@@ -27,20 +23,16 @@ Inv-loop pairs at₀ at = (at ≤ length pairs) × (at % 8 ≡ 0) × (pairsApart
 abbrev μ-loop : tie.MeasureT-loop
 μ-loop pairs at₀ at = length pairs - at
 
--- src/lib.rt:263:5
 loop-holds : tie.Need-loop-holds Inv-loop μ-loop
 unfolding pairsApart everyBelow
 loop-holds c = (omega arith, refl, refl)
 
--- src/lib.rt:264:13
 read-word-requires : tie.Need-read-word-requires Inv-loop μ-loop
 read-word-requires c κs = search needs
 
--- src/lib.rt:267:17
 pair-apart-requires : tie.Need-pair-apart-requires Inv-loop μ-loop
 pair-apart-requires c κs = search needs
 
--- src/lib.rt:268:17
 -- the pair at hand
 module _ (c : tie.After-read-word Inv-loop μ-loop) where
   abbrev at-loop : tie.At-loop Inv-loop μ-loop
@@ -66,15 +58,12 @@ returns c =
     (omega (arith, r .before .loop-test .taken, at-loop r .loop .inv .1, at-loop r .before .before .pre))
     (ap (λ (w : ℕ). apartFrom (pairs r) w (at r / 8)) (sym (own-is r)) ∙ sym (c .before .pair-apart .ensures) ∙ not-true _ (c .if2 .taken))
 
--- src/lib.rt:271:9
 add-at : tie.Need-add-at Inv-loop μ-loop
 add-at c = search needs
 
--- src/lib.rt:263:5
 loop-less : tie.Need-loop-less Inv-loop μ-loop
 loop-less c = search needs
 
--- src/lib.rt:263:5
 loop-again : tie.Need-loop-again Inv-loop μ-loop
 unfolding pairsApart apartFrom
 loop-again c =
@@ -86,7 +75,6 @@ loop-again c =
     (λ w. every-all _ (at r / 8) (λ i l. ap not (off-clash 15 (r .read-word .result) (off-word (r .read-word .result) (w .left)) (upperAt (pairs r) i) .1))) (c .if1 .came) in
     (omega (arith, r .before .loop-test .taken, at-loop r .before .before .pre), omega arith, passed-more (apart r) (at r) whole before here)
 
--- src/lib.rt:258:1
 returns-2 : tie.Need-returns-2 Inv-loop μ-loop
 returns-2 c =
     let l = c .before .loop in

@@ -3,7 +3,7 @@ use borrow.Author.Needs.{needs}
 use mathlib.Core.Path.{_≡_, refl}
 use mathlib.Core.Bool.{Bool, true}
 use Prim.Native.Nat.{ℕ, _+_, _/_}
-use Rattle.register_pages.specs.Quick.{sideByte}
+use Rattle.register_pages.specs.Side.{sideByte}
 use Rattle.register_pages.proofs.Page.{PageSize, short-size, long-size, page-size}
 use Rattle.register_pages.proofs.side_at.Statement.{statement}
 use Rattle.register_pages.proofs.side_at.Tie as tie

@@ -18,12 +18,6 @@ use Rattle.words.specs.Words.{wordAt}
 use Rattle.register_pages.proofs.Pass.{Seen, endOf, seen-none, seen-same, seen-off, seen-on, seen-apart, off-byte, on-byte}
 use Rattle.register_pages.proofs.side_of.Statement.{statement}
 use Rattle.register_pages.proofs.side_of.Tie as tie
-use Rattle.register_pages.proofs.side_of.Reads as reads
-use Rattle.register_pages.proofs.side_of.Lts as lts
-use Rattle.register_words.proofs.asked_of.Reads as asked-of-reads
-use Rattle.register_words.proofs.end_of.Reads as end-of-reads
-use Rattle.register_words.proofs.ones_of.Reads as ones-of-reads
-use Rattle.words.proofs.read_pair.Reads as read-pair-reads
 
 abbrev Inv-loop2 : tie.InvT-loop2
 Inv-loop2 pairs lengths sum any₀ falls₀ end₀ at i₀ any falls end i = (i ≤ 4) × Seen lengths sum pairs (at / 8 + i) any falls end
@@ -38,50 +32,39 @@ Inv-loop pairs lengths sum any₀ falls₀ end₀ at₀ any falls end at =
 abbrev μ-loop : tie.MeasureT-loop
 μ-loop pairs lengths sum any₀ falls₀ end₀ at₀ any falls end at = length pairs - at
 
--- src/lib.rt:225:5
 loop-holds : tie.Need-loop-holds Inv-loop2 μ-loop2 Inv-loop μ-loop
 loop-holds c = (omega arith, refl, seen-none _ _ _)
 
--- src/lib.rt:226:9
 loop2-holds : tie.Need-loop2-holds Inv-loop2 μ-loop2 Inv-loop μ-loop
 loop2-holds c =
     let start = c .before .before .before in
     let l = c .before .loop in
     (omega arith, subst (λ (n : ℕ). Seen (start .args .lengths) (start .args .sum) (start .args .pairs .now) n (l .any) (l .falls) (l .end)) (omega arith) (l .inv .2))
 
--- src/lib.rt:227:29
 mul-from : tie.Need-mul-from Inv-loop2 μ-loop2 Inv-loop μ-loop
 mul-from c = search needs
 
--- src/lib.rt:227:24
 add-from : tie.Need-add-from Inv-loop2 μ-loop2 Inv-loop μ-loop
 add-from c = search needs
 
--- src/lib.rt:229:22
 add-if1 : tie.Need-add-if1 Inv-loop2 μ-loop2 Inv-loop μ-loop
 add-if1 c = search needs
 
--- src/lib.rt:229:16
 shared-slice-read-if1 : tie.Need-shared-slice-read-if1 Inv-loop2 μ-loop2 Inv-loop μ-loop
 shared-slice-read-if1 c = search needs
 
--- src/lib.rt:230:21
 read-pair-requires : tie.Need-read-pair-requires Inv-loop2 μ-loop2 Inv-loop μ-loop
 read-pair-requires c κs = search needs
 
--- src/lib.rt:231:21
 ones-of-requires : tie.Need-ones-of-requires Inv-loop2 μ-loop2 Inv-loop μ-loop
 ones-of-requires c κs = search needs
 
--- src/lib.rt:232:29
 asked-of-requires : tie.Need-asked-of-requires Inv-loop2 μ-loop2 Inv-loop μ-loop
 asked-of-requires c κs = search needs
 
--- src/lib.rt:233:34
 cast-falls : tie.Need-cast-falls Inv-loop2 μ-loop2 Inv-loop μ-loop
 cast-falls c = search needs
 
--- src/lib.rt:233:25
 fall-one : (t : Bool) → boolByte t ≤ 1
 fall-one true = lit≤ tt
 fall-one false = lit≤ tt
@@ -96,19 +79,15 @@ add-falls c =
     let start = c .before .before .before .before .before .before .before .before .before .before in
     record { fits = omega (arith, fall-one (leb (c .before .before .read-pair .result) (l2 .end)), l2 .inv .1 .few, start .pre .1) }
 
--- src/lib.rt:234:17
 end-of-requires : tie.Need-end-of-requires Inv-loop2 μ-loop2 Inv-loop μ-loop
 end-of-requires c κs = search needs
 
--- src/lib.rt:226:13
 add-i : tie.Need-add-i Inv-loop2 μ-loop2 Inv-loop μ-loop
 add-i c = search needs
 
--- src/lib.rt:226:9
 loop2-less : tie.Need-loop2-less Inv-loop2 μ-loop2 Inv-loop μ-loop
 loop2-less c = search needs
 
--- src/lib.rt:226:9
 -- what was passed, and the pair at hand
 module _ (c : tie.After-shared-slice-known2 Inv-loop2 μ-loop2 Inv-loop μ-loop) where
   abbrev at-loop2 : tie.At-loop2 Inv-loop2 μ-loop2 Inv-loop μ-loop
@@ -169,15 +148,12 @@ loop2-again c =
           (c .if1 .came)),
     )
 
--- src/lib.rt:237:9
 add-at : tie.Need-add-at Inv-loop2 μ-loop2 Inv-loop μ-loop
 add-at c = search needs
 
--- src/lib.rt:225:5
 loop-less : tie.Need-loop-less Inv-loop2 μ-loop2 Inv-loop μ-loop
 loop-less c = search needs
 
--- src/lib.rt:225:5
 loop-again : tie.Need-loop-again Inv-loop2 μ-loop2 Inv-loop μ-loop
 loop-again c =
     let l2 = c .before .loop2 in
@@ -191,7 +167,6 @@ loop-again c =
       subst (λ (n : ℕ). Seen (a .lengths) (a .sum) (a .pairs .now) n (l2 .any) (l2 .falls) (l2 .end)) next (l2 .inv .1),
     )
 
--- src/lib.rt:217:1
 returns : tie.Need-returns Inv-loop2 μ-loop2 Inv-loop μ-loop
 returns c =
     let a = c .before .before .before .args in

@@ -2,10 +2,9 @@
 use borrow.Author.Needs.{needs}
 use mathlib.Core.Path.{_≡_, refl, ap, ap₂, _∙_}
 use mathlib.Core.Bool.{Bool, true, false}
-use Prim.Native.Nat.{ℕ, _+_, _/_, _%_, _^_}
-use lib.Bits.{bitAnd, bitOr, bitXor}
-use lib.Dec.{eqb}
-use Rattle.register_words.specs.Asked.{pairOnes, blPlace, sideSum, zeroBits}
+use Prim.Native.Nat.{ℕ, _+_, _%_, _^_}
+use lib.Bits.{bitAnd, bitXor}
+use Rattle.register_words.specs.Asked.{blPlace, sideSum}
 use Rattle.register_words.specs.Block.{blWidth}
 use Rattle.register_words.proofs.Asked.{asked, place}
 use Rattle.register_words.proofs.Shape.{asked-shape}

@@ -5,7 +5,7 @@ use Prim.Native.Nat.{ℕ, _+_, _-_, _*_, _/_, _%_, _^_}
 use lib.Bits.{bitOr, or-shr, or-mod, or-zero-r}
 use lib.Pow.{split}
 use Rattle.words.proofs.Masks.{or-full}
-use Rattle.register_words.specs.Asked.{pairOnes, lastOf}
+use Rattle.register_words.specs.Asked.{lastOf}
 use Rattle.register_words.specs.Block.{bepiOf}
 use Rattle.register_words.proofs.Asked.{ones-top}
 use Rattle.register_words.proofs.end_of.Statement.{statement}

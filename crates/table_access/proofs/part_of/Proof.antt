@@ -1,95 +1,105 @@
--- `table_access::part_of` meets its contract: a part decided before the search has no entry to mark, and any other goes by its page.
+-- `table_access::part_of` meets its contract: the pair is the one that covers the address, and the steps before the search and after it are the part's.
 use borrow.Author.Needs.{needs}
-use mathlib.Core.Path.{_≡_, refl, sym, ap, subst, _∙_}
-use mathlib.Core.Bool.{true}
+use mathlib.Core.Path.{_≡_, refl, sym, ap, ap₂, subst, _∙_}
+use mathlib.Core.Bool.{Bool, true}
 use Prim.Native.Nat.{ℕ}
-use native.Mathlib.Omega.{arith}
 use lib.ListN.{length}
-use Rattle.register_words.specs.Sdr1.{sdr1Shape, tableLength, maskOnes}
-use Rattle.registers.specs.Set.{setWords}
-use Rattle.translation.specs.Steps.{answerOf}
-use Rattle.translation.specs.Decision.{decisionOf}
-use Rattle.translation.specs.declared.decision.Used.{Used}
-use Rattle.translation.specs.declared.Early.the-variants.{Search}
-use Rattle.translation.proofs.Steps.{outcome-decided, wanted-in-range}
-use Rattle.calls.specs.OnBytes.{usedBy, searchIn, firstPlaceIn}
-use Rattle.calls.proofs.Access.{unmarked-decided}
-use Rattle.table_access.specs.Part.{marked, OfFirst, ByPart}
+use Rattle.register_words.specs.Sdr1.{maskOnes}
+use Rattle.registers.specs.Set.{sdr1Of, setWords, coveringPair}
+use Rattle.translation.specs.Steps.{beforeSearch}
+use Rattle.translation.specs.declared.Early.{Early}
+use Rattle.translation.specs.declared.Early.the-variants.{Decided, Search}
+use Rattle.translation.specs.declared.Wanted.{Wanted}
+use Rattle.calls.proofs.Access.{part-valid}
+use Rattle.table_access.specs.Part.{byFound, foundBy, begun, partBy}
+use Rattle.table_access.specs.declared.Begun.{Begun}
+use Rattle.table_access.specs.declared.Begun.the-variants.{Told, Wants}
+use Rattle.table_access.specs.declared.Found.{Found}
+use Rattle.table_access.specs.declared.Part.{Part}
+use Rattle.table_access.proofs.Parts.{begun-told, begun-wants, part-searched}
 use Rattle.table_access.proofs.part_of.Statement.{statement}
 use Rattle.table_access.proofs.part_of.Tie as tie
 
+side-of-requires : tie.Need-side-of-requires
+side-of-requires c κs = search needs
+
+user-mode-requires : tie.Need-user-mode-requires
+user-mode-requires c κs = search needs
+
+covering-pair-requires : tie.Need-covering-pair-requires
+covering-pair-requires c κs = search needs
+
+abbrev begin : tie.After-side-of → tie.Start
+begin c = c .before .before .before .before
+
 before-search-requires : tie.Need-before-search-requires
-before-search-requires c κs = search needs
+before-search-requires c κs =
+    let at-user = c .before in
+    let at-side = at-user .before in
+    let start = begin at-side in
+    let a = start .args in (
+      start .pre .0 .0,
+      start .pre .2,
+      c .covering-pair .ensures ∙ ap₂ (λ (side user : Bool). coveringPair 8 15 (setWords (a .registers .now)) side user (a .address)) (at-side .side-of .ensures) (at-user .user-mode .ensures),
+    )
 
-enum-known-outcome : tie.Need-enum-known-outcome
-enum-known-outcome c = search needs
-
-answer-of-requires : tie.Need-answer-of-requires
-answer-of-requires c κs = search needs
-
-nothing-requires : tie.Need-nothing-requires
-nothing-requires c κs = search needs
-
-decision-of-requires : tie.Need-decision-of-requires
-decision-of-requires c κs = search needs
+enum-known-part : tie.Need-enum-known-part
+enum-known-part c = search needs
 
 enum-known-wanted : tie.Need-enum-known-wanted
 enum-known-wanted c = search needs
 
-sdr1-requires : tie.Need-sdr1-requires
-sdr1-requires c κs = search needs
+-- what the steps before the search come to
+abbrev early : tie.Start → Early
+early c = beforeSearch 8 15 (setWords (c .args .registers .now)) (c .args .mode) (c .args .kind) (c .args .address)
 
-by-page-requires : tie.Need-by-page-requires
-by-page-requires c κs =
-    let known = c .before .before in
-    let at-search = known .before .before in
-    let start = at-search .before .before .before in
+cached-search-requires : tie.Need-cached-search-requires
+cached-search-requires c κs =
+    let known = c .before in
+    let at-before = known .before .before in
+    let start = begin (at-before .before .before .before) in
     let a = start .args in
-    let is = c .sdr1 .ensures in
-    let range = wanted-in-range 8 15 (setWords (a .registers .now)) (a .mode) (a .kind) (a .address) (known .wanted .given .0 .0) (sym (at-search .before-search .ensures) ∙ known .wanted .given .1) in
-    (ap sdr1Shape is ∙ start .pre .2, start .pre .3 ∙ sym (ap tableLength is), range .0, range .1)
+    let wanted = known .wanted .given .0 .0 in
+    let e = begun-wants (a .kind) (a .address) (early start) wanted (sym (at-before .before-search .ensures) ∙ known .wanted .given .1) in
+    ((sdr1Of (setWords (a .registers .now)), start .pre .0 .1), part-valid 8 15 (setWords (a .registers .now)) (a .mode) (a .kind) (a .address) wanted e, start .pre .1)
+
+after-search-requires : tie.Need-after-search-requires
+after-search-requires c κs = search needs
 
 returns : tie.Need-returns
-unfolding marked tableLength OfFirst
 returns c =
-    let at-answer = c .before .before in
-    let known = at-answer .before .before in
-    let at-search = known .before .before in
-    let start = at-search .before .before .before in
+    let known = c .before in
+    let at-before = known .before .before in
+    let start = begin (at-before .before .before .before) in
     let a = start .args in
-    let right = start .pre .3 in
-    let outcome = known .outcome .given .0 .0 in
-    let decided = outcome-decided _ _ outcome in
-    rw (sym (at-search .before-search .ensures) ∙ known .outcome .given .1)
-    (record {
-      answers = at-answer .answer-of .ensures ∙ ap (answerOf (a .kind) (a .address)) (sym decided);
-      decides = c .decision-of .ensures ∙ ap (λ (u : Used). decisionOf u outcome) (c .before .nothing .ensures) ∙ ap (decisionOf _) (sym decided);
-      inside = omega arith;
-      marks = λ u done same. sym (unmarked-decided _ _ _ _ _);
-      first = refl;
-    })
+    begun-told (a .kind) (a .address) _ (early start) (known .part .given .0 .0) (sym (at-before .before-search .ensures) ∙ known .part .given .1)
 
 returns-2 : tie.Need-returns-2
 returns-2 c =
-    let at-sdr1 = c .before in
-    let known = at-sdr1 .before .before in
-    let at-search = known .before .before in
-    let a = at-search .before .before .before .args in
-    let t = a .table .now in
-    let early = sym (at-search .before-search .ensures) ∙ known .wanted .given .1 in
-    rw early (subst (λ (s : ℕ). ByPart (maskOnes s) t (a .kind) (a .address) (Search (known .wanted .given .0 .0)) (c .by-page .result)) (at-sdr1 .sdr1 .ensures) (c .by-page .ensures))
+    let at-found = c .before in
+    let known = at-found .before .before in
+    let at-before = known .before .before in
+    let start = begin (at-before .before .before .before) in
+    let a = start .args in
+    let wanted = known .wanted .given .0 .0 in
+    let sdr1 = sdr1Of (setWords (a .registers .now)) in
+    let e = begun-wants (a .kind) (a .address) (early start) wanted (sym (at-before .before-search .ensures) ∙ known .wanted .given .1) in
+    rw e
+    (c .after-search .ensures
+    ∙ ap (byFound (a .kind) (a .address) (wanted .key)) (at-found .cached-search .ensures sdr1 (start .pre .0 .1))
+    ∙ sym (part-searched (a .kind) (a .address) (foundBy (maskOnes sdr1) (a .kind) (a .table .now) (a .cache .now)) wanted))
 
 pub part-of-spec : {M : Type 1} → statement M
 part-of-spec =
     tie.close
     (tie.spec
+    side-of-requires
+    user-mode-requires
+    covering-pair-requires
     before-search-requires
-    enum-known-outcome
-    answer-of-requires
-    nothing-requires
-    decision-of-requires
+    enum-known-part
     enum-known-wanted
-    sdr1-requires
-    by-page-requires
+    cached-search-requires
+    after-search-requires
     returns
     returns-2)

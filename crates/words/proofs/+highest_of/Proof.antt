@@ -1,6 +1,6 @@
 -- `words::highest_of` meets its contract. The field without its lowest bit is less than the field, so the field is the measure.
 use mathlib.Core.Path.{_≡_, ap, _∙_}
-use Prim.Native.Nat.{ℕ, suc, _-_, _+_, _/_, _≤_, _<_}
+use Prim.Native.Nat.{ℕ, suc, _-_, _+_, _/_, _<_}
 use native.Mathlib.Omega.{arith}
 use lib.Ieee.{size}
 use Rattle.words.proofs.Ones.{size-zero, size-step}

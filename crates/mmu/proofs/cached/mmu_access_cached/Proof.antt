@@ -1,4 +1,4 @@
--- `mmu::cached::mmu_access_cached` meets its contract: a wrong length is refused, and else the twelve words of what the access answers are written.
+-- `mmu::cached::mmu_access_cached` meets its contract: a wrong length is refused, and else the access is that of `table_access` with the cache.
 use borrow.Author.Needs.{needs}
 use borrow.Author.Tests.{eqb-true, eqb-false, not-true, not-false}
 use mathlib.Core.Path.{_≡_, refl, sym, ap, _∙_}
@@ -12,13 +12,16 @@ use Rattle.words.proofs.Tests.{both}
 use Rattle.calls.specs.Request.{AccessCall}
 use Rattle.calls.specs.OnBytes.{ended}
 use Rattle.cached_calls.specs.Cached.{onCached}
-use Rattle.cached_access.proofs.Calls.{cache-wrong-length, wrong-length}
+use Rattle.table_access.proofs.Calls.{cache-wrong-length, wrong-length}
 use Rattle.mmu.proofs.cached.mmu_access_cached.Statement.{statement}
 use Rattle.mmu.proofs.cached.mmu_access_cached.Tie as tie
 
+abbrev begin : tie.After-is-page → tie.Start
+begin c = let known = c .before .before .before in known .before .before
+
 -- past the refusal of a length all three lengths are right
 lengths : (c : tie.Else1) →
-    let a = c .before .before .before .before .before .before .args in
+    let a = begin (c .before) .args in
     (isPage (length (a .registers .now)) ≡ true) × (length (a .answer .now) ≡ 48) × (length (a .cache .now) ≡ 2048)
 lengths c =
     let right = both _ _ (not-false _ (c .if1 .left)) in
@@ -41,16 +44,13 @@ is-page-requires c κs = search needs
 
 returns : tie.Need-returns
 returns c =
-    let a = c .before .before .before .before .before .before .args in
+    let a = begin (c .before) .args in
     sym
     (one-wrong (record { registers = a .registers .now; mode = a .mode; kind = a .kind; address = a .address; length = a .length; answer = a .answer .now }) (a .table .now, a .cache .now)
     (ap (λ (b : Bool). (b && eqb (length (a .answer .now)) 48) && eqb (length (a .cache .now)) 2048) (sym (c .before .is-page .ensures)) ∙ not-true _ (c .if1 .taken)))
 
 translate-requires : tie.Need-translate-requires
-translate-requires c κs = let (page, answer, cache) = lengths (c .before .before) in (page, cache)
-
-tell-requires : tie.Need-tell-requires
-tell-requires c κs = lengths (c .before .before .before .before .before .before .before .before) .1
+translate-requires c κs = let (page, answer, cache) = lengths (c .before .before .before) in (page, λ other. absurd (other cache), answer)
 
 same-length : tie.Need-same-length
 same-length c = search needs
@@ -63,10 +63,10 @@ same-length-3 c = search needs
 
 returns-2 : tie.Need-returns-2
 returns-2 c =
-    let at-translate = c .before .before .before .before .before .before .before .before in
-    let at-else = at-translate .before .before .before in
-    let a = at-else .before .before .before .before .before .before .args in
-    rw (c .before .before .tell .ensures .0, c .before .before .tell .ensures .1) (at-translate .translate .ensures (a .answer .now) (lengths at-else .1))
+    let at-cache = c .before .before .before in
+    let at-translate = at-cache .before .before .before in
+    let else1 = at-translate .before .before .before in
+    at-translate .translate .ensures .0 (lengths (else1 .before) .2)
 
 pub mmu-access-cached-spec : {M : Type 1} → statement M
 mmu-access-cached-spec =
@@ -75,7 +75,6 @@ mmu-access-cached-spec =
     is-page-requires
     returns
     translate-requires
-    tell-requires
     same-length
     same-length-2
     same-length-3

@@ -3,32 +3,24 @@ use borrow.Author.Tests.{eq-eqb, ne-eqb}
 use native.Mathlib.Omega.{arith}
 use mathlib.Core.Bool.{Bool, true, cond}
 use mathlib.Core.List.{List}
-use mathlib.Core.Path.{_≡_, refl, sym, ap, ap₂, _∙_}
-use Prim.Native.Nat.{ℕ, _+_, _-_, _*_, _≤_, _<_, _^_}
+use mathlib.Core.Path.{_≡_, sym, ap, ap₂, _∙_}
+use Prim.Native.Nat.{ℕ, _+_, _-_, _*_, _≤_, _<_}
 use lib.Dec.{eqb}
 use lib.ListN.{length, take}
 use lib.Seq.{length-take-le}
-use Rattle.words.specs.Words.{wordAt, withWord}
+use Rattle.words.specs.Words.{withWord}
 use Rattle.words.proofs.Words.{length-withWord}
 use Rattle.register_words.specs.Block.{blWidth}
 use Rattle.registers.specs.Set.{isPage, isLong, blockPairs, registerCount, registerWords, checkWords}
-use Rattle.register_pages.specs.Replace.{pageOf, pageReplaced}
+use Rattle.register_pages.specs.Replace.{pageReplaced}
 use Rattle.register_pages.proofs.Replace.{page-most, number-fits, put-right, put-replaced, put-past, put-back, take-with}
 use borrow.Author.Needs.{needs}
 use Rattle.register_pages.proofs.Set.with_word.Statement.{statement}
 use Rattle.register_pages.proofs.Set.with_word.Tie as tie
-use Rattle.register_pages.proofs.Set.with_word.Reads as reads
-use Rattle.register_pages.proofs.Set.with_word.Lts as lts
-use Rattle.register_pages.proofs.check.Reads as check-reads
-use Rattle.registers.proofs.count_of.Reads as count-of-reads
-use Rattle.words.proofs.read_word.Reads as read-word-reads
-use Rattle.words.proofs.write_word.Reads as write-word-reads
 
--- src/lib.rt:402:22
 count-of-requires : tie.Need-count-of-requires
 count-of-requires c κs = search needs
 
--- src/lib.rt:403:13
 -- the page that the set holds
 module _ (c : tie.After-count-of) where
   abbrev begin : tie.Start
@@ -84,35 +76,27 @@ module _ (c : tie.After-count-of) where
 returns : tie.Need-returns
 returns c = let a = c .before in sym (put-past (page a) (begin a .args .number) (begin a .args .word) (rw (count a) (c .if1 .taken)))
 
--- src/lib.rt:408:18
 mul-at : tie.Need-mul-at
 mul-at c = search needs
 
--- src/lib.rt:410:36
 slice-aggregate-read-word : tie.Need-slice-aggregate-read-word
 slice-aggregate-read-word c = search needs
 
--- src/lib.rt:410:13
 read-word-requires : tie.Need-read-word-requires
 read-word-requires c κs = let e = c .before .before in on-bytes (e .before) (e .if1 .left)
 
--- src/lib.rt:411:27
 slice-aggregate-write-word : tie.Need-slice-aggregate-write-word
 slice-aggregate-write-word c = search needs
 
--- src/lib.rt:411:9
 write-word-requires : tie.Need-write-word-requires
 write-word-requires c κs = let e = c .before .before .before .before in on-bytes (e .before) (e .if1 .left)
 
--- src/lib.rt:412:28
 sub-check : tie.Need-sub-check
 sub-check c = search needs
 
--- src/lib.rt:412:28
 part-check-start : tie.Need-part-check-start
 part-check-start c = search needs
 
--- src/lib.rt:412:28
 -- the bytes with the word put in
 module _ (w : tie.After-write-word) where
   abbrev past : tie.Else1
@@ -143,21 +127,17 @@ result-is c =
 part-check-end : tie.Need-part-check-end
 part-check-end c = let w = c .before .before in omega (arith, new-length w, most (held w))
 
--- src/lib.rt:412:13
 check-requires : tie.Need-check-requires
 check-requires c κs =
     let w = c .before .before .before in
     ap (λ (p : List ℕ). isPage (length p)) (lent-page w) ∙ put-right (page (held w)) (right (held w)) (at (held w)) (begin (held w) .args .word)
 
--- src/lib.rt:414:31
 slice-aggregate-write-word-2 : tie.Need-slice-aggregate-write-word-2
 slice-aggregate-write-word-2 c = search needs
 
--- src/lib.rt:414:13
 write-word-requires-2 : tie.Need-write-word-requires-2
 write-word-requires-2 c κs = let w = c .before .before .before .before .before .before in omega (arith, new-length w, on-bytes (held w) (past w .if1 .left))
 
--- src/lib.rt:397:5
 returns-2 : tie.Need-returns-2
 returns-2 c =
     let refused = c .before .before .before in
@@ -172,7 +152,6 @@ returns-2 c =
     ap₂ (λ (r : ℕ) (p : List ℕ). (r, p)) (result-is k) (ap (take (size h)) old)
     ∙ sym (is-replaced h own ∙ ap (λ (t : Bool). (checked h own, cond t (put h own) (page h))) (ne-eqb (checked h own) 0 (λ z. refused .if2 .taken (result-is k ∙ z))))
 
--- src/lib.rt:397:5
 returns-3 : tie.Need-returns-3
 returns-3 c =
     let k = c .before in

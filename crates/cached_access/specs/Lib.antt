@@ -1,2 +1,0 @@
--- The parts of an access with a cache, as the code goes through them.
-pub mod Part

@@ -45,7 +45,7 @@ ORDER = [
     ("Calls with a cache", ["cache/Cache", "cached_calls/Cached"]),
     ("The finite map", ["placement/Lists", "placement/FiniteMap", "placement/Placement", "calls/OnMap"]),
     ("The list", ["tables/Runs", "histories/Calls", "histories/Fed", "histories/Discipline"]),
-    (STATEMENTS, ["entry/RoundTrip", "registers/Blocks", "translation/Stated", "calls/AnyTable", "calls/Refusals", "calls/Widened", "calls/Represents", "access_rights/Stated", "cache/Placed",
+    (STATEMENTS, ["entry/RoundTrip", "registers/Blocks", "registers/Check", "translation/Stated", "calls/AnyTable", "calls/Refusals", "calls/Arguments", "calls/Widened", "calls/Represents", "access_rights/Stated", "cache/Placed",
         "cached_calls/Shown", "cached_calls/AnyCache", "calls/FirstClear", "histories/Histories", "histories/Theorem", "histories/Invisible", "histories/Demands", "lost_call/Lost"]),
 ]
 

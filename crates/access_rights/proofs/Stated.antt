@@ -4,7 +4,7 @@ use mathlib.Core.Path.{_≡_, refl, sym, ap, _∙_}
 use mathlib.Core.Bool.{Bool, true, false, cond, _&&_}
 use mathlib.Core.List.{List, [], _∷_, _++_, append-assoc}
 use native.Mathlib.Omega.{arith}
-use lib.Dec.{eqb, lit<}
+use lib.Dec.{eqb, lit<, lit≤}
 use lib.ListN.{length, getD, take, drop, replicate, length-append}
 use lib.Seq.{take-at, drop-at, getD-append-add}
 use borrow.Author.Tests.{eqb-true, eq-eqb, lt-ltb}
@@ -20,6 +20,7 @@ use Rattle.calls.specs.Rules.{refusal}
 use Rattle.calls.specs.Answers.{accessAnswer, refusedBytes, answerRefused}
 use Rattle.calls.specs.OnBytes.{ended, bytesDo, onBytes}
 use Rattle.calls.proofs.Access.{then-not-11}
+use Rattle.calls.proofs.Arguments.{access-decides}
 use Rattle.access_rights.specs.Rights.{RightsCall, asking, wouldEnd, newMarks, rightsTold, rightsRefusal, rightsCall}
 use Rattle.access_rights.specs.Stated.{answerTold, marksTold, ToldOnAny, RightsStated}
 use Rattle.access_rights.proofs.Shared.{ownRules, own-rules}
@@ -141,6 +142,11 @@ module _ (c : RightsCall) (answer t : List ℕ) where
       → rightsCall c answer t .0 ≡ refusal (fed (access (asking c kind))) (length t)
   number-is page long kind few = ap (λ (x : ℕ × List ℕ). x .0) (right-lengths c answer t page long) ∙ same-refusal page kind few
 
+  not-refused-to : rightsCall c answer t .0 ≡ 0 → (length answer ≡ 156) × ((kind : ℕ) → kind < 3 → refusal (fed (access (asking c kind))) (length t) ≡ 0)
+  not-refused-to z =
+      let (page, long) = lengths-right (λ e. let q : _≡_ {A = ℕ} 0 11 = sym z ∙ e in omega arith) in
+      (long, λ kind few. sym (number-is page long kind few) ∙ z)
+
   pub told-on-any : ToldOnAny c answer t
   unfolding rightsCall rightsRefusal refusal
   told-on-any = record {
@@ -149,11 +155,11 @@ module _ (c : RightsCall) (answer t : List ℕ) where
         ap (λ (s : List ℕ). answerTold s kind) (told-is n) ∙ told-at kind few ∙ any-lent (lengths-right n .0) kind lent long;
     marks = λ n bytes kind few. ap (λ (s : List ℕ). marksTold s kind) (told-is n) ∙ marked-at bytes kind few;
     number = number-is;
-    not-refused = (
-      λ z.
-          let (page, long) = lengths-right (λ e. let q : _≡_ {A = ℕ} 0 11 = sym z ∙ e in omega arith) in
-          (long, λ kind few. sym (number-is page long kind few) ∙ z),
-      λ (long, kept). rw long (kept 0 (lit< tt)),
+    not-refused = (not-refused-to, λ (long, kept). rw long (kept 0 (lit< tt)));
+    done-where = (
+      λ z. let (long, kept) = not-refused-to z in (long, access-decides (asking c 0) (length t) .0 (kept 0 (lit< tt)) .translates),
+      λ (long, good).
+          rw long (access-decides (asking c 0) (length t) .1 (record { answer = refl; kind-lt = lit< tt; some = lit≤ tt; few = lit≤ tt; translates = good })),
     );
   }
 

@@ -18,6 +18,7 @@ use Rattle.calls.specs.Request.{access, sdr1In, fed}
 use Rattle.calls.specs.Rules.{refusal}
 use Rattle.calls.specs.OnBytes.{onBytes, earlyOf, wantedPage}
 use Rattle.calls.specs.AnyTable.{secondHere, FirstMatch}
+use Rattle.calls.specs.Arguments.{Translates}
 use Rattle.access_rights.specs.Rights.{RightsCall, asking, wouldEnd, newMarks, rightsSize, rightsCall}
 use Rattle.access_rights.specs.Rows.{RightsRows}
 
@@ -47,6 +48,8 @@ pub record ToldOnAny (c : RightsCall) (answer t : List ℕ) : Type 0 where
   -- so it is 0 exactly where they are right and none of the accesses is refused for its mode, its set or the table's length
   pub not-refused : (rightsCall c answer t .0 ≡ done)
       ↔ ((length answer ≡ rightsSize) × ((kind : ℕ) → kind < 3 → refusal (fed (access (asking c kind))) (length t) ≡ 0))
+  -- in numbers: an answer of 156 bytes, and what an access asks of registers, mode and table
+  pub done-where : (rightsCall c answer t .0 ≡ done) ↔ ((length answer ≡ 156) × Translates (c .registers) (c .mode) (length t))
 
 -- the marks of one access on a table of bytes
 module _ (c : RightsCall) (t : List ℕ) (kind : ℕ) where

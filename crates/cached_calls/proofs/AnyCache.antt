@@ -1,41 +1,49 @@
 -- An access with any cache: where it is not done, or no part goes to the table, each part's step is idle; where no part is a hit, each part's search is
 -- that of the table; and where it is done, `Loads` tells what is loaded. An invalidate zeroes one set.
-use Prim.Native.Nat.{ℕ, _/_, _^_, _<_}
+use Prim.Native.Nat.{ℕ, _+_, _/_, _^_, _<_}
 use mathlib.Core.Path.{_≡_, refl, sym, ap, _∙_}
-use mathlib.Core.Bool.{Bool, true, false, true≢false}
-use mathlib.Core.List.{List, _∷_}
+use mathlib.Core.Bool.{Bool, true, false, not, true≢false}
+use mathlib.Core.List.{List, [], _∷_}
+use mathlib.Core.Logic.{_↔_}
 use mathlib.Core.Option.{Option, none}
 use native.Mathlib.Omega.{arith}
-use lib.Dec.{eqb}
+use lib.Dec.{eqb, ltb}
 use lib.ListN.{length, getD, replicate}
-use borrow.Author.Tests.{eqb-true, eqb-false, eq-eqb, ne-eqb}
+use borrow.Author.Tests.{not-false, eqb-true, eqb-false, eq-eqb, ne-eqb, ltb-true, lt-ltb}
 use Rattle.words.proofs.Tests.{by-test}
+use Rattle.words.specs.Bits.{bits}
 use Rattle.words.specs.Words.{bytesOf}
 use Rattle.register_words.specs.Sdr1.{maskOnes}
 use Rattle.groups.specs.Page.{Page}
+use Rattle.groups.specs.Hash.{groupNumber}
 use Rattle.protection.specs.Access.{storing}
-use Rattle.translation.specs.Steps.{outcomeOf}
+use Rattle.translation.specs.Steps.{afterSearch, outcomeOf, answerOf}
+use Rattle.translation.specs.Decision.{decisionOf}
 use Rattle.translation.specs.Operand.{overEdge, operandAnswer}
 use Rattle.translation.specs.declared.Answer.{Answer}
 use Rattle.translation.specs.declared.Early.the-variants.{Decided, Search}
+use Rattle.translation.specs.declared.Searched.the-variants.{At}
 use Rattle.translation.specs.declared.Wanted.{Wanted}
 use Rattle.translation.specs.declared.decision.Decision.{Decision}
 use Rattle.translation.specs.declared.operand.OperandAnswer.{OperandAnswer}
 use Rattle.cache.specs.Cache.{setOf, hit, setZeroed}
 use Rattle.cache.proofs.Cache.{zeroed-in, zeroed-out}
 use Rattle.cache.proofs.Hits.{zeroed-none, zeroed-apart}
-use Rattle.calls.specs.Request.{AccessCall, access, sdr1In}
+use Rattle.calls.specs.Request.{AccessCall, access, sdr1In, fed}
+use Rattle.calls.specs.Rules.{rules}
 use Rattle.calls.specs.Answers.{refusedBytes, answerRefused, accessAnswer}
-use Rattle.calls.specs.OnBytes.{Ended, ended, byOption, earlyOf, partAnswer, partDecision, wholeAnswer, eachPart, wantedPage, searchIn, firstPlaceIn, markedBy, bytesDo, onBytes}
+use Rattle.calls.specs.OnBytes.{Ended, ended, byOption, startOf, earlyOf, partAnswer, partDecision, wholeAnswer, eachPart, wantedPage, searchIn, firstPlaceIn, markedBy, bytesDo, onBytes}
 use Rattle.calls.specs.Represents.{GoodTable}
 use Rattle.calls.specs.AnyTable.{HasPart}
+use Rattle.calls.specs.Arguments.{PastRules, AccessGood}
 use Rattle.calls.proofs.OnBytes.{taken, refused}
 use Rattle.calls.proofs.TakenCalls.{good-table}
-use Rattle.calls.proofs.Refusals.{whole-fits, whole-zeros}
+use Rattle.calls.proofs.Refusals.{whole-past, whole-zeros}
+use Rattle.calls.proofs.Arguments.{past-kept, kept-none, none-kept, low, eleven, numbered, access-decides}
 use Rattle.calls.proofs.Access.{by-early, unmarked, unmarked-decided}
 use Rattle.cached_calls.specs.Cached.{cachedSearch, cachedPlace, missed, loadedBy, taken as takenFrom, takenPart, cachedDoes, cachedRefusal, onCached, invalidateCall, invalidateRefusal}
 use Rattle.cached_calls.specs.Shown.{isHit}
-use Rattle.cached_calls.specs.AnyCache.{goesToTable, FromTable, IsLoaded, CallsOnAnyCache}
+use Rattle.cached_calls.specs.AnyCache.{goesToTable, FromTable, IsLoaded, answeredBy, shownBy, PartHeld, CallsOnAnyCache}
 use Rattle.cached_calls.proofs.Found.{by-cases}
 use Rattle.cached_calls.proofs.Loads.{missing, going, kept-part, bytes-left, stands-first, pages-stand}
 use Rattle.cached_calls.proofs.Refusals.{right-refusal, wrong-refusal, cached-taken, cached-refused}
@@ -128,6 +136,46 @@ module _ (c : AccessCall (List ℕ)) (t cache : List ℕ) where
       (λ z. let e = eqb-true number 0 z in rw (cached-taken c t cache e) (does e))
       (λ z. let n = eqb-false number 0 z in rw (cached-refused c t cache number refl n) (refuses n))
 
+  -- the cache's length, of an access that is not refused
+  right-size : number ≡ 0 → length cache ≡ 2048
+  right-size z =
+      by-test (eqb (length cache) 2048) (λ e. eqb-true (length cache) 2048 e)
+      (λ e. absurd (let q : _≡_ {A = ℕ} 11 0 = sym (wrong-refusal c t cache (length t) (length cache) (eqb-false (length cache) 2048 e)) ∙ z in omega arith))
+
+  -- past its rules it is not refused by them
+  past-number : PastRules (onCached c (t, cache) .number) → number ≡ 0
+  unfolding cachedRefusal
+  past-number =
+      by-refusal (λ e. PastRules (e .number) → number ≡ 0) (λ z p. z)
+      (λ n p. kept-none own (past-kept own (eleven, numbered (fed (access c)) (length t)) p))
+    where
+      own : List (Bool × ℕ)
+      own = (not (eqb (length cache) 2048), 11) ∷ rules (fed (access c)) (length t)
+
+  any-past : PastRules (onCached c (t, cache) .number) ↔ (AccessGood c (length t) × (length cache ≡ 2048))
+  unfolding cachedDoes
+  any-past = (
+    (λ p.
+        let z = past-number p in
+        let size = right-size z in
+        (access-decides c (length t) .0 (sym (right-refusal c t cache (length t) (length cache) size) ∙ z), size)),
+    (λ (good, size).
+        let z = right-refusal c t cache (length t) (length cache) size ∙ access-decides c (length t) .1 good in
+        rw (cached-taken c t cache z) (whole-past c (cachedSearch k (c .kind) t cache) (cachedPlace k (c .kind) t cache))),
+  )
+
+  any-parts : PastRules (onCached c (t, cache) .number) → onCached c (t, cache) .answer ≡ accessAnswer (operandAnswer (c .address) (c .length) (answeredBy c t cache) (shownBy c t cache))
+  unfolding cachedDoes
+  any-parts p = rw (cached-taken c t cache (past-number p))
+
+  any-hit : (second : Bool) (wanted : Wanted) (first word : ℕ) → PartHeld c t cache second wanted first word
+      → let outcome = afterSearch (c .kind) (wanted .key) (At word) in
+      let group = groupNumber (10 + k) (eqb (bits 25 25 first) 1) (wantedPage wanted) in
+      (answeredBy c t cache second ≡ answerOf (c .kind) (startOf c second) outcome)
+      × (shownBy c t cache second ≡ decisionOf (record { key = wanted .key; group = group; entry = 8 }) outcome)
+  unfolding outcomeOf cachedSearch cachedPlace
+  any-hit second wanted first word h = (rw (h .wants, h .held), rw (h .wants, h .held))
+
   any-left : (onCached c (t, cache) .number ≡ 0 → ⊥) → onCached c (t, cache) .state ≡ (t, cache)
   unfolding cachedDoes
   any-left =
@@ -142,7 +190,7 @@ module _ (c : AccessCall (List ℕ)) (t cache : List ℕ) where
   unfolding cachedDoes answerRefused refusedBytes
   any-answer =
       by-refusal (λ e. e .number ≡ 11 → e .answer ≡ c .answer)
-      (λ z e. absurd (whole-fits c (cachedSearch k (c .kind) t cache) (cachedPlace k (c .kind) t cache) e)) (λ n e. rw e)
+      (λ z e. absurd (whole-past c (cachedSearch k (c .kind) t cache) (cachedPlace k (c .kind) t cache) .not-11 e)) (λ n e. rw e)
 
   any-zeros : (onCached c (t, cache) .number ≡ 0 → ⊥) → (onCached c (t, cache) .number ≡ 64 → ⊥) → (onCached c (t, cache) .number ≡ 65 → ⊥)
       → (onCached c (t, cache) .number ≡ 11 → ⊥) → onCached c (t, cache) .answer ≡ bytesOf (onCached c (t, cache) .number ∷ replicate 11 0)
@@ -177,9 +225,7 @@ module _ (c : AccessCall (List ℕ)) (t cache : List ℕ) where
     not-refused = by-refusal (λ e. e .number ≡ 0 → number ≡ 0) (λ z d. z) (λ n d. absurd (n d)) zero
 
     size : length cache ≡ 2048
-    size =
-        by-test (eqb (length cache) 2048) (λ z. eqb-true (length cache) 2048 z)
-        (λ z. absurd (let q : _≡_ {A = ℕ} 11 0 = sym (wrong-refusal c t cache (length t) (length cache) (eqb-false (length cache) 2048 z)) ∙ not-refused in omega arith))
+    size = right-size not-refused
 
     good : GoodTable k t
     good = good-table (access c) t (record { not-refused = sym (right-refusal c t cache (length t) (length cache) size) ∙ not-refused; bytes = bytes })
@@ -204,13 +250,22 @@ module _ (index : ℕ) (cache : List ℕ) where
   unfolding invalidateCall
   invalidate-left n = rw (ne-eqb refusing 0 n)
 
+  invalidate-where : (invalidateCall index cache .0 ≡ 0) ↔ ((length cache ≡ 2048) × (index < 65536))
+  unfolding invalidateCall invalidateRefusal
+  invalidate-where = (
+    (λ z.
+        let (long, (small, end)) = none-kept own (eleven, (low 6 refl refl, tt)) z in
+        (eqb-true (length cache) 2048 (not-false (eqb (length cache) 2048) long), ltb-true index 65536 (not-false (ltb index 65536) small))),
+    (λ (long, small). rw (eq-eqb (length cache) 2048 long, lt-ltb index 65536 small)),
+  )
+    where
+      own : List (Bool × ℕ)
+      own = (not (eqb (length cache) 2048), 11) ∷ (not (ltb index 65536), 6) ∷ []
+
   -- the cache that one leaves that is done, and its length
   module _ (z : invalidateCall index cache .0 ≡ 0) where
     right-length : length cache ≡ 2048
-    unfolding invalidateCall invalidateRefusal
-    right-length =
-        by-test (eqb (length cache) 2048) (λ e. eqb-true (length cache) 2048 e)
-        (λ e. absurd (let q : _≡_ {A = ℕ} 11 0 = (rw e at z) in omega arith))
+    right-length = invalidate-where .0 z .0
 
     invalidate-done : invalidateCall index cache .1 ≡ setZeroed index cache
     unfolding invalidateCall
@@ -237,6 +292,9 @@ module _ (index : ℕ) (cache : List ℕ) where
 pub calls-on-any-cache : CallsOnAnyCache
 calls-on-any-cache = record {
   accesses = λ c t cache. record {
+    past = any-past c t cache;
+    by-parts = any-parts c t cache;
+    hit-answers = any-hit c t cache;
     left = any-left c t cache;
     answer = any-answer c t cache;
     zeros = any-zeros c t cache;
@@ -246,6 +304,7 @@ calls-on-any-cache = record {
     others = any-others c t cache;
   };
   invalidates = λ index cache. record {
+    done-where = invalidate-where index cache;
     left = invalidate-left index cache;
     zeroes = invalidate-zeroes index cache;
     others = invalidate-others index cache;

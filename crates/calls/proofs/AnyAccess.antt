@@ -329,6 +329,26 @@ module _ (c : AccessCall (List ℕ)) (t : List ℕ) (a : Taken (access c) t) whe
   answer-is : (x : OperandAnswer) → told ≡ x → onBytes (access c) t .answer ≡ accessAnswer x
   answer-is x e = answer-of access-does ∙ ap accessAnswer e
 
+  -- the result is that of the part that answers
+  result-is : (x : OperandAnswer) → told ≡ x → onBytes (access c) t .number ≡ x .part .result
+  result-is x e = number-of access-does ∙ ap (λ (a : OperandAnswer). a .part .result) e
+
+  parts-done : onBytes (access c) t .number ≡ 0 → (parts false .result ≡ 0) × (HasPart c t true → parts true .result ≡ 0)
+  parts-done z =
+      let first : parts false .result ≡ 0 =
+      by-test (eqb (parts false .result) 0) (λ e. eqb-true (parts false .result) 0 e)
+      (λ e. let n = eqb-false (parts false .result) 0 e in absurd (n (sym (result-is _ (first-stops (c .address) (c .length) parts decisions n)) ∙ z))) in (
+        first,
+        λ has.
+            by-test (eqb (parts true .result) 0) (λ e. eqb-true (parts true .result) 0 e)
+            (λ e. let n = eqb-false (parts true .result) 0 e in absurd (n (sym (result-is _ (second-stops (c .address) (c .length) parts decisions first (has refl) n)) ∙ z))),
+      )
+
+  done-parts : parts false .result ≡ 0 → (HasPart c t true → parts true .result ≡ 0) → onBytes (access c) t .number ≡ 0
+  done-parts first second =
+      by-test over (λ is. result-is _ (both-done (c .address) (c .length) parts decisions first is (second (λ q. is))) ∙ first)
+      (λ one. result-is _ (one-done (c .address) (c .length) parts decisions first one) ∙ first)
+
   -- over an edge and done, the bytes are those up to the edge and the others
   both-told : 4096 < c .address % 4096 + c .length → parts false .result ≡ 0 → parts true .result ≡ 0 → (n m : ℕ) → c .address % 4096 + n ≡ 4096 → n + m ≡ c .length
       → told ≡ record { part = parts false; decision = decisions false; address = parts true .address; attributes = parts true .attributes; bytes = n; rest = m }
@@ -341,6 +361,7 @@ module _ (c : AccessCall (List ℕ)) (t : List ℕ) (a : Taken (access c) t) whe
   pub access-on-any : AccessOnAny c t k
   unfolding accessAnswer outcomeOf
   access-on-any = record {
+    done-where = (parts-done, λ (first, second). done-parts first second);
     own-steps = λ second. refl;
     decided-early = λ second outcome e. rw e;
     rules = rule-stated c t k;

@@ -36,12 +36,12 @@ use Rattle.translation.specs.declared.Wanted.{Wanted}
 use Rattle.translation.proofs.Stated.{access-as-stated}
 use Rattle.translation.proofs.Steps.{page-by, after-nothing, after-at, outcome-searched}
 use Rattle.calls.specs.Made.{fedAnswered}
-use Rattle.calls.specs.Request.{MapCall, ProtectCall, AnsweredCall, AccessCall, Request, mapPage, unmap, protect, look, access, sdr1In, fed}
+use Rattle.calls.specs.Request.{ClearCall, MapCall, ProtectCall, AnsweredCall, AccessCall, Request, clear, mapPage, unmap, protect, look, access, sdr1In, fed}
 use Rattle.calls.specs.Answers.{wordAnswer, accessAnswer}
 use Rattle.calls.specs.OnBytes.{layout, Ended, ended, byMatches, entryWord, earlyOf, wantedPage, searched, markedBy, bytesDo, onBytes}
 use Rattle.calls.specs.Represents.{GoodTable}
 use Rattle.calls.specs.AnyTable.{groupAt, firstHere, secondHere, Matching, SomeMatch, SomeMatchHas, Disagreeing, FirstMatch, Free, FirstFree, Marked, Taken}
-use Rattle.calls.specs.AnyTable.{MapOnAny, UnmapOnAny, ProtectOnAny, LookOnAny, SearchOnAny, AccessOnAny, CallsOnAnyTable, AccessStated}
+use Rattle.calls.specs.AnyTable.{ClearOnAny, MapOnAny, UnmapOnAny, ProtectOnAny, LookOnAny, SearchOnAny, AccessOnAny, CallsOnAnyTable, AccessStated}
 use Rattle.calls.proofs.TakenCalls.{good-table, does, number-of, state-of, answer-of, bit-set, r-is, c-is}
 use Rattle.calls.proofs.Rules.{fitting, map-kept, unmap-kept, look-kept, protect-kept}
 use Rattle.calls.proofs.Histories.{sdr1-fed}
@@ -96,6 +96,20 @@ module _ (c : MapCall) (t : List ℕ) (a : Taken (mapPage c) t) where
   map-on-any =
       let kept = map-kept (length t) c (a .not-refused) in
       record {
+        done-where = (
+          λ z.
+              by-matches (own mk t (c .page))
+              (λ e.
+              by-place (freePlace (layout mk) t (c .page)) (λ n. absurd (let q = sym (number-of (map-full e n)) ∙ z in omega arith))
+              (λ place n. (no-match mk t (c .page) e, (place .0, place .1, place-free mk t (c .page) (place .0) (place .1) n .is-free))))
+              (λ x xs e. absurd (let q = sym (number-of (map-matched x xs e)) ∙ z in omega arith)),
+          λ (out, (b, i, f)).
+              by-matches (own mk t (c .page))
+              (λ e.
+              by-place (freePlace (layout mk) t (c .page)) (λ n. absurd (none-free mk t (c .page) n b i f))
+              (λ place n. number-of (map-free e (place .0) (place .1) n)))
+              (λ x xs e. absurd (out (some-match mk t (c .page) x xs e))),
+        );
         refused-7 = (
           λ z.
               by-matches (own mk t (c .page))
@@ -297,6 +311,15 @@ module _ (c : AnsweredCall (List ℕ)) (t : List ℕ) (a : Taken (look c) t) whe
 
   look-on-any : LookOnAny c t lk
   look-on-any = record {
+    done-where = (
+      λ z.
+          look-by (λ e. absurd (let q = sym (number-of (look-none e)) ∙ z in omega arith))
+          (λ x xs e d. absurd (let q = sym (number-of (look-ten x xs e d)) ∙ z in omega arith))
+          (λ x xs e d. (some-match lk t (c .page) x xs e, λ dis. true≢false (sym (contradicts lk t (c .page) x xs e dis) ∙ d))),
+      λ (matched, agreed).
+          look-by (λ e. absurd (no-match lk t (c .page) e matched)) (λ x xs e d. absurd (agreed (disagree lk t (c .page) x xs e d)))
+          (λ x xs e d. number-of (look-one x xs e d)),
+    );
     refused-10 = (
       λ z.
           look-by (λ e. absurd (let q = sym (number-of (look-none e)) ∙ z in omega arith)) (λ x xs e d. disagree lk t (c .page) x xs e d)
@@ -322,10 +345,16 @@ module _ (c : AnsweredCall (List ℕ)) (t : List ℕ) (a : Taken (look c) t) whe
     left = look-by (λ e. state-of (look-none e)) (λ x xs e d. state-of (look-ten x xs e d)) (λ x xs e d. state-of (look-one x xs e d));
   }
 
+-- ---- clear
+
+clear-on-any : (c : ClearCall) (t : List ℕ) → Taken (clear c) t → ClearOnAny c t
+unfolding bytesDo
+clear-on-any c t was = let left = does (clear c) t was in record { is-done = number-of left; zeroed = state-of left }
+
 -- ---- every call
 
 pub calls-on-any-table : CallsOnAnyTable
-calls-on-any-table = record { maps = map-on-any; unmaps = unmap-on-any; protects = protect-on-any; looks = look-on-any; accesses = access-on-any }
+calls-on-any-table = record { clears = clear-on-any; maps = map-on-any; unmaps = unmap-on-any; protects = protect-on-any; looks = look-on-any; accesses = access-on-any }
 
 pub access-stated : AccessStated
 access-stated = record { steps = access-as-stated; on-tables = access-on-any }

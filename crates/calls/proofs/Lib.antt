@@ -15,6 +15,7 @@ pub mod AnyRule
 pub mod AnyAccess
 pub mod AnyTable
 pub mod Refusals
+pub mod Arguments
 pub mod PageCalls
 pub mod Access
 pub mod Pages

@@ -1,12 +1,12 @@
 -- A call that is not done leaves the table: its arguments refuse it, or the work finds a reason; only an argument's length is refused as one.
-use Prim.Native.Nat.{ℕ, _*_}
+use Prim.Native.Nat.{ℕ, _*_, _≤_, _<_}
 use mathlib.Core.Path.{_≡_, refl, sym, ap, ap₂, _∙_}
 use mathlib.Core.Bool.{Bool, true, false, cond, true≢false}
 use mathlib.Core.List.{List, [], _∷_}
-use mathlib.Core.Logic.{ite, if-pos, if-neg}
+use mathlib.Core.Logic.{_⊎_, inl, inr, ⊎-elim}
 use mathlib.Core.Option.{Option, none, some}
 use native.Mathlib.Omega.{arith}
-use lib.Dec.{eqb}
+use lib.Dec.{eqb, lit≤}
 use lib.ListN.{length, replicate}
 use borrow.Author.Tests.{eqb-true, eqb-false, eq-eqb, ne-eqb}
 use Rattle.words.specs.Words.{withWord, bytesOf}
@@ -37,10 +37,11 @@ use Rattle.translation.proofs.Parts.{result-of, not-done-stops}
 use Rattle.translation.proofs.Steps.{page-by}
 use Rattle.calls.specs.Request.{ClearCall, MapCall, ProtectCall, AnsweredCall, AccessCall, Request, clear, mapPage, unmap, protect, look, access, sdr1In, fed}
 use Rattle.calls.specs.Rules.{onLongPage, refusal}
-use Rattle.calls.specs.Answers.{accessAnswer, refusedBytes, answerRefused}
+use Rattle.calls.specs.Answers.{wordAnswer, accessAnswer, refusedBytes, answerRefused}
 use Rattle.calls.specs.WithoutTable.{setRegisterCall, packCall, unpackCall}
 use Rattle.calls.specs.OnBytes.{layout, Ended, ended, byMatches, byOption, earlyOf, bytesDo, onBytes, startOf, partAnswer, usedBy, partDecision, wholeAnswer, searchIn, firstPlaceIn}
 use Rattle.calls.specs.Refusals.{RefusalsLeave}
+use Rattle.calls.specs.Arguments.{PastRules}
 use Rattle.calls.proofs.Lent.{right-length, wrong-length}
 use Rattle.calls.proofs.OnBytes.{taken, refused}
 use Rattle.calls.proofs.Access.{refused-words, parts-unmarked}
@@ -80,64 +81,73 @@ does-keep k (access c) t = λ n. parts-unmarked k c _ t n
 
 -- ---- a refused length
 
--- a call that its arguments do not refuse is not refused by a length
-abbrev Fits : Ended (List ℕ) → Type 0
-Fits e = e .number ≡ 11 → ⊥
+-- a call that its arguments do not refuse is done, or ends as the search or a fault does
+abbrev Past : Ended (List ℕ) → Type 0
+Past e = PastRules (e .number)
 
-fault-fits : (cause kind : ℕ) → faultOf cause kind .result ≡ 11 → ⊥
+past : (n : ℕ) → (1 ≤ n → 6 < n) → (10 < n → 12 < n) → PastRules n
+past n low high = record { not-1-to-6 = low; not-11 = λ e. omega (arith, high (omega (arith, e)), e); not-12 = λ e. omega (arith, high (omega (arith, e)), e) }
+
+pub done-past : PastRules 0
+done-past = past 0 (λ h. omega arith) (λ h. omega arith)
+
+search-past : (n : ℕ) → 7 ≤ n → n ≤ 10 → PastRules n
+search-past n low high = past n (λ h. omega arith) (λ h. omega arith)
+
+fault-past : (cause kind : ℕ) → PastRules (faultOf cause kind .result)
 unfolding faultOf
-fault-fits cause kind = go (fetching kind)
+fault-past cause kind = go (fetching kind)
   where
-    go : (t : Bool) → cond {A = ℕ} t 65 64 ≡ 11 → ⊥
-    go true e = omega arith
-    go false e = omega arith
+    go : (t : Bool) → PastRules (cond {A = ℕ} t 65 64)
+    go true = past 65 (λ h. omega arith) (λ h. omega arith)
+    go false = past 64 (λ h. omega arith) (λ h. omega arith)
 
-early-fits : (kind address : ℕ) (outcome : Outcome) → earlyOutcome outcome ≡ true → answerOf kind address outcome .result ≡ 11 → ⊥
+early-past : (kind address : ℕ) (outcome : Outcome) → earlyOutcome outcome ≡ true → PastRules (answerOf kind address outcome .result)
 unfolding answerOf earlyOutcome
-early-fits kind address Real e z = omega arith
-early-fits kind address (Block i physical attributes) e z = omega arith
-early-fits kind address (BlockProtection i) e z = fault-fits protection kind z
-early-fits kind address NoExecute e z = fault-fits noFetch kind z
-early-fits kind address NoMatch e z = fault-fits noMatch kind z
-early-fits kind address Guarded e z = fault-fits noFetch kind z
-early-fits kind address (Protection second) e z = fault-fits protection kind z
-early-fits kind address (Done second) e z = omega arith
-early-fits kind address (Refused number) e z = true≢false (sym e)
+early-past kind address Real e = done-past
+early-past kind address (Block i physical attributes) e = done-past
+early-past kind address (BlockProtection i) e = fault-past protection kind
+early-past kind address NoExecute e = fault-past noFetch kind
+early-past kind address NoMatch e = fault-past noMatch kind
+early-past kind address Guarded e = fault-past noFetch kind
+early-past kind address (Protection second) e = fault-past protection kind
+early-past kind address (Done second) e = done-past
+early-past kind address (Refused number) e = absurd (true≢false (sym e))
 
-late-fits : (kind : ℕ) (key : Bool) (address : ℕ) (found : Searched) → answerOf kind address (afterSearch kind key found) .result ≡ 11 → ⊥
+late-past : (kind : ℕ) (key : Bool) (address : ℕ) (found : Searched) → PastRules (answerOf kind address (afterSearch kind key found) .result)
 unfolding answerOf afterSearch
-late-fits kind key address Contradicting z = omega arith
-late-fits kind key address Nothing z = fault-fits noMatch kind z
-late-fits kind key address (At word) z =
-    page-by kind key word (λ (outcome : Outcome). answerOf kind address outcome .result ≡ 11 → ⊥)
-    (λ g e. fault-fits noFetch kind e) (λ g p e. fault-fits protection kind e) (λ g p e. omega arith) z
-
-unmap-fits : (k : ℕ) (c : AnsweredCall (List ℕ)) (t : List ℕ) → Fits (bytesDo k (unmap c) t)
-unfolding bytesDo
-unmap-fits k c t = by-list Fits (matchesOf (layout k) t (c .page)) _ _ (λ z. omega arith) (λ x xs z. omega arith)
-
-look-fits : (k : ℕ) (c : AnsweredCall (List ℕ)) (t : List ℕ) → Fits (bytesDo k (look c) t)
-unfolding bytesDo
-look-fits k c t =
-    by-list Fits (matchesOf (layout k) t (c .page)) _ _ (λ z. omega arith) (λ x xs. by-bool Fits (contradict x xs) _ _ (λ z. omega arith) (λ z. omega arith))
+late-past kind key address Contradicting = search-past 10 (lit≤ tt) (lit≤ tt)
+late-past kind key address Nothing = fault-past noMatch kind
+late-past kind key address (At word) =
+    page-by kind key word (λ (outcome : Outcome). PastRules (answerOf kind address outcome .result))
+    (λ g. fault-past noFetch kind) (λ g p. fault-past protection kind) (λ g p. done-past)
 
 -- what an operand answers that its arguments do not refuse, whatever its searches find
-pub whole-fits : (c : AccessCall (List ℕ)) (search : Wanted → Searched) (place : Wanted → ℕ × ℕ) → wholeAnswer c search place .part .result ≡ 11 → ⊥
+pub whole-past : (c : AccessCall (List ℕ)) (search : Wanted → Searched) (place : Wanted → ℕ × ℕ) → PastRules (wholeAnswer c search place .part .result)
 unfolding outcomeOf
-whole-fits c search place = result-of (λ (n : ℕ). n ≡ 11 → ⊥) (c .address) (c .length) (partAnswer c search) (partDecision c search place) (part false) (part true)
+whole-past c search place = result-of PastRules (c .address) (c .length) (partAnswer c search) (partDecision c search place) (part false) (part true)
   where
-    part : (second : Bool) → partAnswer c search second .result ≡ 11 → ⊥
+    part : (second : Bool) → PastRules (partAnswer c search second .result)
     part second = go (earlyOf c second) refl
       where
-        go : (early : Early) → earlyOf c second ≡ early → answerOf (c .kind) (startOf c second) (outcomeOf (c .kind) search early) .result ≡ 11 → ⊥
-        go (Decided outcome) e z =
-            early-fits (c .kind) (startOf c second) outcome
-            (access-as-stated .before (onLongPage c) (registerWords (c .registers)) (c .mode) (c .kind) (startOf c second) .only-early outcome e) z
-        go (Search wanted) e z = late-fits (c .kind) (wanted .key) (startOf c second) (search wanted) z
+        go : (early : Early) → earlyOf c second ≡ early → PastRules (answerOf (c .kind) (startOf c second) (outcomeOf (c .kind) search early) .result)
+        go (Decided outcome) e =
+            early-past (c .kind) (startOf c second) outcome
+            (access-as-stated .before (onLongPage c) (registerWords (c .registers)) (c .mode) (c .kind) (startOf c second) .only-early outcome e)
+        go (Search wanted) e = late-past (c .kind) (wanted .key) (startOf c second) (search wanted)
 
-access-fits : (k : ℕ) (c : AccessCall (List ℕ)) (t : List ℕ) → Fits (bytesDo k (access c) t)
+pub does-past : (k : ℕ) (request : Request (List ℕ)) (t : List ℕ) → Past (bytesDo k request t)
 unfolding bytesDo
-access-fits k c t = whole-fits c (searchIn k t) (firstPlaceIn k t)
+does-past k (clear c) t = done-past
+does-past k (mapPage c) t =
+    by-list Past (matchesOf (layout k) t (c .page)) _ _
+    (by-option Past (freePlace (layout k) t (c .page)) _ _ (search-past 9 (lit≤ tt) (lit≤ tt)) (λ place. done-past)) (λ x xs. search-past 7 (lit≤ tt) (lit≤ tt))
+does-past k (unmap c) t = by-list Past (matchesOf (layout k) t (c .page)) _ _ (search-past 8 (lit≤ tt) (lit≤ tt)) (λ x xs. done-past)
+does-past k (protect c) t = by-list Past (matchesOf (layout k) t (c .page)) _ _ (search-past 8 (lit≤ tt) (lit≤ tt)) (λ x xs. done-past)
+does-past k (look c) t =
+    by-list Past (matchesOf (layout k) t (c .page)) _ _ (search-past 8 (lit≤ tt) (lit≤ tt))
+    (λ x xs. by-bool Past (contradict x xs) _ _ (search-past 10 (lit≤ tt) (lit≤ tt)) done-past)
+does-past k (access c) t = whole-past c (searchIn k t) (firstPlaceIn k t)
 
 module _ (request : Request (List ℕ)) (t : List ℕ) where
   abbrev number : ℕ
@@ -154,12 +164,11 @@ module _ (request : Request (List ℕ)) (t : List ℕ) where
       go false e = ap (λ (x : Ended (List ℕ)). x .state) (refused request t number refl (eqb-false number 0 e))
 
   -- where the number is 11 the arguments refused the call, and the answer is as it was lent
-  left-answer : Fits (bytesDo (maskOnes (sdr1In request)) request t) → onBytes request t .number ≡ 11
-      → onBytes request t .answer ≡ answerRefused (λ lent. lent) request 11
-  left-answer fits z = go (eqb number 0) refl
+  left-answer : onBytes request t .number ≡ 11 → onBytes request t .answer ≡ answerRefused (λ lent. lent) request 11
+  left-answer z = go (eqb number 0) refl
     where
       go : (b : Bool) → eqb number 0 ≡ b → onBytes request t .answer ≡ answerRefused (λ lent. lent) request 11
-      go true e = absurd (fits (sym (ap (λ (x : Ended (List ℕ)). x .number) (taken request t (eqb-true number 0 e))) ∙ z))
+      go true e = absurd (does-past (maskOnes (sdr1In request)) request t .not-11 (sym (ap (λ (x : Ended (List ℕ)). x .number) (taken request t (eqb-true number 0 e))) ∙ z))
       go false e =
           let q = refused request t number refl (eqb-false number 0 e) in
           let eleven : number ≡ 11 = sym (ap (λ (x : Ended (List ℕ)). x .number) q) ∙ z in
@@ -168,8 +177,36 @@ module _ (request : Request (List ℕ)) (t : List ℕ) where
 -- ---- what a refused access answers
 
 -- what a call answers that is neither done nor a fault nor refused by a length: its number and zero words
-abbrev Zeros : Ended (List ℕ) → Type 0
-Zeros e = (e .number ≡ 0 → ⊥) → (e .number ≡ 64 → ⊥) → (e .number ≡ 65 → ⊥) → (e .number ≡ 11 → ⊥) → e .answer ≡ bytesOf (e .number ∷ replicate 11 0)
+abbrev Zeros : ℕ → (ℕ → Type 0) → Ended (List ℕ) → Type 0
+Zeros zeros Fault e = (e .number ≡ 0 → ⊥) → (Fault (e .number) → ⊥) → (e .number ≡ 11 → ⊥) → e .answer ≡ bytesOf (e .number ∷ replicate zeros 0)
+
+-- by its work, or by its arguments
+module _ (zeros : ℕ) (Fault : ℕ → Type 0) (request : Request (List ℕ)) (t lent : List ℕ)
+    (answers : (number : ℕ) → answerRefused (λ lent. lent) request number ≡ refusedBytes zeros number lent) (does : (k : ℕ) → Zeros zeros Fault (bytesDo k request t)) where
+  zeros-of : Zeros zeros Fault (onBytes request t)
+  unfolding refusedBytes
+  zeros-of = go (eqb refuses 0) refl
+    where
+      refuses : ℕ
+      refuses = refusal (fed request) (length t)
+
+      go : (b : Bool) → eqb refuses 0 ≡ b → Zeros zeros Fault (onBytes request t)
+      go true e = rw (taken request t (eqb-true refuses 0 e)) (does (maskOnes (sdr1In request)))
+      go false e = rw (refused request t refuses refl (eqb-false refuses 0 e)) (λ done fault long. answers refuses ∙ rw (ne-eqb refuses 11 long))
+
+-- unmap and look have no faults
+abbrev NoFault : ℕ → Type 0
+NoFault number = ⊥
+
+unmap-does : (c : AnsweredCall (List ℕ)) (t : List ℕ) (k : ℕ) → Zeros 3 NoFault (bytesDo k (unmap c) t)
+unfolding bytesDo wordAnswer
+unmap-does c t k = by-list (Zeros 3 NoFault) (matchesOf (layout k) t (c .page)) _ _ (λ done fault lent. refl) (λ x xs done. absurd (done refl))
+
+look-does : (c : AnsweredCall (List ℕ)) (t : List ℕ) (k : ℕ) → Zeros 3 NoFault (bytesDo k (look c) t)
+unfolding bytesDo wordAnswer
+look-does c t k =
+    by-list (Zeros 3 NoFault) (matchesOf (layout k) t (c .page)) _ _ (λ done fault lent. refl)
+    (λ x xs. by-bool (Zeros 3 NoFault) (contradict x xs) _ _ (λ done fault lent. refl) (λ done. absurd (done refl)))
 
 -- refused by its work: the part that stops an operand is a refusal
 pub whole-zeros : (c : AccessCall (List ℕ)) (search : Wanted → Searched) (place : Wanted → ℕ × ℕ) → let a = wholeAnswer c search place in
@@ -182,25 +219,12 @@ whole-zeros c search place done by-data by-fetch =
     (λ z. done (number ∙ z)) (λ z. by-data (number ∙ z)) (λ z. by-fetch (number ∙ z)) in
     ap accessAnswer (stops ∙ ap₂ (λ (a : Answer) (d : Decision). stopped a d) words shown) ∙ ap (λ (n : ℕ). bytesOf (n ∷ replicate 11 0)) (sym number)
 
-module _ (c : AccessCall (List ℕ)) (t : List ℕ) where
-  does-zeros : (k : ℕ) → Zeros (bytesDo k (access c) t)
-  unfolding bytesDo
-  does-zeros k done by-data by-fetch lent = whole-zeros c (searchIn k t) (firstPlaceIn k t) done by-data by-fetch
+abbrev AccessFault : ℕ → Type 0
+AccessFault number = (number ≡ 64) ⊎ (number ≡ 65)
 
-  -- refused by its arguments
-  arguments-zeros : (number : ℕ) → Zeros (ended number t (answerRefused (λ lent. lent) (access c) number))
-  unfolding answerRefused refusedBytes
-  arguments-zeros number done by-data by-fetch lent = rw (ne-eqb number 11 lent)
-
-  access-zeros : Zeros (onBytes (access c) t)
-  access-zeros = go (eqb refuses 0) refl
-    where
-      refuses : ℕ
-      refuses = refusal (fed (access c)) (length t)
-
-      go : (b : Bool) → eqb refuses 0 ≡ b → Zeros (onBytes (access c) t)
-      go true e = rw (taken (access c) t (eqb-true refuses 0 e)) (does-zeros (maskOnes (sdr1In (access c))))
-      go false e = rw (refused (access c) t refuses refl (eqb-false refuses 0 e)) (arguments-zeros refuses)
+access-does : (c : AccessCall (List ℕ)) (t : List ℕ) (k : ℕ) → Zeros 11 AccessFault (bytesDo k (access c) t)
+unfolding bytesDo
+access-does c t k done fault lent = whole-zeros c (searchIn k t) (firstPlaceIn k t) done (λ z. fault (inl z)) (λ z. fault (inr z))
 
 -- ---- the calls without a table
 
@@ -244,10 +268,12 @@ unfolding answerRefused refusedBytes packCall unpackCall
 refusals-leave = record {
   table = left-table;
   registers = set-left;
-  unmap-answer = λ c t z. left-answer (unmap c) t (unmap-fits (maskOnes (sdr1In (unmap c))) c t) z;
-  look-answer = λ c t z. left-answer (look c) t (look-fits (maskOnes (sdr1In (look c))) c t) z;
-  access-answer = λ c t z. left-answer (access c) t (access-fits (maskOnes (sdr1In (access c))) c t) z;
-  access-zeros = access-zeros;
+  unmap-answer = λ c t z. left-answer (unmap c) t z;
+  look-answer = λ c t z. left-answer (look c) t z;
+  access-answer = λ c t z. left-answer (access c) t z;
+  unmap-zeros = λ c t done lent. zeros-of 3 NoFault (unmap c) t (c .answer) (λ n. refl) (unmap-does c t) done (λ f. f) lent;
+  look-zeros = λ c t done lent. zeros-of 3 NoFault (look c) t (c .answer) (λ n. refl) (look-does c t) done (λ f. f) lent;
+  access-zeros = λ c t done by-data by-fetch lent. zeros-of 11 AccessFault (access c) t (c .answer) (λ n. refl) (access-does c t) done (⊎-elim by-data by-fetch) lent;
   entry = λ f entry z. lent-left 8 entry _ (packCall f entry) (right-length 8 entry _) (wrong-length 8 entry _) (pack-fits f) z;
   fields = λ first second fields z. lent-left 36 fields _ (unpackCall first second fields) (right-length 36 fields _) (wrong-length 36 fields _) (λ q. omega arith) z;
 }

@@ -22,6 +22,7 @@ page-rows = record {
   page-refusals = record { equal = refl };
   access-refusals = record { equal = refl };
   left-rows = record { equal = refl };
+  compared-rows = record { equal = refl };
   look-rows = record { equal = refl };
   unmap-rows = record { equal = refl };
   protect-rows = record { equal = refl };

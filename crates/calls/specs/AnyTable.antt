@@ -5,7 +5,7 @@ use mathlib.Core.Bool.{Bool, true, false, cond}
 use mathlib.Core.List.{List, [], _∷_, _++_}
 use mathlib.Core.Logic.{_↔_}
 use mathlib.Core.Path.{_≡_}
-use lib.ListN.{length, getD, take}
+use lib.ListN.{length, getD, take, replicate}
 use Rattle.numbers.specs.Numbers.{done, refusedMapped, refusedNoMatch, refusedFull, refusedContradiction, fetch, store, groupEntries, answerSize, pageSize}
 use Rattle.numbers.specs.Numbers.{ruleReal, ruleBlock, ruleNoExecute, ruleNoMatch, ruleGuarded, ruleProtection, ruleDone}
 use Rattle.words.specs.Bits.{bits}
@@ -32,7 +32,7 @@ use Rattle.translation.specs.declared.Outcome.{Outcome}
 use Rattle.translation.specs.declared.Outcome.the-variants.{NoMatch}
 use Rattle.translation.specs.declared.Searched.the-variants.{At}
 use Rattle.translation.specs.declared.Wanted.{Wanted}
-use Rattle.calls.specs.Request.{MapCall, ProtectCall, AnsweredCall, AccessCall, Request, mapPage, unmap, protect, look, access, sdr1In, fed}
+use Rattle.calls.specs.Request.{ClearCall, MapCall, ProtectCall, AnsweredCall, AccessCall, Request, clear, mapPage, unmap, protect, look, access, sdr1In, fed}
 use Rattle.calls.specs.Rules.{onLongPage, refusal}
 use Rattle.calls.specs.Answers.{wordAnswer, partWords, ruleWords, accessAnswer}
 use Rattle.calls.specs.OnBytes.{Ended, onBytes, startOf, earlyOf, partAnswer, partDecision, wantedPage, searchIn, firstPlaceIn, markedBy}
@@ -109,12 +109,22 @@ pub record Taken (request : Request (List ℕ)) (t : List ℕ) : Type 0 where
   pub not-refused : refusal (fed request) (length t) ≡ 0
   pub bytes : (i : ℕ) → getD t i 0 < 2 ^ 8
 
+-- clear: done, and as many zero bytes as the table had
+module _ (c : ClearCall) (t : List ℕ) where
+  abbrev pub clearedBy : Ended (List ℕ)
+  clearedBy = onBytes (clear c) t
+
+  pub record ClearOnAny : Type 0 where
+    pub is-done : clearedBy .number ≡ done
+    pub zeroed : clearedBy .state ≡ replicate (length t) 0
+
 -- map: refused where the page has a match, and where it has none and all sixteen entries have V = 1; else the first with V = 0 is written
 module _ (c : MapCall) (t : List ℕ) where
   abbrev pub mapped : Ended (List ℕ)
   mapped = onBytes (mapPage c) t
 
   pub record MapOnAny (k : ℕ) : Type 0 where
+    pub done-where : (mapped .number ≡ done) ↔ ((SomeMatch k t (c .page) → ⊥) × ((b : Bool) × (i : ℕ) × Free k t (c .page) b i))
     pub refused-7 : (mapped .number ≡ refusedMapped) ↔ SomeMatch k t (c .page)
     pub refused-9 : (mapped .number ≡ refusedFull) ↔ ((SomeMatch k t (c .page) → ⊥) × ((b : Bool) (i : ℕ) → Free k t (c .page) b i → ⊥))
     pub entered : mapped .number ≡ done → (b : Bool) (i : ℕ) → FirstFree k t (c .page) b i
@@ -156,6 +166,7 @@ module _ (c : AnsweredCall (List ℕ)) (t : List ℕ) where
   looked = onBytes (look c) t
 
   pub record LookOnAny (k : ℕ) : Type 0 where
+    pub done-where : (looked .number ≡ done) ↔ (SomeMatch k t (c .page) × (Disagreeing k t (c .page) → ⊥))
     pub refused-10 : (looked .number ≡ refusedContradiction) ↔ Disagreeing k t (c .page)
     pub refused-8 : (looked .number ≡ refusedNoMatch) ↔ (SomeMatch k t (c .page) → ⊥)
     pub word : looked .number ≡ done → (b : Bool) (i : ℕ) → FirstMatch k t (c .page) b i → looked .answer ≡ wordAnswer done (secondHere k t (c .page) b i)
@@ -255,6 +266,8 @@ module _ (c : AccessCall (List ℕ)) (t : List ℕ) where
       pub first : FirstMatch k t (wantedPage wanted) b i
 
     pub record AccessOnAny : Type 0 where
+      -- done exactly where each part is
+      pub done-where : (accessed .number ≡ done) ↔ ((answered false .result ≡ done) × (HasPart true → answered true .result ≡ done))
       -- each part goes through steps 1 to 3 at its own start, and answers for itself where they decide it
       pub own-steps : (second : Bool)
           → earlyOf c second ≡ beforeSearch (blockPairs (onLongPage c)) (blWidth (onLongPage c)) (registerWords (c .registers)) (c .mode) (c .kind) (partStart (c .address) (c .length) second)
@@ -291,6 +304,7 @@ module _ (c : AccessCall (List ℕ)) (t : List ℕ) where
 
 -- every call on any table
 pub record CallsOnAnyTable : Type 0 where
+  pub clears : (c : ClearCall) (t : List ℕ) → Taken (clear c) t → ClearOnAny c t
   pub maps : (c : MapCall) (t : List ℕ) → Taken (mapPage c) t → MapOnAny c t (maskOnes (c .sdr1))
   pub unmaps : (c : AnsweredCall (List ℕ)) (t : List ℕ) → Taken (unmap c) t → UnmapOnAny c t (maskOnes (c .sdr1))
   pub protects : (c : ProtectCall) (t : List ℕ) → Taken (protect c) t → ProtectOnAny c t (maskOnes (c .sdr1))

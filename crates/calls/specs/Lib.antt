@@ -11,6 +11,7 @@ pub mod Represents
 pub mod FirstClear
 pub mod AnyTable
 pub mod Refusals
+pub mod Arguments
 pub mod Widened
 pub mod Tables
 pub mod PageRows

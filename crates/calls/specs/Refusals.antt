@@ -20,6 +20,11 @@ pub record RefusalsLeave : Type 0 where
   pub unmap-answer : (c : AnsweredCall (List ℕ)) (t : List ℕ) → onBytes (unmap c) t .number ≡ refusedLentLength → onBytes (unmap c) t .answer ≡ c .answer
   pub look-answer : (c : AnsweredCall (List ℕ)) (t : List ℕ) → onBytes (look c) t .number ≡ refusedLentLength → onBytes (look c) t .answer ≡ c .answer
   pub access-answer : (c : AccessCall (List ℕ)) (t : List ℕ) → onBytes (access c) t .number ≡ refusedLentLength → onBytes (access c) t .answer ≡ c .answer
+  -- a look and an unmap that are refused otherwise answer their number and zero words
+  pub unmap-zeros : (c : AnsweredCall (List ℕ)) (t : List ℕ) → let number = onBytes (unmap c) t .number in
+      (number ≡ done → ⊥) → (number ≡ refusedLentLength → ⊥) → onBytes (unmap c) t .answer ≡ bytesOf (number ∷ replicate 3 0)
+  pub look-zeros : (c : AnsweredCall (List ℕ)) (t : List ℕ) → let number = onBytes (look c) t .number in
+      (number ≡ done → ⊥) → (number ≡ refusedLentLength → ⊥) → onBytes (look c) t .answer ≡ bytesOf (number ∷ replicate 3 0)
   -- an access that is refused otherwise answers its number and zero words, those of the rule that decided among them
   pub access-zeros : (c : AccessCall (List ℕ)) (t : List ℕ) → let number = onBytes (access c) t .number in
       (number ≡ done → ⊥) → (number ≡ dataStorageFault → ⊥) → (number ≡ instructionStorageFault → ⊥) → (number ≡ refusedLentLength → ⊥)

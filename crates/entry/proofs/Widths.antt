@@ -1,23 +1,11 @@
 -- `withinWidths` as a record of inequalities, both ways.
 use mathlib.Core.Path.{_≡_}
 use mathlib.Core.Bool.{true}
-use Prim.Native.Nat.{_^_, _<_}
 use borrow.Author.Tests.{ltb-true, lt-ltb}
 use Rattle.words.proofs.Tests.{both}
 use Rattle.entry.specs.declared.Fields.{Fields}
 use Rattle.entry.specs.Entry.{withinWidths}
-
--- each field is within its width
-pub record Within (f : Fields) : Type 0 where
-  pub v : f .v < 2 ^ 1
-  pub vsid : f .vsid < 2 ^ 24
-  pub h : f .h < 2 ^ 1
-  pub api : f .api < 2 ^ 6
-  pub rpn : f .rpn < 2 ^ 20
-  pub r : f .r < 2 ^ 1
-  pub c : f .c < 2 ^ 1
-  pub wimg : f .wimg < 2 ^ 4
-  pub pp : f .pp < 2 ^ 2
+use Rattle.entry.specs.RoundTrip.{Within}
 
 module _ (f : Fields) where
   pub within : withinWidths f ≡ true → Within f

@@ -7,6 +7,18 @@ use Rattle.words.specs.Bits.{bits}
 use Rattle.entry.specs.declared.Fields.{Fields}
 use Rattle.entry.specs.Entry.{ignoredBits, withinWidths, packed, unpacked, matches}
 
+-- each field is within its width
+pub record Within (f : Fields) : Type 0 where
+  pub v : f .v < 2 ^ 1
+  pub vsid : f .vsid < 2 ^ 24
+  pub h : f .h < 2 ^ 1
+  pub api : f .api < 2 ^ 6
+  pub rpn : f .rpn < 2 ^ 20
+  pub r : f .r < 2 ^ 1
+  pub c : f .c < 2 ^ 1
+  pub wimg : f .wimg < 2 ^ 4
+  pub pp : f .pp < 2 ^ 2
+
 pub record PackingAgrees : Type 0 where
   -- fields each within its width are packed, and unpacking what was packed gives the fields
   pub packs : (f : Fields) → withinWidths f ≡ true → packed f .0 ≡ 0

@@ -6,6 +6,7 @@ use Rattle.matches.proofs.Tables.{matches-tables}
 use Rattle.edits.proofs.Tables.{edits-tables}
 use Rattle.cache.proofs.Tables.{cache-tables}
 use Rattle.calls.proofs.Refusals.{refusals-leave}
+use Rattle.calls.proofs.Arguments.{arguments-decide}
 use Rattle.calls.proofs.AnyTable.{calls-on-any-table, access-stated}
 use Rattle.calls.proofs.WidenedPages.{pages-widen}
 use Rattle.calls.proofs.Tables.{without-table-tables, page-rows, operand-rows}
@@ -21,6 +22,7 @@ use Rattle.histories.proofs.Rows.{slice-rows, waiting-rows}
 pub all-demands : Demands
 all-demands = record {
   refusals = refusals-leave;
+  arguments = arguments-decide;
   accesses = access-stated;
   histories = table-refines-map;
   pages = access-follows-history;

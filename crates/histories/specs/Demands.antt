@@ -6,6 +6,7 @@ use Rattle.matches.specs.Tables.{MatchesTables}
 use Rattle.edits.specs.Tables.{EditsTables}
 use Rattle.cache.specs.Tables.{CacheTables}
 use Rattle.calls.specs.Refusals.{RefusalsLeave}
+use Rattle.calls.specs.Arguments.{ArgumentsDecide}
 use Rattle.calls.specs.AnyTable.{CallsOnAnyTable, AccessStated}
 use Rattle.calls.specs.Widened.{PagesWiden}
 use Rattle.calls.specs.Tables.{WithoutTableTables}
@@ -21,6 +22,8 @@ use Rattle.histories.specs.Rows.{SliceRows, WaitingRows}
 pub record Demands : Type 0 where
   -- 1: a refusal leaves what was lent; of calls with a cache that stands in what they do to any
   pub refusals : RefusalsLeave
+  -- exactly when none of the refusals before the search is given
+  pub arguments : ArgumentsDecide
   -- 2: each access gives the address, attributes and marks, or the fault, of the rules
   pub accesses : AccessStated
   -- 3: over every history after a first clear that was done, the table answers as the finite map; and what that means for a page

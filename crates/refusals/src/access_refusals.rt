@@ -157,3 +157,15 @@ pub fn every_mode() {
             == 1,
     );
 }
+
+// Mode and kind past a byte.
+pub fn past_a_byte() {
+    let good = page_of(SDR1, SEGMENT, OFF, OFF);
+    // Access: 6 for a mode and a kind of which the low byte is good (256, 257 and 80000000). Source: rules 5 and 7.
+    line(1223, access(Scene::Mapped, RIGHT, 256, 1, good) == 6);
+    line(1224, access(Scene::Mapped, RIGHT, 257, 1, good) == 6);
+    line(1225, access(Scene::Mapped, RIGHT, 0x80000000, 1, good) == 6);
+    line(1226, access(Scene::Mapped, RIGHT, 1, 256, good) == 6);
+    line(1227, access(Scene::Mapped, RIGHT, 1, 257, good) == 6);
+    line(1228, access(Scene::Mapped, RIGHT, 1, 0x80000000, good) == 6);
+}

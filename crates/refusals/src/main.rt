@@ -60,4 +60,5 @@ fn main() {
     run_page_refusals();
     run_access_refusals();
     run_readings();
+    access_refusals::past_a_byte();
 }

@@ -14,7 +14,7 @@ use Rattle.register_words.proofs.Blocks.{covered-share, share-witness, holds-ra
 
 module _ (pairs width : ℕ) (wide : width ≤ 15) where
   module _ (words : List ℕ) where
-    before : (side user : Bool) (address i j : ℕ) → sideApart pairs width words side ≡ true → i < j → j < pairs
+    pub before : (side user : Bool) (address i j : ℕ) → sideApart pairs width words side ≡ true → i < j → j < pairs
         → pairCovers pairs width words side user address i ≡ true → pairCovers pairs width words side user address j ≡ true → ⊥
     unfolding sideApart pairApart pairCovers
     before side user address i j apart l h c₁ c₂ =

@@ -6,5 +6,6 @@ pub mod Widened
 pub mod Pages
 pub mod Placed
 pub mod Blocks
+pub mod Check
 pub mod Computes
 pub mod Tables

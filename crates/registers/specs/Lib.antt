@@ -2,4 +2,5 @@
 pub mod Rules
 pub mod Set
 pub mod Blocks
+pub mod Check
 pub mod Tables

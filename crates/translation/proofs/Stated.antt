@@ -5,7 +5,7 @@ use mathlib.Core.Path.{_≡_, sym, ap, _∙_}
 use Prim.Native.Nat.{ℕ, _/_, _%_, _^_, _≤_, _<_}
 use native.Mathlib.Nat.{le-refl}
 use native.Mathlib.Omega.{arith}
-use lib.Dec.{eqb, ltb, lit≤}
+use lib.Dec.{eqb, ltb}
 use borrow.Author.Tests.{eqb-true, eqb-false, eq-eqb, ne-eqb, lt-ltb, le-ltb, not-true}
 use Rattle.entry.specs.Entry.{rpnOf, ppOf, physicalAddress}
 use Rattle.numbers.proofs.Tables.{numbers-tables}
@@ -15,9 +15,10 @@ use Rattle.entry.proofs.Matches.{match-agrees}
 use Rattle.entry.proofs.Tables.{entry-tables}
 use Rattle.register_words.proofs.Tables.{register-words-tables}
 use Rattle.registers.proofs.Tables.{registers-tables}
-use Rattle.register_words.specs.Block.{blWidth}
-use Rattle.registers.specs.Set.{blockPairs, checkWords, pairCovers, coveringPair}
+use Rattle.register_words.specs.Block.{blWidth, blockAttributes}
+use Rattle.registers.specs.Set.{blockPairs, lowerOf, checkWords, pairCovers, coveringPair}
 use Rattle.registers.proofs.Blocks.{blocks-decide}
+use Rattle.registers.proofs.Check.{check-decides, at-most-15, replacing-decides}
 use Rattle.protection.specs.Access.{userMode, fetching, storing, relocated, sideOf}
 use Rattle.protection.specs.Protection.{pageWritable, pageAllows}
 use Rattle.protection.specs.Fault.{faultOf}
@@ -30,7 +31,7 @@ use Rattle.translation.specs.declared.Answer.{Answer}
 use Rattle.translation.proofs.Parts.{operand-stated}
 use Rattle.translation.proofs.Steps.{block-done, block-fault, before-real, before-block, before-no-execute, before-search, wanted-in-range, decided-early, no-execute-fetch}
 use Rattle.translation.proofs.Steps.{after-contradicting, after-nothing, after-at, page-guarded, page-protected, done-passes, passes-done, after-late, guarded-fetch, outcome-decided}
-use Rattle.translation.proofs.Answers.{answer-real, answer-done, answer-refused, answer-effective, answer-page-same}
+use Rattle.translation.proofs.Answers.{answer-real, answer-block, answer-done, answer-refused, answer-effective, answer-page-same}
 use Rattle.translation.proofs.Covering.{covering-none, covering-one, block-offset}
 use Rattle.protection.proofs.Tables.{protection-tables}
 use Rattle.translation.proofs.Tables.{access-tables}
@@ -111,16 +112,17 @@ module _ (kind address : ℕ) where
     frame = λ second. ap (λ (a : Answer). a .address / 2 ^ 12) (answer-done kind address second) ∙ frame second;
     byte = λ second. ap (λ (a : Answer). a .address % 2 ^ 12) (answer-done kind address second) ∙ byte second;
     attributes = λ second. ap (λ (a : Answer). a .attributes) (answer-done kind address second);
+    by-block = λ long words mode search i on passed h covers allows.
+        let lower = lowerOf (blockPairs long) words (sideOf kind) i in
+        ap (λ (early : Early). answerOf kind address (outcomeOf kind search early))
+        (steps-before (blockPairs long) (blWidth long) (at-most-15 long) words mode kind address .block-done on passed i h covers allows)
+        ∙ ap (answerOf kind address) (outcome-decided kind search _)
+        ∙ answer-block kind address i _ (blockAttributes lower);
     fetch-fault = fetch-fault;
     data-fault = data-fault;
     effective = answer-effective kind address;
     refused = answer-refused kind address;
   }
-
--- BL has at most 15 bits
-at-most-15 : (long : Bool) → blWidth long ≤ 15
-at-most-15 true = lit≤ tt
-at-most-15 false = lit≤ tt
 
 pub access-as-stated : AccessAsStated
 access-as-stated = record {
@@ -131,6 +133,8 @@ access-as-stated = record {
   entries = entry-tables;
   register-words = register-words-tables;
   registers = registers-tables;
+  check = check-decides;
+  replacing = replacing-decides;
   blocks = λ long. blocks-decide (blockPairs long) (blWidth long) (at-most-15 long);
   block-physical = λ long side upper lower address shape-u shape-l. block-offset (blWidth long) (at-most-15 long) side upper lower address shape-u shape-l;
   before = λ long. steps-before (blockPairs long) (blWidth long) (at-most-15 long);

@@ -20,6 +20,7 @@ access-tables = record {
   pages = record { equal = refl };
   answers = record { equal = refl };
   accesses = record { equal = refl };
+  block-answers = record { equal = refl };
   first-bytes = record { equal = refl };
   edges = record { equal = refl };
   starts = record { equal = refl };

@@ -17,6 +17,7 @@ use Rattle.registers.specs.Tables.{RegistersTables}
 use Rattle.register_words.specs.Segment.{noExecute}
 use Rattle.register_words.specs.Block.{blWidth, brpnOf, blOf, upperShape, lowerShape, blockAttributes, blockPP, blockPhysical}
 use Rattle.registers.specs.Blocks.{BlocksDecide}
+use Rattle.registers.specs.Check.{CheckDecides, ReplacingDecides}
 use Rattle.registers.specs.Set.{blockPairs, upperOf, lowerOf, checkWords, pairCovers}
 use Rattle.protection.specs.Access.{userMode, fetching, relocated, sideOf}
 use Rattle.protection.specs.Protection.{pageAllows, blockAllows, guarded}
@@ -105,6 +106,15 @@ pub record AnswersStated (kind address : ℕ) : Type 0 where
   -- in real mode the address itself, whatever the registers hold and whatever a search would find
   pub real-mode : (pairs width : ℕ) (words : List ℕ) (mode : ℕ) (search : Wanted → Searched) → relocated mode kind ≡ false
       → answerOf kind address (outcomeOf kind search (beforeSearch pairs width words mode kind address)) ≡ doneAnswer address attributesReal address
+  -- done by a block: the physical address and the WIMG of the block of the side that covers the address, whatever a search would find
+  pub by-block : (long : Bool) (words : List ℕ) (mode : ℕ) (search : Wanted → Searched) (i : ℕ) → let pairs = blockPairs long in
+      let width = blWidth long in
+      let upper = upperOf pairs words (sideOf kind) i in
+      let lower = lowerOf pairs words (sideOf kind) i in
+      relocated mode kind ≡ true → checkWords pairs width words ≡ done → i < pairs
+      → pairCovers pairs width words (sideOf kind) (userMode mode) address i ≡ true → blockAllows (blockPP lower) kind ≡ true
+      → answerOf kind address (outcomeOf kind search (beforeSearch pairs width words mode kind address))
+      ≡ doneAnswer (blockPhysical width upper lower address) (blockAttributes lower) address
   -- done by a page: the entry's frame with the byte in the page, the entry's attributes
   pub done : (second : ℕ) → answerOf kind address (Done second) .result ≡ done
   pub frame : (second : ℕ) → answerOf kind address (Done second) .address / 2 ^ 12 ≡ rpnOf second
@@ -141,6 +151,9 @@ pub record AccessAsStated : Type 0 where
   pub registers : RegistersTables
   -- both limits: four pairs and BL of 11 bits on a short register page, eight and 15 on a long one
   pub blocks : (long : Bool) → BlocksDecide (blockPairs long) (blWidth long)
+  -- when the check of a register set answers 0, and when a word of it is replaced
+  pub check : CheckDecides
+  pub replacing : ReplacingDecides
   -- in a block of right shape the physical address is its physical start and the address's 17 + k low bits, where BL has k ones
   pub block-physical : (long side : Bool) (upper lower address : ℕ) → upperShape (blWidth long) upper ≡ true → lowerShape (blWidth long) side upper lower ≡ true
       → blockPhysical (blWidth long) upper lower address ≡ placed 14 (brpnOf lower) + address % 2 ^ (17 + size (blOf (blWidth long) upper))

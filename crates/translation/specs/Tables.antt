@@ -277,6 +277,13 @@ pub record AccessTables : Type 0 where
       ∷ (wholeAccess 0x12345012 (one 1 0x100C701C) 2 0 0x00FFB01B, answer instructionStorageFault 0x10000000 0x400 0x00FFB01B)
       ∷ []
       )
+  -- a fetch, a load and a store by a block answer its WIMG
+  pub block-answers : Hold (
+      (wholeAccess 0 (two 17 0x00000002 18 0x20000033) 2 0 0x00001234, answer done 0x20001234 6 0x00001234)
+      ∷ (wholeAccess 0 (two 25 0x00000002 26 0x2000005A) 1 1 0x00001234, answer done 0x20001234 11 0x00001234)
+      ∷ (wholeAccess 0 (two 25 0x00000002 26 0x2000005A) 1 2 0x00001234, answer done 0x20001234 11 0x00001234)
+      ∷ []
+      )
   -- the bytes in the first page, whether there is a second, and where each part starts
   pub first-bytes : Hold (
       (firstBytes 0x00000FFE 4, 2)

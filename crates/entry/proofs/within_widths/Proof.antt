@@ -9,7 +9,8 @@ use borrow.Author.Tests.{ltb-true, lt-ltb}
 use Rattle.words.proofs.Tests.{both, same-test}
 use Rattle.entry.specs.declared.Fields.{Fields}
 use Rattle.entry.specs.Entry.{withinWidths}
-use Rattle.entry.proofs.Widths.{Within, within, widths}
+use Rattle.entry.specs.RoundTrip.{Within}
+use Rattle.entry.proofs.Widths.{within, widths}
 use Rattle.entry.proofs.within_widths.Statement.{statement}
 use Rattle.entry.proofs.within_widths.Tie as tie
 

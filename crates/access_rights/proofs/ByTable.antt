@@ -11,7 +11,7 @@ use Rattle.translation.specs.declared.Early.{Early}
 use Rattle.translation.specs.declared.Early.the-variants.{Decided, Search}
 use Rattle.translation.proofs.Steps.{outcome-decided, outcome-searched}
 use Rattle.calls.specs.OnBytes.{layout, usedBy, wantedPage, searchIn, firstPlaceIn}
-use Rattle.table_access.specs.Part.{foundIn, partBy}
+use Rattle.table_access.specs.Part.{tableFound, partBy}
 use Rattle.table_access.specs.declared.Found.{Found}
 use Rattle.table_access.specs.declared.Part.{Part}
 use Rattle.table_access.proofs.Finds.{in-first, in-searched, in-decides}
@@ -27,7 +27,7 @@ pub record ByTable (k : ℕ) (t : List ℕ) (kind address : ℕ) (early : Early)
   pub decides : part .decision ≡ decisionOf (usedBy (firstPlaceIn k t) early) (outcomeOf kind (searchIn k t) early)
   pub first : OfFirst k early t (part .found)
 
-pub by-table : (k : ℕ) (t : List ℕ) (kind address : ℕ) (early : Early) → ByTable k t kind address early (partBy kind address (foundIn k t) early)
+pub by-table : (k : ℕ) (t : List ℕ) (kind address : ℕ) (early : Early) → ByTable k t kind address early (partBy kind address (tableFound k t) early)
 unfolding partBy OfFirst
 by-table k t kind address (Decided outcome) =
     let is = outcome-decided kind (searchIn k t) outcome in

@@ -10,7 +10,7 @@ use Rattle.register_words.specs.Block.{blWidth}
 use Rattle.registers.specs.Set.{blockPairs, coveringPair, sdr1Of, setWords}
 use Rattle.protection.specs.Access.{userMode}
 use Rattle.translation.specs.Steps.{segmentAt, wantedOf}
-use Rattle.table_access.specs.Part.{foundIn}
+use Rattle.table_access.specs.Part.{tableFound}
 use Rattle.calls.specs.Request.{access, fed}
 use Rattle.calls.specs.Rules.{refusal}
 use Rattle.calls.specs.Answers.{accessAnswer}
@@ -25,7 +25,7 @@ abbrev pub standsAt : List ℕ → ℕ → ℕ → ℕ → List ℕ → Standing
 standsAt words mode address k t = record {
   ibat = coveringPair (blockPairs true) (blWidth true) words false (userMode mode) address;
   dbat = coveringPair (blockPairs true) (blWidth true) words true (userMode mode) address;
-  found = foundIn k t (wantedOf (userMode mode) (segmentAt words address) address);
+  found = tableFound k t (wantedOf (userMode mode) (segmentAt words address) address);
 }
 
 -- in a table of bytes, by the register page of a call

@@ -21,7 +21,7 @@ ghost use Rattle.translation.specs.Decision.{decided};
 ghost use Rattle.translation.specs.Operand.{stopped};
 ghost use Rattle.calls.specs.Request.{access, fed};
 ghost use Rattle.calls.specs.Rules.{refusal};
-ghost use Rattle.table_access.specs.Part.{PageAndTable, foundIn, partBy};
+ghost use Rattle.table_access.specs.Part.{PageAndTable, tableFound, partBy};
 ghost use Rattle.access_rights.specs.Rights.{asking, wouldEnd};
 ghost use Rattle.access_rights.specs.Held.{standsAt, StandsIn, Tells, TellsAll};
 
@@ -72,7 +72,7 @@ fn part_at(registers: &[u8], mode: u32, kind: u32, address: u32, at: Standing) -
     requires { ⌜ (isPage (length (now registers)) ≡ true)
         × ((k : ℕ) × ((t : List ℕ) × (at ≡ standsAt (setWords (now registers)) mode address k t))) ⌝ }
     ensures { λ r. ⌜ ((k : ℕ) (t : List ℕ) → at ≡ standsAt (setWords (now (registers .entry))) mode address k t
-        → r ≡ partBy kind address (foundIn k t) (beforeSearch (blockPairs true) (blWidth true) (setWords (now (registers .entry))) mode kind address)) ⌝ }
+        → r ≡ partBy kind address (tableFound k t) (beforeSearch (blockPairs true) (blWidth true) (setWords (now (registers .entry))) mode kind address)) ⌝ }
 {
     if !protection::is_relocated(mode, kind) {
         return table_access::real_part(address);

@@ -34,7 +34,7 @@ use Rattle.calls.proofs.AnyEntries.{by-matches}
 use Rattle.cached_calls.specs.Cached.{cachedSearch, cachedPlace, missed}
 use Rattle.calls.proofs.OnBytes.{matches-by-groups}
 use Rattle.page_calls.proofs.Searched.{at-groups, pageFree, told-is}
-use Rattle.table_access.specs.Part.{SearchTold, nothingFound, foundIn, foundBy, searchedOf}
+use Rattle.table_access.specs.Part.{SearchTold, nothingFound, tableFound, foundBy, searchedOf}
 use Rattle.table_access.specs.declared.Found.{Found}
 
 -- a page with a match: whether the others contradict it, its second word, its group and its number
@@ -85,35 +85,35 @@ unfolding hashBits
 inside sdr1 t wanted of b = rw (of .right) (within-table sdr1 (groupNumber (10 + maskOnes sdr1) b (wantedPage wanted)) (of .shape) (group-lt (10 + maskOnes sdr1) (wantedPage wanted) b))
 
 module _ (k : ℕ) (t : List ℕ) (wanted : Wanted) where
-  pub in-none : matchesOf (layout k) t (wantedPage wanted) ≡ [] → foundIn k t wanted ≡ nothingFound
-  unfolding foundIn
+  pub in-none : matchesOf (layout k) t (wantedPage wanted) ≡ [] → tableFound k t wanted ≡ nothingFound
+  unfolding tableFound
   in-none e = rw e
 
   -- the first match is told whether or not the others contradict it
   pub record First (x : Match) : Type 0 where
-    pub any : foundIn k t wanted .any ≡ true
-    pub second : foundIn k t wanted .second ≡ x .second
-    pub group : foundIn k t wanted .group ≡ groupNumber (10 + k) (x .secondary) (wantedPage wanted)
-    pub entry : foundIn k t wanted .entry ≡ x .entry
+    pub any : tableFound k t wanted .any ≡ true
+    pub second : tableFound k t wanted .second ≡ x .second
+    pub group : tableFound k t wanted .group ≡ groupNumber (10 + k) (x .secondary) (wantedPage wanted)
+    pub entry : tableFound k t wanted .entry ≡ x .entry
 
   pub in-first : (x : Match) (xs : List Match) → matchesOf (layout k) t (wantedPage wanted) ≡ x ∷ xs → First x
-  unfolding foundIn
+  unfolding tableFound
   in-first x xs e = record { any = rw e; second = rw e; group = rw e; entry = rw e }
 
-  pub in-searched : searchedOf (foundIn k t wanted) ≡ searchIn k t wanted
-  unfolding foundIn searched
+  pub in-searched : searchedOf (tableFound k t wanted) ≡ searchIn k t wanted
+  unfolding tableFound searched
   in-searched = by-matches (matchesOf (layout k) t (wantedPage wanted)) (λ e. rw e) (λ x xs e. rw e)
 
   -- what decides is the same of what was found and of the first match's place: where there is none no entry is shown
-  pub in-decides : (kind : ℕ) → decisionOf (record { key = wanted .key; group = foundIn k t wanted .group; entry = foundIn k t wanted .entry })
+  pub in-decides : (kind : ℕ) → decisionOf (record { key = wanted .key; group = tableFound k t wanted .group; entry = tableFound k t wanted .entry })
       (afterSearch kind (wanted .key) (searchIn k t wanted))
       ≡ decisionOf (record { key = wanted .key; group = firstPlaceIn k t wanted .0; entry = firstPlaceIn k t wanted .1 })
       (afterSearch kind (wanted .key) (searchIn k t wanted))
-  unfolding foundIn searched afterSearch decisionOf
+  unfolding tableFound searched afterSearch decisionOf
   in-decides kind = by-matches (matchesOf (layout k) t (wantedPage wanted)) (λ e. rw e) (λ x xs e. rw e)
 
-  in-inside : (sdr1 : ℕ) → TableOf sdr1 (length t) → k ≡ maskOnes sdr1 → 64 * foundIn k t wanted .group + 64 ≤ length t
-  unfolding foundIn tableLength
+  in-inside : (sdr1 : ℕ) → TableOf sdr1 (length t) → k ≡ maskOnes sdr1 → 64 * tableFound k t wanted .group + 64 ≤ length t
+  unfolding tableFound tableLength
   in-inside sdr1 of is =
       let right = of .right in
       by-matches (matchesOf (layout k) t (wantedPage wanted)) (λ e. rw e (omega arith)) (λ x xs e. rw (e, is) (inside sdr1 t wanted of (x .secondary)))
@@ -142,7 +142,7 @@ module _ (k kind : ℕ) (t d : List ℕ) (wanted : Wanted) where
     place-hit = rw is
 
   module _ (is : hit (storing kind) d (wantedPage wanted) ≡ none) where
-    pub found-table : foundBy k kind t d wanted ≡ foundIn k t wanted
+    pub found-table : foundBy k kind t d wanted ≡ tableFound k t wanted
     unfolding foundBy
     found-table = rw is
 

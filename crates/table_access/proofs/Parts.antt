@@ -42,7 +42,7 @@ use Rattle.calls.proofs.AnyEntries.{by-matches}
 use Rattle.calls.proofs.TableLaws.{Word, layout-laws}
 use Rattle.calls.proofs.TwoMarks.{mark-first}
 use Rattle.cached_calls.specs.Cached.{cachedSearch, cachedPlace, missed, loadedBy, taken}
-use Rattle.table_access.specs.Part.{nothingFound, foundIn, foundBy, byOutcome, byFound, begun, partBy, takenBy}
+use Rattle.table_access.specs.Part.{nothingFound, tableFound, foundBy, byOutcome, byFound, begunBy, partBy, takenBy}
 use Rattle.table_access.specs.declared.Begun.the-variants.{Told, Wants}
 use Rattle.table_access.specs.declared.Found.{Found}
 use Rattle.table_access.specs.declared.Part.{Part}
@@ -51,14 +51,14 @@ use Rattle.table_access.proofs.Finds.{in-none, in-first, by-hit, found-
 -- ---- the steps before the search, as the code holds them
 
 module _ (kind address : ℕ) where
-  pub begun-wants : (early : Early) (wanted : Wanted) → begun kind address early ≡ Wants wanted → early ≡ Search wanted
-  unfolding begun
+  pub begun-wants : (early : Early) (wanted : Wanted) → begunBy kind address early ≡ Wants wanted → early ≡ Search wanted
+  unfolding begunBy
   begun-wants (Decided outcome) wanted e = absurd (let z : _≡_ {A = ℕ} 0 1 = cc in omega arith)
   begun-wants (Search wanted) other e = cc
 
 module _ (kind address : ℕ) (find : Wanted → Found) where
-  pub begun-told : (early : Early) (part : Part) → begun kind address early ≡ Told part → part ≡ partBy kind address find early
-  unfolding begun partBy
+  pub begun-told : (early : Early) (part : Part) → begunBy kind address early ≡ Told part → part ≡ partBy kind address find early
+  unfolding begunBy partBy
   begun-told (Decided outcome) part e = cc
   begun-told (Search wanted) part e = absurd (let z : _≡_ {A = ℕ} 0 1 = cc in omega arith)
 
@@ -175,7 +175,7 @@ module _ (sdr1 kind address : ℕ) (t d : List ℕ) (of : TableOf sdr1 (length t
       (λ x xs are.
       let f = in-first k t wanted x xs are in
       ap (λ (g : Found). takenBy kind address g (u, e)) (found-table k kind t d wanted is)
-      ∙ first-taken k kind wanted u good valid x xs (same ∙ are) address index (foundIn k t wanted) (f .second) (f .group) (f .entry) e)))
+      ∙ first-taken k kind wanted u good valid x xs (same ∙ are) address index (tableFound k t wanted) (f .second) (f .group) (f .entry) e)))
     where
       -- a page without a match is not done
       unmatched : foundBy k kind t d wanted ≡ nothingFound → ⊥

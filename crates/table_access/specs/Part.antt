@@ -70,8 +70,8 @@ abbrev pub nothingFound : Found
 nothingFound = record { any = false; differs = false; second = 0; group = 0; entry = groupEntries }
 
 -- by the search of a table for a mask of k ones: the first match
-unfoldable pub foundIn : ℕ → List ℕ → Wanted → Found
-foundIn k t wanted =
+unfoldable pub tableFound : ℕ → List ℕ → Wanted → Found
+tableFound k t wanted =
     byMatches (matchesOf (layout k) t (wantedPage wanted)) nothingFound
     (λ x xs. record {
       any = true;
@@ -84,7 +84,7 @@ foundIn k t wanted =
 -- by a cache, and by the search where it has no hit: a hit shows the group that the loaded H names, and no entry
 unfoldable pub foundBy : ℕ → ℕ → List ℕ → List ℕ → Wanted → Found
 foundBy k kind t d wanted =
-    byOption (hitOf k kind t d wanted) (foundIn k t wanted)
+    byOption (hitOf k kind t d wanted) (tableFound k t wanted)
     (λ words. record {
       any = true;
       differs = false;
@@ -126,9 +126,9 @@ byFound kind address key found = record {
 }
 
 -- what steps 1 to 3 come to, as the code holds it
-unfoldable pub begun : ℕ → ℕ → Early → Begun
-begun kind address (Decided outcome) = Told (byOutcome kind address outcome)
-begun kind address (Search wanted) = Wants wanted
+unfoldable pub begunBy : ℕ → ℕ → Early → Begun
+begunBy kind address (Decided outcome) = Told (byOutcome kind address outcome)
+begunBy kind address (Search wanted) = Wants wanted
 
 -- steps 1 to 6, where `find` tells what is found of a page
 unfoldable pub partBy : ℕ → ℕ → (Wanted → Found) → Early → Part

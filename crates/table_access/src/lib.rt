@@ -26,7 +26,7 @@ ghost use Rattle.calls.specs.Rules.{operandInRange};
 ghost use Rattle.calls.specs.Answers.{accessAnswer};
 ghost use Rattle.calls.specs.OnBytes.{ended, wantedPage, onBytes};
 ghost use Rattle.cached_calls.specs.Cached.{onCached};
-ghost use Rattle.table_access.specs.Part.{callOf, SearchTold, PageAndTable, CacheOrNone, nothingFound, foundIn, foundBy, withoutPage, byOutcome, byFound, begun, partBy, takenBy, partEarly, EndsAs};
+ghost use Rattle.table_access.specs.Part.{callOf, SearchTold, PageAndTable, CacheOrNone, nothingFound, tableFound, foundBy, withoutPage, byOutcome, byFound, begunBy, partBy, takenBy, partEarly, EndsAs};
 
 // What an access asks for.
 pub struct Access {
@@ -105,7 +105,7 @@ pub fn refusal(registers: &[u8], access: Access, lent: usize) -> u32
 // What the search of a page's two groups told of it: the first match.
 pub fn found_in(page: groups::Located, told: matches::Told) -> Found
     requires { ⌜ ((sdr1 : ℕ) × ((t : List ℕ) × ((wanted : Wanted) × SearchTold sdr1 t wanted page told))) ⌝ }
-    ensures { λ r. ⌜ ((sdr1 : ℕ) (t : List ℕ) (wanted : Wanted) → SearchTold sdr1 t wanted page told → r ≡ foundIn (maskOnes sdr1) t wanted) ⌝ }
+    ensures { λ r. ⌜ ((sdr1 : ℕ) (t : List ℕ) (wanted : Wanted) → SearchTold sdr1 t wanted page told → r ≡ tableFound (maskOnes sdr1) t wanted) ⌝ }
 {
     if !told.any() {
         return Found::nothing();
@@ -185,7 +185,7 @@ fn by_block(registers: &[u8], kind: u32, address: u32, pair: usize) -> Part
 pub fn before_search(registers: &[u8], mode: u32, kind: u32, address: u32, pair: usize) -> Begun
     requires { ⌜ (isPage (length (now registers)) ≡ true) × (relocated mode kind ≡ true)
         × (pair ≡ coveringPair (blockPairs true) (blWidth true) (setWords (now registers)) (sideOf kind) (userMode mode) address) ⌝ }
-    ensures { λ r. ⌜ r ≡ begun kind address (beforeSearch (blockPairs true) (blWidth true) (setWords (now (registers .entry))) mode kind address) ⌝ }
+    ensures { λ r. ⌜ r ≡ begunBy kind address (beforeSearch (blockPairs true) (blWidth true) (setWords (now (registers .entry))) mode kind address) ⌝ }
 {
     if pair < registers::BLOCK_PAIRS {
         return Begun::Told(by_block(registers, kind, address, pair));

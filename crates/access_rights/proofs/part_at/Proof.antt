@@ -13,7 +13,7 @@ use Rattle.translation.specs.Steps.{beforeSearch}
 use Rattle.translation.specs.declared.Early.{Early}
 use Rattle.translation.specs.declared.Wanted.{Wanted}
 use Rattle.translation.proofs.Steps.{before-real, searches}
-use Rattle.table_access.specs.Part.{foundIn, byFound, partBy}
+use Rattle.table_access.specs.Part.{tableFound, byFound, partBy}
 use Rattle.table_access.specs.declared.Found.{Found}
 use Rattle.table_access.proofs.Parts.{begun-told, begun-wants, part-searched}
 use Rattle.access_rights.specs.declared.Standing.{Standing}
@@ -37,7 +37,7 @@ returns c k t is =
     let at-relocated = then1 .before in
     let a = at-relocated .before .before .args in
     c .real-part .ensures (a .kind)
-    ∙ sym (ap (partBy (a .kind) (a .address) (foundIn k t))
+    ∙ sym (ap (partBy (a .kind) (a .address) (tableFound k t))
     (before-real 8 15 (setWords (a .registers .now)) (a .mode) (a .kind) (a .address) (sym (at-relocated .is-relocated .ensures) ∙ not-true _ (then1 .if1 .taken))))
 
 is-fetch-requires : tie.Need-is-fetch-requires
@@ -81,7 +81,7 @@ returns-2 c k t is =
     let at-before = known .before .before in
     let start = begin (at-before .before) in
     let a = start .args in
-    begun-told (a .kind) (a .address) (foundIn k t) (early start) (known .part .given .0 .0) (sym (at-before .before-search .ensures) ∙ known .part .given .1)
+    begun-told (a .kind) (a .address) (tableFound k t) (early start) (known .part .given .0 .0) (sym (at-before .before-search .ensures) ∙ known .part .given .1)
 
 returns-3 : tie.Need-returns-3
 returns-3 c k t is =
@@ -93,9 +93,9 @@ returns-3 c k t is =
     let e = begun-wants (a .kind) (a .address) (early start) wanted (sym (at-before .before-search .ensures) ∙ known .wanted .given .1) in
     let wants = searches 8 15 (setWords (a .registers .now)) (a .mode) (a .kind) (a .address) wanted e .wants in
     c .after-search .ensures
-    ∙ ap (byFound (a .kind) (a .address) (wanted .key)) (ap (λ (s : Standing). s .found) is ∙ ap (foundIn k t) (sym wants))
-    ∙ sym (part-searched (a .kind) (a .address) (foundIn k t) wanted)
-    ∙ sym (ap (partBy (a .kind) (a .address) (foundIn k t)) e)
+    ∙ ap (byFound (a .kind) (a .address) (wanted .key)) (ap (λ (s : Standing). s .found) is ∙ ap (tableFound k t) (sym wants))
+    ∙ sym (part-searched (a .kind) (a .address) (tableFound k t) wanted)
+    ∙ sym (ap (partBy (a .kind) (a .address) (tableFound k t)) e)
 
 pub part-at-spec : {M : Type 1} → statement M
 part-at-spec =

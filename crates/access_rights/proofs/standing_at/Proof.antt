@@ -17,7 +17,7 @@ use Rattle.translation.specs.declared.Wanted.{Wanted}
 use Rattle.groups.specs.Page.{InRange}
 use Rattle.calls.specs.OnBytes.{wantedPage}
 use Rattle.page_calls.proofs.Searched.{locatable, primary-asked, secondary-asked}
-use Rattle.table_access.specs.Part.{SearchTold, foundIn}
+use Rattle.table_access.specs.Part.{SearchTold, tableFound}
 use Rattle.table_access.proofs.Finds.{search-told}
 use Rattle.table_access.specs.declared.Found.{Found}
 use Rattle.access_rights.specs.declared.Standing.{Standing}
@@ -118,7 +118,7 @@ returns c =
     let stand : ℕ → ℕ → Found → Standing = λ i d f. record { ibat = i; dbat = d; found = f } in
     ap₂ (λ (i d : ℕ). stand i d (c .found-in .result)) (at-code .covering-pair .ensures ∙ ap (pair false) (at-user .user-mode .ensures)) (at-data .covering2 .ensures ∙ ap (pair true) (at-user .user-mode .ensures))
     ∙ ap (stand (pair false (userMode (a .mode))) (pair true (userMode (a .mode))))
-    (c .found-in .ensures (sdr1Of words) (a .table .now) (at-wanted .wanted-of .result) (told-of at-secondary) ∙ ap (foundIn k (a .table .now)) (wanted-is at-wanted))
+    (c .found-in .ensures (sdr1Of words) (a .table .now) (at-wanted .wanted-of .result) (told-of at-secondary) ∙ ap (tableFound k (a .table .now)) (wanted-is at-wanted))
 
 pub standing-at-spec : {M : Type 1} → statement M
 standing-at-spec =

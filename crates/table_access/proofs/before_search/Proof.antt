@@ -15,7 +15,7 @@ use Rattle.translation.specs.Steps.{segmentAt, wantedOf, blockOutcome, beforeSe
 use Rattle.translation.specs.Decision.{decisionOf}
 use Rattle.translation.specs.declared.Early.{Early}
 use Rattle.translation.proofs.Steps.{before-block, before-no-execute, before-search}
-use Rattle.table_access.specs.Part.{withoutPage, byOutcome, begun}
+use Rattle.table_access.specs.Part.{withoutPage, byOutcome, begunBy}
 use Rattle.table_access.specs.declared.Begun.the-variants.{Told, Wants}
 use Rattle.table_access.proofs.before_search.Statement.{statement}
 use Rattle.table_access.proofs.before_search.Tie as tie
@@ -35,7 +35,7 @@ by-block-requires c κs =
     (start .pre .0, rw is (covering-own (start .args .registers .now) _ _ _ (rw (← is) (c .if1 .taken))))
 
 returns : tie.Need-returns
-unfolding begun
+unfolding begunBy
 returns c =
     let then1 = c .before in
     let start = then1 .before .before in
@@ -81,7 +81,7 @@ without-page-requires : tie.Need-without-page-requires
 without-page-requires c κs = search needs
 
 returns-2 : tie.Need-returns-2
-unfolding begun answerOf decisionOf
+unfolding begunBy answerOf decisionOf
 returns-2 c =
     let then2 = c .before .before in
     let at-execute = then2 .before in
@@ -99,7 +99,7 @@ wanted-of-requires : tie.Need-wanted-of-requires
 wanted-of-requires c κs = search needs
 
 returns-3 : tie.Need-returns-3
-unfolding begun
+unfolding begunBy
 returns-3 c =
     let at-user = c .before in
     let else2 = at-user .before in

@@ -19,7 +19,7 @@ use Rattle.tables.proofs.Groups.{members-of}
 use Rattle.translation.specs.declared.Wanted.{Wanted}
 use Rattle.calls.specs.OnBytes.{layout, wantedPage}
 use Rattle.calls.proofs.AnyEntries.{by-matches}
-use Rattle.table_access.specs.Part.{SearchTold, nothingFound, foundIn}
+use Rattle.table_access.specs.Part.{SearchTold, nothingFound, tableFound}
 use Rattle.table_access.specs.declared.Found.{Found}
 use Rattle.table_access.proofs.Finds.{matched, in-none, inside}
 use Rattle.table_access.proofs.found_in.Statement.{statement}
@@ -111,7 +111,7 @@ cast-t8 c =
     (λ x xs e. let own = c .entry .ensures x xs (is .2 .0) (tells (a .page) (a .told) sdr1 t wanted is x xs e) in record { fits = omega arith })
 
 returns-2 : tie.Need-returns-2
-unfolding foundIn
+unfolding tableFound
 returns-2 c sdr1 t wanted is =
     let at-group = c .before in
     let at-secondary = at-group .before in

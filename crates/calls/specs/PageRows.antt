@@ -11,7 +11,7 @@ use Rattle.words.specs.Words.{withWord, bytesOf}
 use Rattle.groups.specs.Page.{Page}
 use Rattle.calls.specs.Made.{toClear, toMap, toUnmap, toProtect, toLook, toAccess}
 use Rattle.calls.specs.Rules.{refusal}
-use Rattle.calls.specs.Answers.{wordAnswer, compared}
+use Rattle.calls.specs.Answers.{wordAnswer, seenOf, compared}
 use Rattle.calls.specs.OnBytes.{ended, bytesDo, onBytes}
 
 abbrev pub pageOf : ℕ → ℕ → Page
@@ -193,9 +193,9 @@ pub record PageRows : Type 0 where
       )
   -- of a refusal of unmap, look and access, unless it is 11, every byte is compared
   pub compared-rows : Hold (
-      (compared refusedNoMatch (wordAnswer refusedNoMatch 7), (refusedNoMatch, wordAnswer refusedNoMatch 7))
-      ∷ (compared refusedContradiction (wordAnswer refusedContradiction 7), (refusedContradiction, wordAnswer refusedContradiction 7))
-      ∷ (compared refusedOperandLength (stop refusedOperandLength 0 0 7 noRule), (refusedOperandLength, stop refusedOperandLength 0 0 7 noRule))
+      (compared (seenOf {A = ℕ} (toUnmap 0 inside 16)) refusedNoMatch (wordAnswer refusedNoMatch 7), (refusedNoMatch, wordAnswer refusedNoMatch 7))
+      ∷ (compared (seenOf {A = ℕ} (toLook 0 inside 16)) refusedContradiction (wordAnswer refusedContradiction 7), (refusedContradiction, wordAnswer refusedContradiction 7))
+      ∷ (compared (seenOf {A = ℕ} (toAccess [] 0 0 0 1 48)) refusedOperandLength (stop refusedOperandLength 0 0 7 noRule), (refusedOperandLength, stop refusedOperandLength 0 0 7 noRule))
       ∷ []
       )
   -- look: duplicates that agree answer the first's raw word, with its own R, C and ignored bits; ones that differ in PP contradict; the entry with

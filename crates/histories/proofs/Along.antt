@@ -156,14 +156,14 @@ module _ (sdr1 : ℕ) (own : Slices ℕ) (shape : sdr1Shape sdr1 ≡ true) (long
 
   -- ---- a list of calls, and what is left of a longer one
 
-  pub record Goes-along (calls rest : List Call) (s : State) (m : Map) : Type 0 where
+  pub record GoesAlong (calls rest : List Call) (s : State) (m : Map) : Type 0 where
     pub told : run bytesStep calls s ≡ run mapStep (map (fedOf own) calls) m
     pub waits : ℕ → Bool
     pub linked : Linked (after bytesStep calls s) (after mapStep (map (fedOf own) calls) m) waits
     pub kept : Disciplined rest (after bytesStep calls s) waits
 
   pub along : (calls rest : List Call) → Each (Under sdr1 own) calls → (s : State) (m : Map) (waiting : ℕ → Bool) → Linked s m waiting
-      → Disciplined (calls ++ rest) s waiting → Goes-along calls rest s m
+      → Disciplined (calls ++ rest) s waiting → GoesAlong calls rest s m
   unfolding bytesStep mapStep
   along [] rest each s m waiting l kept = record { told = refl; waits = waiting; linked = l; kept = kept }
   along (c ∷ calls) rest (under, each) s m waiting l (quiet, kept) =

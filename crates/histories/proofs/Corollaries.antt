@@ -64,7 +64,7 @@ use Rattle.histories.specs.Histories.{ownCall, History, own, begun, stat
 use Rattle.histories.specs.Theorem.{mappedTo, Maps, by-map, TakesOut, by-clear, by-unmap, NoneDone, DoneSince, Accesses, by-table, with-cache, Reaches, answeredAfter, addressByte, attributesByte, AccessFollowsHistory}
 use Rattle.histories.proofs.Changes.{changed}
 use Rattle.histories.proofs.Pages.{Has, stays-out, stays-in, maps-fed, takes-fed, fed-takes, taken-out, put-in}
-use Rattle.histories.proofs.Along.{Linked, Goes-along, along, Steps, steps, tells}
+use Rattle.histories.proofs.Along.{Linked, GoesAlong, along, Steps, steps, tells}
 use Rattle.histories.proofs.Theorem.{ones, fits, begins, all-along}
 
 -- ---- a page along a list of calls
@@ -168,7 +168,7 @@ module _ (h : History) (These Those : Request (List ℕ) → Type 0) (since : Do
   each-part = each-append (Under (h .sdr1) (own h)) (since .before) (call ∷ since .behind) .0 (subst (Each (Under (h .sdr1) (own h))) (since .parts) (h .under))
 
   -- state and map before that call, and what the map tells of it
-  up-to : Goes-along (h .sdr1) (own h) (fits h .shape) (fits h .long) (since .before) (call ∷ since .behind ++ rest) (begun h) []
+  up-to : GoesAlong (h .sdr1) (own h) (fits h .shape) (fits h .long) (since .before) (call ∷ since .behind ++ rest) (begun h) []
   up-to =
       along (h .sdr1) (own h) (fits h .shape) (fits h .long) (since .before) (call ∷ since .behind ++ rest) (each-part .0) (begun h) [] (filled (h .start .cache)) (begins h)
       (subst (λ (calls : List Call). Disciplined calls (begun h) (filled (h .start .cache)))
@@ -345,7 +345,7 @@ module _ (h : History) (asked : Asked (List ℕ)) (c : AccessCall (List ℕ)) (s
   abbrev table : List ℕ
   table = stateAfter h .table
 
-  all : Goes-along (h .sdr1) (own h) (fits h .shape) (fits h .long) (h .calls) (ownCall asked ∷ []) (begun h) []
+  all : GoesAlong (h .sdr1) (own h) (fits h .shape) (fits h .long) (h .calls) (ownCall asked ∷ []) (begun h) []
   all = all-along h (ownCall asked ∷ []) (reaches .kept)
 
   related : represents (ones h) table (mapAfter h)

@@ -14,9 +14,8 @@ use Rattle.cached_calls.proofs.AnyCache.{calls-on-any-cache}
 use Rattle.cached_calls.proofs.Rows.{cached-rows}
 use Rattle.access_rights.proofs.Stated.{rights-stated}
 use Rattle.histories.specs.Demands.{Demands}
-use Rattle.histories.proofs.Theorem.{table-refines-map, rights-follow-history}
+use Rattle.histories.proofs.Theorem.{table-refines-map, cache-invisible, rights-follow-history}
 use Rattle.histories.proofs.Corollaries.{access-follows-history}
-use Rattle.histories.proofs.Invisible.{cache-invisible}
 use Rattle.histories.proofs.Rows.{slice-rows, waiting-rows}
 
 pub all-demands : Demands

@@ -39,7 +39,7 @@ use Rattle.cached_calls.proofs.Parts.{AllBacked, result-same, answer-same, comp
 use Rattle.histories.specs.Calls.{Asked, plain, cached, invalidate, rights, Slices, slices, Call, State, onLent, lentFor, leftFor, calling, lentLengths, refusalOf}
 use Rattle.histories.specs.Fed.{seenIn}
 use Rattle.histories.specs.Discipline.{leavesStale, waitingAfter, Invalidated, Disciplined, filled}
-use Rattle.histories.specs.Invisible.{plainly, withoutCache, shown, Alike, AllAlike, zeroCache, noneWaits, CacheInvisible}
+use Rattle.histories.specs.Invisible.{plainly, withoutCache, shown, Alike, AllAlike, zeroCache, noneWaits}
 use Rattle.histories.proofs.Stale.{Keeps, keeps}
 
 -- every place of a set that does not wait is backed
@@ -420,9 +420,3 @@ filled-sound k t cache good =
 -- and so does a cache of zeros
 pub zeros-sound : (k : ℕ) (t : List ℕ) → GoodTable k t → Sound k t zeroCache noneWaits
 zeros-sound k t good = record { fine = good; backed = λ page v place quiet held. absurd (true≢false (sym held ∙ holds-zeros page place)) }
-
-pub cache-invisible : CacheInvisible
-cache-invisible = record {
-  alike = λ k s good calls kept. all-alike calls k _ (s .table) (s .cache) (s .cache) (filled (s .cache)) (filled-sound k (s .table) (s .cache) good) refl refl kept;
-  from-zeros = λ k table good calls kept. all-alike calls k _ table zeroCache zeroCache noneWaits (zeros-sound k table good) refl refl kept;
-}

@@ -1,5 +1,5 @@
--- Demand 3: from a first clear that was done on, table and finite map are related, so every list of calls answers alike; and what a page's own calls answer
--- goes by which pages are mapped alone.
+-- Demand 3: from a first clear that was done on, table and finite map are related, so every list of calls answers alike; what a page's own calls answer goes
+-- by which pages are mapped alone; and the statements of the cache and of rights, from the same laws.
 use Prim.Native.Nat.{ℕ, _<_}
 use mathlib.Core.Path.{_≡_, refl, sym, ap, _∙_, subst}
 use mathlib.Core.Bool.{true, false, true≢false}
@@ -26,9 +26,10 @@ use Rattle.histories.specs.Calls.{Slices, Call, rights, onLent, calling,
 use Rattle.histories.specs.Discipline.{Disciplined, filled}
 use Rattle.histories.specs.Histories.{ownCall, History, own, begun, stateAfter, mapAfter, CacheKept}
 use Rattle.histories.specs.Theorem.{nextNumber, mappedTo, ArrangedWith, MapInRange, MappedAnswers, TableRefinesMap, RightsFollowHistory}
+use Rattle.histories.specs.Invisible.{zeroCache, noneWaits, CacheInvisible}
 use Rattle.histories.proofs.Acts.{has}
-use Rattle.histories.proofs.Invisible.{filled-sound}
-use Rattle.histories.proofs.Along.{Linked, Goes-along, along, steps}
+use Rattle.histories.proofs.Invisible.{Sound, all-alike, filled-sound, zeros-sound}
+use Rattle.histories.proofs.Along.{Linked, GoesAlong, along, steps}
 use Rattle.histories.proofs.Standing.{has-page, Standing, runs-pages, runs-stand}
 
 module _ (h : History) where
@@ -52,10 +53,10 @@ module _ (h : History) where
 
   -- the calls of the history, and those of a longer list that are left
   pub all-along : (rest : List Call) → Disciplined (h .calls ++ rest) (begun h) (filled (h .start .cache))
-      → Goes-along (h .sdr1) (own h) (fits .shape) (fits .long) (h .calls) rest (begun h) []
+      → GoesAlong (h .sdr1) (own h) (fits .shape) (fits .long) (h .calls) rest (begun h) []
   all-along rest kept = along (h .sdr1) (own h) (fits .shape) (fits .long) (h .calls) rest (h .under) (begun h) [] (filled (h .start .cache)) begins kept
 
-  nothing-left : CacheKept h → Goes-along (h .sdr1) (own h) (fits .shape) (fits .long) (h .calls) [] (begun h) []
+  nothing-left : CacheKept h → GoesAlong (h .sdr1) (own h) (fits .shape) (fits .long) (h .calls) [] (begun h) []
   nothing-left kept = all-along [] (subst (λ (calls : List Call). Disciplined calls (begun h) (filled (h .start .cache))) (sym (append-nil (h .calls))) kept)
 
   -- ---- whatever the cache holds: a map with the pages of the finite map
@@ -158,6 +159,18 @@ table-refines-map = record {
   answers = λ h kept. nothing-left h kept .told;
   not-mapped = unmapped-answers;
   mapped = mapped-answers;
+}
+
+-- the cache's own statement: a cache of zeros is sound where no set waits
+pub cache-invisible : CacheInvisible
+cache-invisible = record {
+  alike = λ k s good calls kept. all-alike calls k _ (s .table) (s .cache) (s .cache) (filled (s .cache)) (filled-sound k (s .table) (s .cache) good) refl refl kept;
+  from-zeros = λ k table good calls kept. all-alike calls k _ table zeroCache zeroCache noneWaits (zeros-sound k table good) refl refl kept;
+  answers-from-zeros = λ h zeros kept.
+      let sound = subst (λ (cache : List ℕ). Sound (ones h) (begun h .table) cache noneWaits) (sym zeros) (zeros-sound (ones h) (begun h .table) (first-represents h .good)) in
+      along (h .sdr1) (own h) (fits h .shape) (fits h .long) (h .calls) [] (h .under) (begun h) [] noneWaits
+      (record { sound = sound; size = refl; related = first-represents h })
+      (subst (λ (calls : List Call). Disciplined calls (begun h) noneWaits) (sym (append-nil (h .calls))) kept) .told;
 }
 
 pub rights-follow-history : RightsFollowHistory

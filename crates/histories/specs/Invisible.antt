@@ -6,6 +6,7 @@ use mathlib.Core.Path.{_≡_}
 use lib.Dec.{eqb}
 use lib.ListN.{length, replicate}
 use Rattle.words.specs.Words.{withWord}
+use Rattle.tables.specs.Runs.{run}
 use Rattle.cache.specs.Cache.{cacheSize}
 use Rattle.calls.specs.Request.{access}
 use Rattle.calls.specs.OnBytes.{byOption}
@@ -13,7 +14,9 @@ use Rattle.calls.specs.Represents.{GoodTable}
 use Rattle.cached_calls.specs.Cached.{hitEntry}
 use Rattle.cached_calls.specs.Shown.{answeredByHit}
 use Rattle.histories.specs.Calls.{Asked, plain, cached, invalidate, rights, Slices, slices, State, Call, calling, lentTo}
+use Rattle.histories.specs.Fed.{bytesStep, mapStep}
 use Rattle.histories.specs.Discipline.{Disciplined, filled}
+use Rattle.histories.specs.Histories.{History, begun, fedCalls}
 
 -- what is asked without the cache, by the length of what is lent as one: an access asks the table; where that length is refused, it stays as it is
 unfoldable pub plainly : ℕ → Asked (List ℕ) → Asked (List ℕ)
@@ -59,3 +62,6 @@ pub record CacheInvisible : Type 0 where
   -- so it is where the cache begins as zeros
   pub from-zeros : (k : ℕ) (table : List ℕ) → GoodTable k table → (calls : List Call) → let s = slices table zeroCache in
       Disciplined calls s noneWaits → AllAlike (length (s .cache)) calls s s
+  -- and demand 3 holds of such a list after a first clear that was done
+  pub answers-from-zeros : (h : History) → h .start .cache ≡ zeroCache → Disciplined (h .calls) (begun h) noneWaits
+      → run bytesStep (h .calls) (begun h) ≡ run mapStep (fedCalls h) []

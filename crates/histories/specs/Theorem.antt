@@ -32,11 +32,11 @@ use Rattle.histories.specs.Discipline.{Disciplined, filled}
 use Rattle.histories.specs.Histories.{ownCall, History, own, begun, stateAfter, fedCalls, mapAfter, CacheKept, next}
 
 module _ (h : History) where
-  -- a request that follows a history
+  -- the number that a request which follows the history answers
   abbrev pub nextNumber : Request (List ℕ) → ℕ
   nextNumber request = next h (ownCall (plain request)) .number
 
-  -- what the map has of a page after them
+  -- what the map has of a page after it
   abbrev pub mappedTo : Page → Option PageFields
   mappedTo page = fieldsAt samePage page (mapAfter h)
 

@@ -77,7 +77,7 @@ returns c =
     let k = maskOnes (sdr1Of words) in
     let pair : Bool → Bool → ℕ = λ side user. coveringPair 8 15 words side user (a .address) in
     let stand : ℕ → ℕ → Found → Standing = λ i d f. record { ibat = i; dbat = d; found = f } in
-    ap₂ (λ (i d : ℕ). stand i d (c .search-in .result)) (at-code .covering-pair .ensures ∙ ap (pair false) (at-user .user-mode .ensures)) (at-data .covering2 .ensures ∙ ap (pair true) (at-user .user-mode .ensures))
+    ap₂ (λ (i d : ℕ). stand i d (c .search-in .result)) (at-code .covering-pair .ensures ∙ ap (pair false) (at-user .user-mode .ensures)) (at-data .covering-pair2 .ensures ∙ ap (pair true) (at-user .user-mode .ensures))
     ∙ ap (stand (pair false (userMode (a .mode))) (pair true (userMode (a .mode)))) (c .search-in .ensures (sdr1Of words) (start .pre .1) ∙ ap (foundIn k (a .table .now)) (wanted-is at-wanted))
 
 pub standing-at-spec : {M : Type 1} → statement M

@@ -74,6 +74,13 @@ static unsigned long hits[MMU_RULE_DONE + 1], misses;
 /* Accesses that rights told, by the marks that they would newly set: none, C, R, both. */
 static unsigned long told[4];
 
+/*
+ * Checks and accesses that were done on register pages where two blocks of a side begin in the same 256 MB, by whether
+ * each block begins behind the end of the one before; on pages with W in one data block and I in another, and on pages
+ * with something left in a pair that is off.
+ */
+static unsigned long on_rising, on_others, on_w_and_i, on_junk;
+
 /* Looks at a page whose matches are not equal: how many were done, and how many refused as contradicting. */
 static unsigned long unequal_done, unequal_refused;
 
@@ -152,16 +159,35 @@ static int is_long(size_t registers_len)
     return registers_len == MMU_REGISTERS_SIZE_LONG;
 }
 
-/* A pair of right shape in one of the topmost places, often on; on a long page one of more than 256 MB is rare. */
-static void random_pair(uint32_t number, int data)
+static uint32_t pairs_a_side(void)
+{
+    return is_long(page_len) ? 8 : 4;
+}
+
+/* The number of a pair's upper word on the round's page; its lower word has the next. */
+static uint32_t upper_number(uint32_t pair, uint32_t data)
+{
+    if (!data)
+        return MMU_REGISTER_INSTRUCTION_UPPER(pair);
+    return is_long(page_len) ? MMU_REGISTER_DATA_UPPER_LONG(pair) : MMU_REGISTER_DATA_UPPER(pair);
+}
+
+/* A pair with this start and length, both in 128 KB and the length less one; where `valid` is 0 it is off. */
+static void put_pair(uint32_t number, uint32_t data, uint32_t start, uint32_t bl, uint32_t valid)
 {
     static const uint32_t attributes[8] = { 0, 2, 4, 6, 1, 3, 8, 11 };
-    uint32_t bl = below(3) ? low_ones(is_long(page_len) && below(6) == 0 ? 15 : 11) : 0;
-    uint32_t start = (0x4000 | below(8) << 11 | below(64)) & ~bl & 0x7FFF;
     uint32_t physical = any() & 0x7FFF & ~bl;
     uint32_t wimg = attributes[below(data ? 8 : 4)];
-    put_both(MMU_REGISTER_OFFSET(number), start << 17 | bl << 2 | (below(4) ? 1 + below(3) : 0));
+    put_both(MMU_REGISTER_OFFSET(number), start << 17 | bl << 2 | valid);
     put_both(MMU_REGISTER_OFFSET(number + 1), physical << 17 | wimg << 3 | below(4));
+}
+
+/* A pair of right shape in one of the topmost places, often on; on a long page one of more than 256 MB is rare. */
+static void random_pair(uint32_t number, uint32_t data)
+{
+    uint32_t bl = below(3) ? low_ones(is_long(page_len) && below(6) == 0 ? 15 : 11) : 0;
+    uint32_t start = (0x4000 | below(8) << 11 | below(64)) & ~bl & 0x7FFF;
+    put_pair(number, data, start, bl, below(4) ? 1 + below(3) : 0);
 }
 
 /* Moves a pair of a long page to addresses that no other number has, so that a set of many blocks is often whole. */
@@ -175,26 +201,109 @@ static void part_pairs(uint32_t i)
     }
 }
 
-static void random_registers(uint32_t sdr1)
+/* What a pair that is off may have: any bits but V. */
+static void put_junk(uint32_t number)
+{
+    put_both(MMU_REGISTER_OFFSET(number), any() & ~(MMU_BLOCK_VS | MMU_BLOCK_VP));
+    put_both(MMU_REGISTER_OFFSET(number + 1), any());
+}
+
+/*
+ * Blocks of one side close together, as an operating system has them: each begins behind the end of the one before or a
+ * little further. In the pairs they rise, fall, or rise but for two that changed places; now and then one is off.
+ */
+static void close_side(uint32_t data)
+{
+    uint32_t pairs = pairs_a_side(), next = 0x4000 | below(8) << 11, order = below(6), i;
+    uint32_t a = below(pairs), b = below(pairs);
+    for (i = 0; i < pairs; i++) {
+        uint32_t bl = low_ones(6), start = (next + bl) & ~bl, pair = i;
+        if (order == 0)
+            pair = pairs - 1 - i;
+        else if (order == 1)
+            pair = i == a ? b : i == b ? a : i;
+        if (below(8) == 0)
+            put_junk(upper_number(pair, data));
+        else
+            put_pair(upper_number(pair, data), data, start, bl, below(4) ? MMU_BLOCK_VS : 1 + below(3));
+        next = start + bl + 1 + (below(3) ? 0 : below(16));
+    }
+}
+
+/* Puts a block of 128 KB into one that another pair has, which is right where they have no V bit in common. */
+static void nest_block(uint32_t data)
+{
+    uint32_t pairs = pairs_a_side();
+    uint32_t outer = mmu_get_word(lent[0].registers, MMU_REGISTER_OFFSET(upper_number(below(pairs), data)));
+    uint32_t inside = (outer >> 17) | (outer >> 2 & below(64));
+    put_pair(upper_number(below(pairs), data), data, inside, 0, below(2) ? 1 + below(3) : ~outer & 3);
+}
+
+static void random_blocks(void)
 {
     int parted = is_long(page_len) && below(4) != 0;
     uint32_t i;
-    put_both(0, sdr1);
-    for (i = 0; i < 16; i++)
-        put_both(MMU_REGISTER_OFFSET(MMU_REGISTER_SEGMENT(i)), below(8) << 28 | random_vsid());
-    for (i = 0; i < (is_long(page_len) ? 8u : 4u); i++) {
-        random_pair(MMU_REGISTER_INSTRUCTION_UPPER(i), 0);
-        random_pair(is_long(page_len) ? MMU_REGISTER_DATA_UPPER_LONG(i) : MMU_REGISTER_DATA_UPPER(i), 1);
+    for (i = 0; i < pairs_a_side(); i++) {
+        random_pair(upper_number(i, 0), 0);
+        random_pair(upper_number(i, 1), 1);
         if (parted)
             part_pairs(i);
     }
 }
 
-/* One bit of one word turned, so that each rule is broken now and then. */
+static void random_registers(uint32_t sdr1)
+{
+    uint32_t i;
+    put_both(0, sdr1);
+    for (i = 0; i < 16; i++)
+        put_both(MMU_REGISTER_OFFSET(MMU_REGISTER_SEGMENT(i)), below(8) << 28 | random_vsid());
+    random_blocks();
+    if (below(2) == 0)
+        return;
+    for (i = 0; i < 2; i++) {
+        close_side(i);
+        if (below(4) == 0)
+            nest_block(i);
+    }
+}
+
+/* One bit of one word turned, so that each rule is broken now and then; or a pair of ones over zeros. */
 static void spoil_registers(void)
 {
     size_t offset = MMU_REGISTER_OFFSET(below((uint32_t)page_len / 4));
-    put_both(offset, mmu_get_word(lent[0].registers, offset) ^ (1u << below(32)));
+    uint32_t number = upper_number(below(pairs_a_side()), below(2));
+    if (below(8)) {
+        put_both(offset, mmu_get_word(lent[0].registers, offset) ^ (1u << below(32)));
+        return;
+    }
+    put_both(MMU_REGISTER_OFFSET(number), 0xFFFFFFFFu);
+    put_both(MMU_REGISTER_OFFSET(number + 1), 0);
+}
+
+/* Counts a page that is right by what its pairs have. */
+static void note_pairs(void)
+{
+    uint32_t data, i, wimg = 0, junk = 0, close = 0, falls = 0;
+    for (data = 0; data < 2; data++) {
+        uint32_t begins = 0, end = 0;
+        for (i = 0; i < pairs_a_side(); i++) {
+            uint32_t upper = mmu_get_word(lent[0].registers, MMU_REGISTER_OFFSET(upper_number(i, data)));
+            uint32_t lower = mmu_get_word(lent[0].registers, MMU_REGISTER_OFFSET(upper_number(i, data) + 1));
+            if ((upper & 3) == 0) {
+                junk |= upper | lower;
+                continue;
+            }
+            close |= begins >> (upper >> 28) & 1;
+            begins |= 1u << (upper >> 28);
+            falls |= upper <= end;
+            end = upper | (upper & MMU_BLOCK_BL_LONG) << 15 | 0x1FFFF;
+            wimg |= lower >> MMU_BLOCK_WIMG_SHIFT;
+        }
+    }
+    on_rising += close && !falls;
+    on_others += close && falls;
+    on_w_and_i += wimg & MMU_ATTRIBUTE_W && wimg & MMU_ATTRIBUTE_I;
+    on_junk += junk != 0;
 }
 
 /* ---- Tables ----------------------------------------------------------------------------------- */
@@ -293,11 +402,27 @@ static size_t answer_size(int call)
     }
 }
 
+/* An address in one of the blocks, or at one of its ends, or just before or behind it. */
+static uint32_t block_address(void)
+{
+    uint32_t number = upper_number(below(pairs_a_side()), below(2));
+    uint32_t upper = mmu_get_word(lent[0].registers, MMU_REGISTER_OFFSET(number));
+    uint32_t inner = (upper & MMU_BLOCK_BL_LONG) << 15 | 0x1FFFF, start = upper & MMU_BLOCK_BEPI;
+    switch (below(4)) {
+    case 0:
+        return start - below(2);
+    case 1:
+        return start + inner + below(2);
+    default:
+        return start + (any() & inner);
+    }
+}
+
 /* An operand of 1 to 128 bytes, every other one over or up to the end of one of the pages; rarely of another length. */
 static void choose_operand(struct request *q)
 {
     q->length = rarely() ? argument(MMU_LONGEST_OPERAND + 2) : 1 + below(MMU_LONGEST_OPERAND);
-    q->address = below(3) ? below(16) << 28 | random_page() << 12 | below(4096) : 0x80000000u | any();
+    q->address = below(3) ? below(16) << 28 | random_page() << 12 | below(4096) : block_address();
     if (below(2) && q->length >= 1 && q->length <= MMU_LONGEST_OPERAND)
         q->address = (q->address | 0xFFFu) - below(q->length);
 }
@@ -455,6 +580,8 @@ static void step(uint32_t sdr1)
     seen[q.call][numbers[0] < 66 ? numbers[0] : 0]++;
     if (q.call == CHECK || q.call == SET_REGISTER || q.call == ACCESS)
         seen_on[is_long(q.registers_len)][q.call == ACCESS ? 2 : q.call][numbers[0] < 66 ? numbers[0] : 0]++;
+    if ((q.call == CHECK || q.call == ACCESS) && numbers[0] == MMU_DONE && q.registers_len == page_len)
+        note_pairs();
     if (q.call == ACCESS)
         note_answer(&q, numbers[0]);
     if (q.call == ACCESS_CACHED)
@@ -525,6 +652,9 @@ static int report(int small)
     missed += (hits[4] == 0) + (hits[5] == 0) + (hits[6] == 0) + (misses == 0);
     printf("told by rights, by new marks: none %lu, C %lu, R %lu, both %lu\n", told[0], told[1], told[2], told[3]);
     missed += (told[0] == 0) + (told[1] == 0) + (told[2] == 0) + (told[3] == 0);
+    printf("done with blocks close together: rising %lu, others %lu; W and I in different blocks: %lu; junk in an off "
+           "pair: %lu\n", on_rising, on_others, on_w_and_i, on_junk);
+    missed += (on_rising == 0) + (on_others == 0) + (on_w_and_i == 0) + (on_junk == 0);
     printf("by rule:");
     for (i = 0; i <= (int)MMU_RULE_DONE; i++) {
         printf(" %d:%lu", i, rules[i]);

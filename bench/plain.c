@@ -125,74 +125,81 @@ INLINE uint32_t inner_bits(uint32_t upper)
 /* BL's bits of a block over 256 MB, which must be zero on a short page. */
 #define OVER_256_MB UINT64_C(0x0001E00000000000)
 
-/* BL's lowest one, a one at the low end of BEPI, BL and BRPN each, and a one in each hexadecimal digit. */
+/*
+ * What is added to a pair of each side: BL's lowest one, and for data I's too, which carries over W into bit 24 where
+ * both are on. Then a one at the low end of BEPI, BL and BRPN each, and ones below BEPI.
+ */
 struct numbers {
-    uint64_t bl_one, bl_places, digit[16];
+    uint64_t instruction_one, data_one, places, below;
 };
 
 static const struct numbers the_numbers = {
-    UINT64_C(1) << 34, UINT64_C(1) << 49 | UINT64_C(1) << 34 | UINT64_C(1) << 17,
-    { UINT64_C(1) << 0, UINT64_C(1) << 4, UINT64_C(1) << 8, UINT64_C(1) << 12,
-      UINT64_C(1) << 16, UINT64_C(1) << 20, UINT64_C(1) << 24, UINT64_C(1) << 28,
-      UINT64_C(1) << 32, UINT64_C(1) << 36, UINT64_C(1) << 40, UINT64_C(1) << 44,
-      UINT64_C(1) << 48, UINT64_C(1) << 52, UINT64_C(1) << 56, UINT64_C(1) << 60 },
+    UINT64_C(1) << 34, UINT64_C(1) << 34 | 0x20, UINT64_C(1) << 49 | UINT64_C(1) << 34 | UINT64_C(1) << 17,
+    (UINT64_C(1) << 49) - 1,
 };
 
 /* Read once a call, so that the compiler uses the numbers where they lie; it would load each anew for each pair. */
 static const struct numbers *const volatile numbers_place = &the_numbers;
 
-/*
- * Not zero where BL of a pair has a gap or BEPI or BRPN has a one under a one of BL: BL is moved under all three, and
- * in the pair BL + 1 takes BL's place. Of BL 7FFF, whose carry leaves BL, it says nothing.
- */
-INLINE uint64_t under_bl(uint64_t pair, const struct numbers *numbers)
-{
-    uint64_t bl = pair >> 34 & 0x7FFF;
-    return (pair + numbers->bl_one) & bl * numbers->bl_places;
-}
-
-/* The pairs of a side that are on: their bits, and how many begin at each value of the top four address bits. */
+/* The pairs of a side that are on: their bits, on the data side with those of the sums, and the last block's end. */
 struct side {
-    uint64_t any, begins;
+    uint64_t any, end;
 };
 
-/* The bits of `begins` that make a digit over one, and blocks that may begin anywhere. */
-#define CROWDED UINT64_C(0xEEEEEEEEEEEEEEEE)
-#define EVERYWHERE UINT64_C(0xFFFFFFFFFFFFFFFF)
-
-/* Sums a side up; `wrong` gets a one where BL, BEPI or BRPN of a pair is wrong. */
-INLINE struct side sum_up(const uint8_t *pairs, uint32_t count, const struct numbers *numbers, uint64_t *wrong)
+/*
+ * Sums a side up. BL is moved under BEPI, BL and BRPN at once, and in the sum BL + 1 takes BL's place: `wrong` gets a
+ * one where BL has a gap or where BEPI or BRPN has a one under it. Of BL 7FFF, whose carry leaves BL, it says nothing.
+ * In its low 16 bits `wrong` counts the blocks that do not begin behind the end of the one before.
+ */
+INLINE struct side sum_up(const uint8_t *pairs, uint32_t count, const struct numbers *numbers, int data,
+                          uint64_t *wrong)
 {
     struct side side = { 0, 0 };
 #define ADD_PAIR(i) \
     if (i < count && pairs[8 * i + 3] & 3) { \
-        uint64_t pair = words_at(pairs + 8 * i); \
-        side.any |= pair; \
-        *wrong |= under_bl(pair, numbers); \
-        side.begins += numbers->digit[(uint32_t)pairs[8 * i] >> 4]; \
+        uint64_t pair = words_at(pairs + 8 * i), inner = (pair >> 34 & 0x7FFF) * numbers->places; \
+        uint64_t sum = pair + (data ? numbers->data_one : numbers->instruction_one); \
+        side.any |= data ? pair | sum : pair; \
+        *wrong += pair <= side.end; \
+        *wrong |= sum & inner; \
+        side.end = pair | inner | numbers->below; \
     }
     ADD_PAIR(0) ADD_PAIR(1) ADD_PAIR(2) ADD_PAIR(3) ADD_PAIR(4) ADD_PAIR(5) ADD_PAIR(6) ADD_PAIR(7)
     return side;
 }
 
 /*
- * The quick test of all pairs: it may say "right" only where no pair breaks a rule, and it never says so where a block
- * is over 256 MB, where two of a side begin in the same 256 MB or where W is of one data block and I of another.
+ * What the test of a page tells. RIGHT: no rule is broken, and the blocks of each side rise: each begins behind the end
+ * of the one before, so that they share nothing. FALLING: they do not, but that two share an address is all that may be
+ * wrong. OPEN: anything may be.
  */
-INLINE int quick_pairs(const uint8_t *pairs, uint32_t count, uint64_t begins[2])
+enum test { RIGHT, FALLING, OPEN };
+
+/*
+ * BL's bits that leave a page open, on the data side those of BL + 1: any block over 256 MB on a short page, where it
+ * is wrong; on a long page one of 4 GB, of data also one of 2 GB.
+ */
+INLINE uint64_t too_long(uint32_t count, int data)
+{
+    return count == 4 ? OVER_256_MB & ~((uint64_t)data << 45) : UINT64_C(1) << 48;
+}
+
+/* Tests all pairs, and tells where the blocks of each side end, with ones below. */
+INLINE enum test test_pairs(const uint8_t *pairs, uint32_t count, uint64_t ends[2])
 {
     const struct numbers *numbers = numbers_place;
-    uint64_t wrong = 0;
-    struct side instruction = sum_up(pairs, count, numbers, &wrong);
-    struct side data = sum_up(pairs + 8 * count, count, numbers, &wrong);
-    begins[0] = instruction.begins;
-    begins[1] = data.begins;
-    if ((instruction.begins | data.begins) == 0)
-        return 1;
-    wrong |= instruction.any & (INSTRUCTION_ZERO | OVER_256_MB);
-    wrong |= (data.any | (data.any + 0x20)) & (DATA_ZERO | OVER_256_MB);
-    wrong |= (instruction.begins | data.begins) & CROWDED;
-    return wrong == 0;
+    uint64_t wrong = 0, zero;
+    struct side instruction = sum_up(pairs, count, numbers, 0, &wrong);
+    struct side data = sum_up(pairs + 8 * count, count, numbers, 1, &wrong);
+    ends[0] = instruction.end;
+    ends[1] = data.end;
+    if ((instruction.any | data.any) == 0)
+        return RIGHT;
+    zero = instruction.any & (INSTRUCTION_ZERO | too_long(count, 0));
+    zero |= data.any & (DATA_ZERO | too_long(count, 1));
+    if ((zero | wrong) == 0)
+        return RIGHT;
+    return (zero | wrong >> 16) == 0 ? FALLING : OPEN;
 }
 
 /* The segments' words are put together as they lie in memory: only their first bytes are asked about. */
@@ -220,38 +227,63 @@ INLINE int shapes_bad(const uint8_t *pairs, uint32_t count, uint64_t zero)
     return wrong != 0;
 }
 
-/* The upper words of a side's pairs and the address bits that run within each block. */
-struct blocks {
-    uint32_t upper[8], inner[8];
-};
-
-/* Whether block i shares an address and a V bit with one before it; their shapes are right by now. */
-INLINE int clashes(const struct blocks *blocks, uint32_t i)
+/*
+ * Whether each of a side's blocks begins in 256 MB of its own and none is longer, so that they share nothing: how many
+ * begin in each 256 MB is summed up as hexadecimal digits.
+ */
+INLINE int apart(const uint8_t *pairs, uint32_t count)
 {
-    uint32_t upper = blocks->upper[i], inner = blocks->inner[i];
-#define RETURN_IF_SHARED(j) \
-    if (j < i && (upper ^ blocks->upper[j]) <= (inner | blocks->inner[j]) && upper & blocks->upper[j] & 3) \
-        return 1;
-    RETURN_IF_SHARED(0) RETURN_IF_SHARED(1) RETURN_IF_SHARED(2) RETURN_IF_SHARED(3)
-    RETURN_IF_SHARED(4) RETURN_IF_SHARED(5) RETURN_IF_SHARED(6)
+    uint64_t begins = 0;
+    uint32_t any = 0, i;
+    for (i = 0; i < count; i++)
+        if (pairs[8 * i + 3] & 3) {
+            begins += UINT64_C(1) << (pairs[8 * i] >> 4) * 4;
+            any |= raw_at(pairs + 8 * i);
+        }
+    return (begins & UINT64_C(0xEEEEEEEEEEEEEEEE)) == 0 && (any & raw_of(OVER_256_MB >> 32)) == 0;
+}
+
+/* Whether two of a side's blocks share an address and a V bit, each compared with all before it. */
+INLINE int some_meet(const uint8_t *pairs, uint32_t count)
+{
+    uint32_t i, j;
+    for (i = 1; i < count; i++) {
+        uint32_t upper = word_at(pairs + 8 * i), inner = inner_bits(upper);
+        for (j = 0; j < i; j++) {
+            uint32_t other = word_at(pairs + 8 * j);
+            if ((upper ^ other) <= (inner | inner_bits(other)) && upper & other & 3)
+                return 1;
+        }
+    }
     return 0;
 }
 
-/* Whether two of a side's pairs share an address and a V bit; one that is off has none. */
+/*
+ * The same; their shapes are right by now. Where each lies behind all before it or in front of them all, no two are
+ * compared.
+ */
 INLINE int some_clash(const uint8_t *pairs, uint32_t count)
 {
-    struct blocks blocks;
-    uint32_t i;
+    uint32_t first = 0xFFFFFFFF, last = 0, i;
     for (i = 0; i < count; i++) {
-        blocks.upper[i] = word_at(pairs + 8 * i);
-        blocks.inner[i] = inner_bits(blocks.upper[i]);
+        uint32_t upper = word_at(pairs + 8 * i), end = upper | inner_bits(upper);
+        if (!(upper & 3))
+            continue;
+        if (upper <= last && end >= first)
+            return !apart(pairs, count) && some_meet(pairs, count);
+        first = upper < first ? upper : first;
+        last = end > last ? end : last;
     }
-    if (clashes(&blocks, 1) || clashes(&blocks, 2) || clashes(&blocks, 3))
-        return 1;
-    return count == 8 && (clashes(&blocks, 4) || clashes(&blocks, 5) || clashes(&blocks, 6) || clashes(&blocks, 7));
+    return 0;
 }
 
-/* The exact check: the first broken rule of any page with so many pairs a side. It decides what is left open. */
+/* The same of both sides, as a result number. */
+INLINE uint32_t clash_check(const uint8_t *registers, uint32_t count)
+{
+    return some_clash(registers + PAIRS, count) || some_clash(registers + PAIRS + 8 * count, count) ? 4 : 0;
+}
+
+/* The exact check: the first broken rule of any page with so many pairs a side. */
 INLINE uint32_t exact_check(const uint8_t *registers, uint32_t count)
 {
     const uint8_t *instruction = registers + PAIRS, *data = instruction + 8 * count;
@@ -260,53 +292,55 @@ INLINE uint32_t exact_check(const uint8_t *registers, uint32_t count)
         return 2;
     if (shapes_bad(instruction, count, INSTRUCTION_ZERO | over) || shapes_bad(data, count, DATA_ZERO | over))
         return 3;
-    if (some_clash(instruction, count) || some_clash(data, count))
+    if (clash_check(registers, count) != 0)
         return 4;
     return segments_bad(registers + SEGMENTS) ? 5 : 0;
 }
 
-static NOINLINE uint32_t exact_short(const uint8_t *registers)
+/* The first broken rule of a page that the test does not call right. */
+static NOINLINE uint32_t settle_short(const uint8_t *registers, enum test test)
 {
-    return exact_check(registers, 4);
+    return test == FALLING ? clash_check(registers, 4) : exact_check(registers, 4);
 }
 
-static NOINLINE uint32_t exact_long(const uint8_t *registers)
+static NOINLINE uint32_t settle_long(const uint8_t *registers, enum test test)
 {
-    return exact_check(registers, 8);
+    return test == FALLING ? clash_check(registers, 8) : exact_check(registers, 8);
 }
 
-/* The quick test of a page: it may say "right" only of a page that breaks no rule, and of no page that it is wrong. */
-INLINE int quick_page(const uint8_t *registers, uint32_t count, uint64_t begins[2])
-{
-    return !sdr1_bad(word_at(registers)) && !segments_bad(registers + SEGMENTS)
-        && quick_pairs(registers + PAIRS, count, begins);
-}
+/* Ends of blocks that may lie anywhere. */
+#define ANYWHERE UINT64_C(0xFFFFFFFFFFFFFFFF)
 
-/* The first broken rule of a page with so many pairs a side. */
-INLINE uint32_t check_page(const uint8_t *registers, uint32_t count)
+/* The first broken rule of a page with so many pairs a side, and where the blocks of each side end, if they rise. */
+INLINE uint32_t check_page(const uint8_t *registers, uint32_t count, uint64_t ends[2])
 {
-    uint64_t begins[2];
-    if (quick_page(registers, count, begins))
+    enum test test = OPEN;
+    if (!sdr1_bad(word_at(registers)) && !segments_bad(registers + SEGMENTS))
+        test = test_pairs(registers + PAIRS, count, ends);
+    if (test == RIGHT)
         return 0;
-    return count == 4 ? exact_short(registers) : exact_long(registers);
+    ends[0] = ends[1] = ANYWHERE;
+    return count == 4 ? settle_short(registers, test) : settle_long(registers, test);
 }
 
 uint32_t PLAIN(check)(const uint8_t *registers, size_t registers_len)
 {
+    uint64_t ends[2];
     if (registers_len == SHORT_PAGE)
-        return check_page(registers, 4);
-    return registers_len == LONG_PAGE ? check_page(registers, 8) : 11;
+        return check_page(registers, 4, ends);
+    return registers_len == LONG_PAGE ? check_page(registers, 8, ends) : 11;
 }
 
 /* Puts a word into the page, and the old one back where the new page breaks a rule. */
 INLINE uint32_t set_checked(uint8_t *registers, uint32_t count, uint32_t number, uint32_t word)
 {
+    uint64_t ends[2];
     uint32_t old, result;
     if (number >= 17 + 4 * count)
         return 6;
     old = raw_at(registers + 4 * number);
     put_word(registers + 4 * number, word);
-    result = check_page(registers, count);
+    result = check_page(registers, count, ends);
     if (result != 0)
         memcpy(registers + 4 * number, &old, 4);
     return result;
@@ -574,14 +608,16 @@ INLINE int allowed(uint32_t kind, uint32_t detail)
     return 0x47EFEFu >> (8 * kind + detail) & 1;
 }
 
-/*
- * An access, the pairs of its side, and where they begin by the quick test; EVERYWHERE if that left the page open. The
- * cache is NULL in an access without one.
- */
+/* Where the blocks of a side lie: the upper word of the first, or 0, and the last address. */
+struct span {
+    uint32_t first, last;
+};
+
+/* An access, the pairs of its side and where their blocks lie. The cache is NULL in an access without one. */
 struct access {
     const uint8_t *registers, *pairs;
     uint32_t count, mode, kind;
-    uint64_t begins;
+    struct span span;
     uint8_t *table;
     size_t table_len;
     uint8_t *answer, *cache;
@@ -749,10 +785,24 @@ INLINE uint32_t find_block(const struct access *access, uint32_t address)
     return i;
 }
 
-/* Steps 2 to 7. The blocks are passed over where none begins in the address's 256 MB and so none can hold it. */
+/* Where the blocks of a side lie that rise up to this end: where the first pair is on, it is the first of them. */
+INLINE struct span span_of(const uint8_t *pairs, uint64_t end)
+{
+    struct span span;
+    span.first = end != ANYWHERE && pairs[3] & 3 ? word_at(pairs) : 0;
+    span.last = (uint32_t)(end >> 32);
+    return span;
+}
+
+INLINE int in_span(struct span span, uint32_t address)
+{
+    return address <= span.last && (address | 0x1FFFF) >= span.first;
+}
+
+/* Steps 2 to 7. The blocks are passed over where the address lies in front of all or behind all. */
 INLINE uint32_t translate(const struct access *access, struct part *part)
 {
-    if (access->begins >> (part->address >> 28) * 4 & 15) {
+    if (in_span(access->span, part->address)) {
         uint32_t number = find_block(access, part->address);
         if (number < access->count)
             return by_block(access, part, number);
@@ -826,24 +876,21 @@ INLINE uint32_t access_with(struct access *access, uint32_t address, uint32_t le
 {
     struct part part = { 0, address, NULL, 0 };
     uint32_t result, bytes = 0x1000 - (address & 0xFFF);
-    uint64_t begins[2];
+    uint64_t ends[2];
     int data = access->kind != FETCH;
     if (access->mode > 7 || access->kind > STORE)
         return refuse_access(access->answer, 6);
     if (length - 1 > 127)
         return refuse_access(access->answer, 12);
-    if (!quick_page(access->registers, access->count, begins)) {
-        result = access->count == 4 ? exact_short(access->registers) : exact_long(access->registers);
-        if (result != 0)
-            return refuse_access(access->answer, result);
-        begins[0] = begins[1] = EVERYWHERE;
-    }
+    result = check_page(access->registers, access->count, ends);
+    if (result != 0)
+        return refuse_access(access->answer, result);
     if (access->table_len != table_size(word_at(access->registers)))
         return refuse_access(access->answer, 1);
     if (!(access->mode & (data ? 1 : 2)))
         return real(access->answer, address, length, bytes);
-    access->begins = begins[data];
     access->pairs = access->registers + PAIRS + (data ? 8 * access->count : 0);
+    access->span = span_of(access->pairs, data ? ends[1] : ends[0]);
     if (length > bytes)
         return over_edge(access, address, length, bytes);
     result = translate(access, &part);
@@ -854,8 +901,8 @@ INLINE uint32_t access_with(struct access *access, uint32_t address, uint32_t le
 uint32_t PLAIN(access)(const uint8_t *registers, size_t registers_len, uint32_t mode, uint32_t kind, uint32_t address,
                        uint32_t length, uint8_t *table, size_t table_len, uint8_t *answer, size_t answer_len)
 {
-    struct access of_short = { registers, NULL, 4, mode, kind, 0, table, table_len, answer, NULL };
-    struct access of_long = { registers, NULL, 8, mode, kind, 0, table, table_len, answer, NULL };
+    struct access of_short = { registers, NULL, 4, mode, kind, { 0, 0 }, table, table_len, answer, NULL };
+    struct access of_long = { registers, NULL, 8, mode, kind, { 0, 0 }, table, table_len, answer, NULL };
     if (answer_len != 48)
         return 11;
     if (registers_len == SHORT_PAGE)
@@ -867,8 +914,8 @@ uint32_t PLAIN(access_cached)(const uint8_t *registers, size_t registers_len, ui
                               uint32_t address, uint32_t length, uint8_t *table, size_t table_len, uint8_t *cache,
                               size_t cache_len, uint8_t *answer, size_t answer_len)
 {
-    struct access of_short = { registers, NULL, 4, mode, kind, 0, table, table_len, answer, cache };
-    struct access of_long = { registers, NULL, 8, mode, kind, 0, table, table_len, answer, cache };
+    struct access of_short = { registers, NULL, 4, mode, kind, { 0, 0 }, table, table_len, answer, cache };
+    struct access of_long = { registers, NULL, 8, mode, kind, { 0, 0 }, table, table_len, answer, cache };
     if (answer_len != 48 || cache_len != CACHE)
         return 11;
     if (registers_len == SHORT_PAGE)
@@ -903,10 +950,10 @@ INLINE const uint8_t *pairs_of(const struct access *access, int data)
 }
 
 /* The block of a side that holds the address. */
-INLINE uint32_t block_of(struct access *access, uint32_t address, uint64_t begins, int data)
+INLINE uint32_t block_of(struct access *access, uint32_t address, uint64_t end, int data)
 {
     access->pairs = pairs_of(access, data);
-    return begins >> (address >> 28) * 4 & 15 ? find_block(access, address) : access->count;
+    return in_span(span_of(access->pairs, end), address) ? find_block(access, address) : access->count;
 }
 
 /* The search of the address's page, made once for all kinds that come to it. */
@@ -961,19 +1008,17 @@ INLINE void right_of(struct access *access, const struct standing *at, uint32_t 
 INLINE uint32_t rights_with(struct access *access, uint32_t address, uint8_t *answer)
 {
     struct standing at = { address, { 0, 0 }, 0, { NULL, 0, 0 }, NONE };
-    uint64_t begins[2];
+    uint64_t ends[2];
+    uint32_t result;
     if (access->mode > 7)
         return refuse_rights(answer, 6);
-    if (!quick_page(access->registers, access->count, begins)) {
-        uint32_t result = access->count == 4 ? exact_short(access->registers) : exact_long(access->registers);
-        if (result != 0)
-            return refuse_rights(answer, result);
-        begins[0] = begins[1] = EVERYWHERE;
-    }
+    result = check_page(access->registers, access->count, ends);
+    if (result != 0)
+        return refuse_rights(answer, result);
     if (access->table_len != table_size(word_at(access->registers)))
         return refuse_rights(answer, 1);
-    at.blocks[0] = block_of(access, address, begins[0], 0);
-    at.blocks[1] = block_of(access, address, begins[1], 1);
+    at.blocks[0] = block_of(access, address, ends[0], 0);
+    at.blocks[1] = block_of(access, address, ends[1], 1);
     at.segment = word_at(access->registers + SEGMENTS + 4 * (address >> 28));
     if ((access->mode & 2 && at.blocks[0] == access->count) || (access->mode & 1 && at.blocks[1] == access->count))
         search(access, &at);
@@ -986,8 +1031,8 @@ INLINE uint32_t rights_with(struct access *access, uint32_t address, uint8_t *an
 uint32_t PLAIN(rights)(const uint8_t *registers, size_t registers_len, uint32_t mode, uint32_t address,
                        const uint8_t *table, size_t table_len, uint8_t *answer, size_t answer_len)
 {
-    struct access of_short = { registers, NULL, 4, mode, FETCH, 0, (uint8_t *)table, table_len, answer, NULL };
-    struct access of_long = { registers, NULL, 8, mode, FETCH, 0, (uint8_t *)table, table_len, answer, NULL };
+    struct access of_short = { registers, NULL, 4, mode, FETCH, { 0, 0 }, (uint8_t *)table, table_len, answer, NULL };
+    struct access of_long = { registers, NULL, 8, mode, FETCH, { 0, 0 }, (uint8_t *)table, table_len, answer, NULL };
     if (answer_len != 156)
         return 11;
     if (registers_len == SHORT_PAGE)

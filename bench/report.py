@@ -1,14 +1,16 @@
 #!/usr/bin/env python3
-"""Makes the benchmark's table and picture from what bench/run.sh measured.
+"""Makes the benchmark's tables and picture from what bench/run.sh measured.
 
-report.py DIRECTORY [--write]: prints the table; with --write it also writes docs/BENCHMARKS.md and docs/benchmarks.svg.
+report.py DIRECTORY [--write]: prints the tables; with --write it also writes docs/BENCHMARKS.md and docs/benchmarks.svg.
+bench/earlier.txt has the instructions of an earlier version's library by the same rows, its version in the first line.
 """
 import html
 import re
 import sys
 from pathlib import Path
 
-HEAD = ["row", "library", "plain C", "ratio", "library ns", "plain C ns", "ratio"]
+EARLIER = dict(line.split("\t") for line in Path(__file__).with_name("earlier.txt").read_text().splitlines())
+HEAD = ["row", "library", EARLIER["version"], "plain C", "ratio", "library ns", "plain C ns", "ratio"]
 # A tenth more than the plain C is what has to be explained.
 LIMIT = 1.1
 # Each access with a cache, and the same access without one.
@@ -22,6 +24,18 @@ CACHED = [
 RIGHTS = [
     ("rights, page hit, primary entry 0", "access, page hit, primary entry 0"),
     ("rights, block hit in the fourth pairs", "access, block hit in the fourth pair"),
+]
+# Register pages with something that costs a check more, the same without it, and how many times as much is the goal.
+CLOSE, FOUR_FALL, EIGHT_FALL = 4 / 3, 3 / 2, 2
+UNUSUAL = [
+    ("check, long page, blocks of 128 KB in a row", "check, long page", CLOSE),
+    ("access, long page, blocks of 128 KB in a row", "access, long page, page hit, primary entry 0", CLOSE),
+    ("check, W in one block and I in another", "check", CLOSE),
+    ("access, W in one block and I in another", "access, page hit, primary entry 0", CLOSE),
+    ("check, junk in an off pair", "check, Linux on a 750", CLOSE),
+    ("access, junk in an off pair", "access, Linux on a 750, by a page", CLOSE),
+    ("check, blocks in falling order", "check", FOUR_FALL),
+    ("check, long page, blocks in falling order", "check, long page", EIGHT_FALL),
 ]
 # What a hit may take of the same access without a cache, and how many instructions a miss may take more.
 HIT_GOAL, MISS_GOAL = 0.90, 60
@@ -54,6 +68,7 @@ def cells(row):
     return [
         name,
         f"{library:.0f}",
+        EARLIER.get(name, ""),
         f"{plain:.0f}",
         f"{library / plain:.2f}",
         f"{library_ns:.1f}",
@@ -114,6 +129,13 @@ def over_limit(rows):
     return "More than a tenth more instructions than the plain C: " + "; ".join(over) + "."
 
 
+def extremes(rows):
+    """Where the library takes most and least, as a share of the plain C's instructions."""
+    ratios = sorted((row[1] / row[2], row[0]) for row in rows)
+    (least, least_name), (most, most_name) = ratios[0], ratios[-1]
+    return f"The library takes {least:.2f} times ({least_name}) to {most:.2f} times ({most_name}) the plain C's instructions."
+
+
 def beside_access(rows):
     """A table of each access with a cache beside the same access of the same build without one, and what misses a goal."""
     by_name = {row[0]: row for row in rows}
@@ -130,6 +152,20 @@ def beside_access(rows):
             missed.append(name)
     goal = f"The goal is at most {HIT_GOAL:.2f} of the access for a hit and {MISS_GOAL} instructions more for a miss: "
     return "\n".join(lines), goal + ("missed in " + "; ".join(missed) if missed else "met in all four") + "."
+
+
+def beside_usual(rows):
+    """A table of checks and accesses on unusual register pages beside the same on usual ones, and what misses a goal."""
+    by_name = {row[0]: row for row in rows}
+    lines = ["| row | library | without | ratio | goal | plain C | without | ratio |", "|---|---:|---:|---:|---:|---:|---:|---:|"]
+    missed = []
+    for name, usual, goal in UNUSUAL:
+        (library, plain), (library_usual, plain_usual) = by_name[name][1:3], by_name[usual][1:3]
+        lines.append(f"| {name} | {library:.0f} | {library_usual:.0f} | {library / library_usual:.2f} | {goal:.2f} | "
+                     f"{plain:.0f} | {plain_usual:.0f} | {plain / plain_usual:.2f} |")
+        if library > goal * library_usual:
+            missed.append(name)
+    return "\n".join(lines), "The goal is " + ("missed in " + "; ".join(missed) if missed else "met in all rows") + "."
 
 
 def beside_three(rows):
@@ -151,6 +187,16 @@ def without_rights(rows):
     return [row for row in rows if row[0] not in names]
 
 
+def real(rows):
+    """The rows on register pages that a real system had."""
+    return [row for row in rows if ", Linux on a " in row[0]]
+
+
+def made(rows):
+    """The rows on register pages that were made for measuring."""
+    return [row for row in without_rights(rows) if row not in real(rows)]
+
+
 def document(directory, rows):
     machine = dict(fields(directory / "machine.txt"))
     agreed = (directory / "agree.txt").read_text().splitlines()[0]
@@ -160,15 +206,27 @@ def document(directory, rows):
         "Made by `bench/run.sh --write`; `make bench` prints the same table.",
         "The contender is `bench/plain.c`: the thirteen calls in portable C with the same checks, written for speed. Before the "
         f"timing both are held against each other: {agreed}.",
-        "Instructions are those of one call, counted by callgrind inside the call alone; they repeat exactly. Nanoseconds are the "
-        "least of 200 rounds in which the two take turns. The register page is the short one where a row does not say \"long page\". "
-        "In all access rows but those marked \"blocks off\" every block pair is on, on each side of 256 MB, 16 MB, 1 MB and 128 KB; "
-        "a long page has each of these lengths twice a side. An access checks the whole register page each time. It is to one byte, "
-        "and over a page edge to eight, four in each page. With a cache, a hit is of a page that was loaded, and before each miss "
-        "the page's set is emptied.",
-        markdown_table(without_rights(rows)),
+        "Instructions are those of one call, counted by callgrind inside the call alone; they repeat exactly. Nanoseconds are "
+        f"the least of 200 rounds in which the two take turns. The column {EARLIER['version']} has the instructions of that "
+        "version's library. An access checks the whole register page each time. It is to one byte, and over a page edge to "
+        "eight, four in each page.",
+        "## Register pages that Linux has",
+        "The words are those of `bench/pages.txt`, which Linux 6.1 had in QEMU. On a 750 three instruction blocks and all four "
+        "data blocks are on, on a 7455, a long page, two and six; all lie within one 256 MB, each behind the one before. The "
+        "page is a program's, the block the third of the kernel's data; rights of a block are those of the kernel's text.",
+        markdown_table(real(rows)),
+        "## Register pages made for measuring",
+        "The register page is the short one where a row does not say \"long page\". Where a row says nothing of the blocks "
+        "every pair is on, on each side of 256 MB, 16 MB, 1 MB and 128 KB, each block in 256 MB of its own and behind the one "
+        "before; a long page has each of these lengths twice a side. With a cache, a hit is of a page that was loaded, and "
+        "before each miss the page's set is emptied.",
+        markdown_table(made(rows)),
         "![The library beside plain C](benchmarks.svg)",
-        over_limit(without_rights(rows)),
+        extremes(without_rights(rows)) + " " + over_limit(without_rights(rows)),
+        "## Register pages that cost a check more",
+        "Instructions of the same build, beside the same row without what makes the page unusual. Blocks in a row or in falling "
+        "order are of 128 KB each, next to each other. Junk is put into the pair that is off on Linux's page of the 750.",
+        *beside_usual(rows),
         "## An access with a cache beside the same access without one",
         "Instructions of the same build, the page at its first place, both groups full.",
         *beside_access(rows),
@@ -189,8 +247,8 @@ def main():
     directory = Path(sys.argv[1])
     rows = read_rows(directory)
     print(text_table(rows))
-    print(over_limit(without_rights(rows)))
-    print(*beside_access(rows), beside_three(rows), sep="\n")
+    print(extremes(without_rights(rows)), over_limit(without_rights(rows)), sep="\n")
+    print(*beside_usual(rows), *beside_access(rows), beside_three(rows), sep="\n")
     if "--write" in sys.argv[2:]:
         Path("docs").mkdir(exist_ok=True)
         Path("docs/BENCHMARKS.md").write_text(document(directory, rows))

@@ -2,9 +2,11 @@
  * The rows of the benchmark. Each row is prepared once and then run with the library and with the plain C in turn;
  * a result other than the row's own ends the program.
  *
- *   rows list          the rows' names, a line each
- *   rows time ROUNDS   name, least nanoseconds of the library and of the plain C, a line a row
- *   rows count         runs each row once per implementation; callgrind writes a profile at each row_done
+ *   rows list                the rows' names and how many calls of each are counted, a line each
+ *   rows time PAGES ROUNDS   name, least nanoseconds of the library and of the plain C, a line a row
+ *   rows count PAGES         runs each row once per implementation; callgrind writes a profile at each row_done
+ *
+ * PAGES is the file of the register pages that real systems had.
  */
 #define _POSIX_C_SOURCE 200809L
 
@@ -15,7 +17,7 @@
 #include <string.h>
 #include <time.h>
 
-enum { ACCESSES = 4096, LARGEST_TABLE = 1 << 19 };
+enum { ACCESSES = 4096, LARGEST_TABLE = 1 << 20 };
 
 /* Document 01's page, and addresses that the fourth data block covers, and on a long page the eighth. */
 #define VSID 0x0C701Cu
@@ -25,6 +27,11 @@ enum { ACCESSES = 4096, LARGEST_TABLE = 1 << 19 };
 #define LONG_BLOCK_ADDRESS 0xF0012345u
 #define SMALL_SDR1 0x0F980000u
 #define LARGE_SDR1 0x0F980007u
+
+/* With Linux: a program's page, the kernel's memory in the third data block, and its text, in a block of each side. */
+#define PROGRAM_ADDRESS 0x10012345u
+#define KERNEL_ADDRESS 0xC0812345u
+#define TEXT_ADDRESS 0xC0212345u
 
 /* What a row lends, and the accesses that it makes. */
 struct bench {
@@ -41,7 +48,7 @@ struct bench {
     uint8_t *entries[2];
     uint8_t unmarked[2][MMU_ENTRY_SIZE];
     uint32_t pages;
-    uint32_t sdr1, mode, kind, address, length;
+    uint32_t sdr1, vsid, mode, kind, address, length;
     uint32_t addresses[ACCESSES];
 };
 
@@ -82,24 +89,32 @@ static void set(struct bench *bench, uint32_t number, uint32_t word)
             "a register is refused");
 }
 
-/* An empty table, segment 0 of the twelve cases and fifteen others, every block off, data translated. */
-static void start_on(struct bench *bench, size_t registers_len, uint32_t sdr1)
+/* An empty table, segments of zeros, every block off; loads of one byte of data, translated. */
+static void start_empty(struct bench *bench, size_t registers_len, uint32_t sdr1)
 {
-    uint32_t i;
     memset(bench->registers, 0, sizeof bench->registers);
     memset(bench->cache, 0, sizeof bench->cache);
     bench->registers_len = registers_len;
     bench->sdr1 = sdr1;
+    bench->vsid = VSID;
     bench->table_len = MMU_TABLE_SIZE(sdr1);
     bench->mode = MMU_MODE_DR;
     bench->kind = MMU_LOAD;
     bench->address = PAGE_ADDRESS;
     bench->length = 1;
     bench->pages = 0;
+    require(bench->table_len <= LARGEST_TABLE, "the table is too large");
     set(bench, MMU_REGISTER_SDR1, sdr1);
+    require(plain_clear(sdr1, bench->table, bench->table_len) == MMU_DONE, "clear is refused");
+}
+
+/* The same with segment 0 of the twelve cases and fifteen others. */
+static void start_on(struct bench *bench, size_t registers_len, uint32_t sdr1)
+{
+    uint32_t i;
+    start_empty(bench, registers_len, sdr1);
     for (i = 0; i < 16; i++)
         set(bench, MMU_REGISTER_SEGMENT(i), VSID + 0x111 * i);
-    require(plain_clear(sdr1, bench->table, bench->table_len) == MMU_DONE, "clear is refused");
 }
 
 static void start(struct bench *bench, uint32_t sdr1)
@@ -136,21 +151,21 @@ static void fill(struct bench *bench, uint32_t page_index, uint32_t first, uint3
 {
     uint32_t i;
     for (i = first; i < first + count; i++)
-        require(plain_map(bench->sdr1, VSID ^ ((i + 1) << 19), page_index, i, 2, 2, bench->table, bench->table_len)
-                    == MMU_DONE, "a filling page is refused");
+        require(plain_map(bench->sdr1, bench->vsid ^ ((i + 1) << 19), page_index, i, 2, 2, bench->table,
+                          bench->table_len) == MMU_DONE, "a filling page is refused");
 }
 
 static void map_page(struct bench *bench, uint32_t page_index)
 {
-    require(plain_map(bench->sdr1, VSID, page_index, 0x12345, 2, 2, bench->table, bench->table_len) == MMU_DONE,
+    require(plain_map(bench->sdr1, bench->vsid, page_index, 0x12345, 2, 2, bench->table, bench->table_len) == MMU_DONE,
             "the page is refused");
 }
 
 /* A page at the given place of its search order, the other fifteen entries in use; the unmarked entry is kept. */
 static void put_page(struct bench *bench, uint32_t page_index, uint32_t place)
 {
-    uint32_t hash = (VSID ^ page_index) & 0x3FF;
-    uint32_t group = place < 8 ? hash : hash ^ 0x3FF;
+    uint32_t mask = (uint32_t)(bench->table_len / MMU_GROUP_SIZE) - 1, hash = (bench->vsid ^ page_index) & mask;
+    uint32_t group = place < 8 ? hash : hash ^ mask;
     uint8_t *entry = bench->table + MMU_ENTRY_OFFSET(group, place % 8);
     fill(bench, page_index, 0, place);
     map_page(bench, page_index);
@@ -209,14 +224,67 @@ static void long_blocks_off(struct bench *bench)
     fill(bench, PAGE_INDEX, 0, 15);
 }
 
+/* A block of 128 KB in the pair of this number on both sides, and how many such blocks lie before it in a row. */
+static void set_small_block(struct bench *bench, uint32_t pair, uint32_t before)
+{
+    set_pair(bench, pair, 0x80000000u | before << 17 | MMU_BLOCK_VS | MMU_BLOCK_VP, before << 17 | 2);
+}
+
 /* Sixteen blocks of 128 KB, on each side in a row: their first address bits do not tell them apart. */
 static void long_row_of_blocks(struct bench *bench)
 {
     uint32_t i;
     start_on(bench, MMU_REGISTERS_SIZE_LONG, SMALL_SDR1);
     for (i = 0; i < 8; i++)
-        set_pair(bench, i, 0x80000000u | i << 17 | MMU_BLOCK_VS | MMU_BLOCK_VP, i << 17 | 2);
+        set_small_block(bench, i, i);
+    put_page(bench, PAGE_INDEX, 0);
 }
+
+/* Blocks of 128 KB in a row, the last one in the first pair: each lies before the one of the pair before it. */
+static void fall(struct bench *bench, size_t registers_len, uint32_t pairs)
+{
+    uint32_t i;
+    start_on(bench, registers_len, SMALL_SDR1);
+    for (i = 0; i < pairs; i++)
+        set_small_block(bench, i, pairs - 1 - i);
+}
+
+static void falling(struct bench *bench) { fall(bench, MMU_REGISTERS_SIZE_SHORT, 4); }
+static void long_falling(struct bench *bench) { fall(bench, MMU_REGISTERS_SIZE_LONG, 8); }
+
+/* Two instruction blocks in order and six data blocks of which each second lies before the first; 256 MB each. */
+static void long_two_and_six(struct bench *bench)
+{
+    uint32_t rest = MMU_BLOCK_BL | MMU_BLOCK_VS | MMU_BLOCK_VP, i;
+    start_on(bench, MMU_REGISTERS_SIZE_LONG, SMALL_SDR1);
+    for (i = 0; i < 2; i++)
+        set(bench, MMU_REGISTER_INSTRUCTION_UPPER(i), (0x80000000u + (i << 28)) | rest);
+    for (i = 0; i < 6; i++)
+        set(bench, MMU_REGISTER_DATA_UPPER_LONG(i), (0x80000000u + ((i ^ 1) << 28)) | rest);
+}
+
+/* W in the first data block and I in the second; no block has both. */
+static void w_and_i(struct bench *bench)
+{
+    page_at(bench, 0);
+    set(bench, MMU_REGISTER_DATA_LOWER(0), MMU_ATTRIBUTE_W << MMU_BLOCK_WIMG_SHIFT | 2);
+    set(bench, MMU_REGISTER_DATA_LOWER(1), 0x10000000u | MMU_ATTRIBUTE_I << MMU_BLOCK_WIMG_SHIFT | 2);
+}
+
+/* A second match behind the first; where they contradict, it is another frame's. */
+static void put_second_match(struct bench *bench, int contradict)
+{
+    uint8_t *match, *second;
+    page_at(bench, 0);
+    match = bench->entries[0];
+    second = match + 3 * MMU_ENTRY_SIZE;
+    memcpy(second, match, MMU_ENTRY_SIZE);
+    if (contradict)
+        mmu_put_word(second, MMU_ENTRY_SECOND, mmu_get_word(match, MMU_ENTRY_SECOND) ^ 0x1000);
+}
+
+static void two_agree(struct bench *bench) { put_second_match(bench, 0); }
+static void two_contradict(struct bench *bench) { put_second_match(bench, 1); }
 
 static void no_match(struct bench *bench)
 {
@@ -343,6 +411,110 @@ static void last_place_free(struct bench *bench)
     start(bench, SMALL_SDR1);
     fill(bench, PAGE_INDEX, 0, 15);
 }
+
+/* ---- Preparing: the pages that real systems had ------------------------------------------------- */
+
+static const char *pages_path;
+
+/* The words under a name in the file of the pages; answers how many. */
+static uint32_t read_words(const char *name, uint32_t words[MMU_REGISTER_COUNT_LONG])
+{
+    FILE *file = fopen(pages_path, "r");
+    char line[128], *token;
+    uint32_t count = 0;
+    int found = 0;
+    require(file != NULL, "the file of the pages cannot be read");
+    while (fgets(line, sizeof line, file) != NULL) {
+        int named = line[0] != ' ';
+        token = strtok(line, " \n");
+        if (named)
+            found = token != NULL && strcmp(token, name) == 0;
+        for (; found && !named && token != NULL && count < MMU_REGISTER_COUNT_LONG; token = strtok(NULL, " \n"))
+            words[count++] = (uint32_t)strtoul(token, NULL, 16);
+    }
+    fclose(file);
+    return count;
+}
+
+/* A program's page at its first place, the other fifteen entries in use; the program loads. */
+static void put_program_page(struct bench *bench)
+{
+    uint32_t segment = MMU_REGISTER_SEGMENT(PROGRAM_ADDRESS >> 28);
+    bench->address = PROGRAM_ADDRESS;
+    bench->mode = MMU_MODE_PR | MMU_MODE_DR;
+    bench->vsid = mmu_get_word(bench->registers, MMU_REGISTER_OFFSET(segment)) & MMU_SEGMENT_VSID;
+    put_page(bench, PROGRAM_ADDRESS >> 12 & 0xFFFF, 0);
+}
+
+static void linux_750(struct bench *bench)
+{
+    uint32_t words[MMU_REGISTER_COUNT_LONG], i;
+    require(read_words("linux-750", words) == MMU_REGISTER_COUNT_SHORT, "the 750's page is not whole");
+    start_empty(bench, MMU_REGISTERS_SIZE_SHORT, words[0]);
+    for (i = 1; i < MMU_REGISTER_COUNT_SHORT; i++)
+        set(bench, i, words[i]);
+    put_program_page(bench);
+}
+
+/* What is not known of the 7455's page is the 750's: the segments, and the first two of its instruction blocks. */
+static void linux_7455(struct bench *bench)
+{
+    uint32_t words[MMU_REGISTER_COUNT_LONG], data[MMU_REGISTER_COUNT_LONG], sdr1[MMU_REGISTER_COUNT_LONG], i;
+    require(read_words("linux-750", words) == MMU_REGISTER_COUNT_SHORT && read_words("linux-7455-sdr1", sdr1) == 1
+                && read_words("linux-7455-data", data) == 12, "the 7455's words are not whole");
+    start_empty(bench, MMU_REGISTERS_SIZE_LONG, sdr1[0]);
+    for (i = 1; i < MMU_REGISTER_INSTRUCTION_UPPER(2); i++)
+        set(bench, i, words[i]);
+    for (i = 0; i < 12; i++)
+        set(bench, MMU_REGISTER_DATA_UPPER_LONG(0) + i, data[i]);
+    put_program_page(bench);
+}
+
+/* The kernel asks, and the address is in the block of this number. */
+static void go_to_block(struct bench *bench, uint32_t mode, uint32_t kind, uint32_t address, uint32_t number)
+{
+    bench->mode = mode;
+    bench->kind = kind;
+    bench->address = address;
+    access_at(bench, &contender, address);
+    require(mmu_get_word(bench->access_answer, MMU_ANSWER_RULE) == MMU_RULE_BLOCK
+                && mmu_get_word(bench->access_answer, MMU_ANSWER_DETAIL) == number, "the kernel's block is not hit");
+}
+
+static void linux_750_block(struct bench *bench)
+{
+    linux_750(bench);
+    go_to_block(bench, MMU_MODE_DR, MMU_LOAD, KERNEL_ADDRESS, 2);
+}
+
+static void linux_7455_block(struct bench *bench)
+{
+    linux_7455(bench);
+    go_to_block(bench, MMU_MODE_DR, MMU_LOAD, KERNEL_ADDRESS, 2);
+}
+
+static void linux_750_rights(struct bench *bench)
+{
+    linux_750(bench);
+    bench->mode = MMU_MODE_PR | MMU_MODE_IR | MMU_MODE_DR;
+}
+
+static void linux_750_text_rights(struct bench *bench)
+{
+    linux_750(bench);
+    go_to_block(bench, MMU_MODE_IR | MMU_MODE_DR, MMU_FETCH, TEXT_ADDRESS, 1);
+    go_to_block(bench, MMU_MODE_IR | MMU_MODE_DR, MMU_LOAD, TEXT_ADDRESS, 0);
+}
+
+/* Every bit but V in the 750's fourth instruction pair, which is off. */
+static void junk(struct bench *bench)
+{
+    linux_750(bench);
+    set(bench, MMU_REGISTER_INSTRUCTION_UPPER(3), ~(MMU_BLOCK_VS | MMU_BLOCK_VP));
+    set(bench, MMU_REGISTER_INSTRUCTION_LOWER(3), 0xFFFFFFFFu);
+}
+
+/* ---- Preparing: many pages ---------------------------------------------------------------------- */
 
 static uint32_t next_random(uint32_t *state)
 {
@@ -511,6 +683,15 @@ static uint32_t run_unpack(struct bench *bench, const struct calls *calls, uint3
 }
 
 static const struct row rows[] = {
+    { "check, Linux on a 750", linux_750, run_check, MMU_DONE, 16 },
+    { "set_register, Linux on a 750", linux_750, run_set_register, MMU_DONE, 16 },
+    { "access, Linux on a 750, by a page", linux_750, run_access, MMU_DONE, 16 },
+    { "access, Linux on a 750, by a block", linux_750_block, run_access, MMU_DONE, 16 },
+    { "rights, Linux on a 750, of a page", linux_750_rights, run_rights, MMU_DONE, 16 },
+    { "rights, Linux on a 750, of a block", linux_750_text_rights, run_rights, MMU_DONE, 16 },
+    { "check, Linux on a 7455", linux_7455, run_check, MMU_DONE, 16 },
+    { "access, Linux on a 7455, by a page", linux_7455, run_access, MMU_DONE, 16 },
+    { "access, Linux on a 7455, by a block", linux_7455_block, run_access, MMU_DONE, 16 },
     { "access, real mode", real_mode, run_access, MMU_DONE, 16 },
     { "access, real mode, blocks off", real_mode_blocks_off, run_access, MMU_DONE, 16 },
     { "access, block hit in the fourth pair", block_hit, run_access, MMU_DONE, 16 },
@@ -519,7 +700,11 @@ static const struct row rows[] = {
     { "access, page hit, secondary entry 0", secondary_0, run_access, MMU_DONE, 16 },
     { "access, page hit, secondary entry 7", secondary_7, run_access, MMU_DONE, 16 },
     { "access, page hit, primary entry 0, blocks off", blocks_off, run_access, MMU_DONE, 16 },
+    { "access, junk in an off pair", junk, run_access, MMU_DONE, 16 },
+    { "access, W in one block and I in another", w_and_i, run_access, MMU_DONE, 16 },
     { "access, no match", no_match, run_access, MMU_DATA_STORAGE_FAULT, 16 },
+    { "access, two matches that agree", two_agree, run_access, MMU_DONE, 16 },
+    { "access, two matches that contradict", two_contradict, run_access, MMU_REFUSED_CONTRADICTION, 16 },
     { "access, a store that sets C", storing, run_store, MMU_DONE, 16 },
     { "access over a page edge, both by pages", over_edge, run_access, MMU_DONE, 16 },
     { "access over a page edge, both in the fourth block", block_over_edge, run_access, MMU_DONE, 16 },
@@ -540,16 +725,22 @@ static const struct row rows[] = {
     { "clear, 64 KB (the plain C calls memset)", empty_groups, run_clear, MMU_DONE, 2 },
     { "check", primary_0, run_check, MMU_DONE, 16 },
     { "check, blocks off", blocks_off, run_check, MMU_DONE, 16 },
+    { "check, junk in an off pair", junk, run_check, MMU_DONE, 16 },
+    { "check, W in one block and I in another", w_and_i, run_check, MMU_DONE, 16 },
+    { "check, blocks in falling order", falling, run_check, MMU_DONE, 16 },
     { "set_register", primary_0, run_set_register, MMU_DONE, 16 },
     { "access, long page, real mode", long_real_mode, run_access, MMU_DONE, 16 },
     { "access, long page, block hit in the eighth pair", long_block_hit, run_access, MMU_DONE, 16 },
     { "access, long page, page hit, primary entry 0", long_page, run_access, MMU_DONE, 16 },
     { "access, long page, page hit, primary entry 0, blocks off", long_blocks_off, run_access, MMU_DONE, 16 },
+    { "access, long page, blocks of 128 KB in a row", long_row_of_blocks, run_access, MMU_DONE, 16 },
     { "access, long page, no match", long_no_match, run_access, MMU_DATA_STORAGE_FAULT, 16 },
     { "access, long page, over a page edge, both by pages", long_over_edge, run_access, MMU_DONE, 16 },
     { "access, long page, page edge in the eighth block", long_block_over_edge, run_access, MMU_DONE, 16 },
     { "check, long page", long_page, run_check, MMU_DONE, 16 },
     { "check, long page, blocks of 128 KB in a row", long_row_of_blocks, run_check, MMU_DONE, 16 },
+    { "check, long page, blocks in falling order", long_falling, run_check, MMU_DONE, 16 },
+    { "check, long page, two and six blocks, out of order", long_two_and_six, run_check, MMU_DONE, 16 },
     { "check, long page, blocks off", long_blocks_off, run_check, MMU_DONE, 16 },
     { "set_register, long page", long_page, run_set_register, MMU_DONE, 16 },
     { "pack", primary_0, run_pack, MMU_DONE, 16 },
@@ -619,11 +810,12 @@ int main(int argc, char **argv)
     static struct bench bench;
     const char *task = argc > 1 ? argv[1] : "list";
     int i;
+    pages_path = argc > 2 ? argv[2] : "bench/pages.txt";
     bench.table = malloc(LARGEST_TABLE);
     require(bench.table != NULL, "no memory");
     for (i = 0; i < ROWS; i++) {
         if (strcmp(task, "time") == 0)
-            time_row(&rows[i], &bench, argc > 2 ? atoi(argv[2]) : 9);
+            time_row(&rows[i], &bench, argc > 3 ? atoi(argv[3]) : 9);
         else if (strcmp(task, "count") == 0)
             count_row(&rows[i], &bench);
         else

@@ -40,7 +40,7 @@ nice "$out/agree" 400000 1 > "$out/agree.txt"
 head -n 1 "$out/agree.txt" >&2
 
 echo "== nanoseconds, in turns, the least of each" >&2
-nice "$out/rows" time 200 > "$out/times.txt"
+nice "$out/rows" time bench/pages.txt 200 > "$out/times.txt"
 
 echo "== instructions by callgrind" >&2
 toggles=()
@@ -50,7 +50,7 @@ done
 # Of `rep stosb` callgrind counts every byte as an instruction, so memset is told to use plain stores.
 GLIBC_TUNABLES=glibc.cpu.x86_rep_stosb_threshold=1000000000 \
     nice valgrind --tool=callgrind "${toggles[@]}" --dump-before=row_done \
-    --callgrind-out-file="$out/profiles/profile" "$out/rows" count > "$out/callgrind.txt" 2>&1 \
+    --callgrind-out-file="$out/profiles/profile" "$out/rows" count bench/pages.txt > "$out/callgrind.txt" 2>&1 \
     || { cat "$out/callgrind.txt" >&2; exit 1; }
 "$out/rows" list > "$out/rows.txt"
 

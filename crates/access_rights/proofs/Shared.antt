@@ -1,6 +1,6 @@
 -- The access of each kind: its rules after 11 by the page's own limits, what it ends in where one is broken, and what a part of its own comes to.
 use Prim.Native.Nat.{ℕ, _-_, _<_, _^_}
-use mathlib.Core.Path.{_≡_, refl, sym, ap, ap₂, _∙_}
+use mathlib.Core.Path.{_≡_, refl, sym, ap, ap₂, subst, _∙_}
 use mathlib.Core.Bool.{Bool, true, false, cond}
 use mathlib.Core.List.{List}
 use native.Mathlib.Omega.{arith}
@@ -26,7 +26,7 @@ use Rattle.calls.specs.AnyTable.{Taken}
 use Rattle.calls.proofs.Access.{rulesThen, then-kept, access-refused}
 use Rattle.calls.proofs.TakenCalls.{state-of, answer-of}
 use Rattle.calls.proofs.Pages.{sdr1-set, early-set}
-use Rattle.table_access.specs.Part.{TableOf}
+use Rattle.groups.specs.Hash.{TableOf}
 use Rattle.table_access.specs.declared.Part.{Part}
 use Rattle.access_rights.specs.Rights.{RightsCall, asking, wouldEnd}
 use Rattle.access_rights.specs.Held.{Tells}
@@ -66,7 +66,7 @@ module _ (c : RightsCall) (page : isPage (length (c .registers)) ≡ true) (kind
           (all .3, all .1, all .2)
 
       pub set-fits : TableOf (sdr1Of (setWords (c .registers))) (length t)
-      set-fits = rw (sdr1-set (c .registers) page) (passed .1, passed .2)
+      set-fits = subst (λ (s : ℕ). TableOf s (length t)) (sym (sdr1-set (c .registers) page)) (record { shape = passed .1; right = passed .2 })
 
       module _ (bytes : (i : ℕ) → getD t i 0 < 2 ^ 8) (p : Part)
           (is : ByTable (maskOnes (sdr1Of (setWords (c .registers)))) t kind (c .address) (beforeSearch 8 15 (setWords (c .registers)) (c .mode) kind (c .address)) p) where

@@ -57,10 +57,13 @@ fn standing_at(registers: &[u8], mode: u32, address: u32, table: &[u8]) -> Stand
     let user = protection::user_mode(mode);
     let segment = register_pages::segment(registers, (address >> 28) as usize);
     let wanted = translation::wanted_of(user, segment, address);
+    let page = groups::locate(table.len(), wanted.vsid, wanted.index);
+    let primary = matches::in_primary(table, page);
+    let told = matches::in_secondary(table, page, primary);
     Standing {
         ibat: register_pages::covering_pair(registers, false, user, address),
         dbat: register_pages::covering_pair(registers, true, user, address),
-        found: table_access::search_in(table, wanted),
+        found: table_access::found_in(page, told),
     }
 }
 

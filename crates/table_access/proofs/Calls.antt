@@ -14,6 +14,7 @@ use Rattle.register_words.specs.Sdr1.{maskOnes}
 use Rattle.register_words.specs.Block.{blWidth}
 use Rattle.registers.specs.Set.{isPage, isLong, blockPairs, sdr1Of, registerWords, setWords}
 use Rattle.groups.specs.Page.{Page}
+use Rattle.groups.specs.Hash.{TableOf}
 use Rattle.tables.specs.Layout.{matchesOf}
 use Rattle.protection.specs.Access.{storing, relocated}
 use Rattle.translation.specs.Steps.{beforeSearch, outcomeOf, refusedAnswer, answerOf}
@@ -37,7 +38,7 @@ use Rattle.calls.proofs.AnyEntries.{by-matches}
 use Rattle.calls.proofs.OnBytes.{refused}
 use Rattle.calls.proofs.Pages.{toldBy, each-part, sdr1-set, early-set}
 use Rattle.cached_calls.specs.Cached.{cachedSearch, cachedPlace, missed, loadedBy, taken, takenPart, cachedDoes, cachedRefusal, onCached}
-use Rattle.table_access.specs.Part.{callOf, TableOf, partEarly, wholeTold, partTaken, leftAt, Comes, EndsAs}
+use Rattle.table_access.specs.Part.{callOf, partEarly, wholeTold, partTaken, leftAt, Comes, EndsAs}
 use Rattle.table_access.specs.declared.Access.{Access}
 use Rattle.table_access.proofs.Finds.{search-table, place-table}
 
@@ -183,7 +184,7 @@ module _ (registers : List ℕ) (asked : Access) (lent : List ℕ × List ℕ) (
   pub right-table : TableOf (sdr1Of words) (length (lent .0))
   right-table =
       let all = then-kept (blockPairs (isLong (length registers))) (blWidth (isLong (length registers))) (registerWords registers) (asked .mode) (asked .kind) (asked .length) (length (lent .0)) kept in
-      rw (sdr1-set registers page) (all .1, all .2)
+      subst (λ (s : ℕ). TableOf s (length (lent .0))) (sym (sdr1-set registers page)) (record { shape = all .1; right = all .2 })
 
   own-early : partEarly words asked ≡ ownEarly registers asked
   own-early =

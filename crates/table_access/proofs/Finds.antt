@@ -1,5 +1,5 @@
 -- What is found of a page is what the definition's search and place say, with a cache and without one.
-use Prim.Native.Nat.{ℕ, _+_, _*_, _≤_}
+use Prim.Native.Nat.{ℕ, _+_, _*_, _^_, _≤_}
 use mathlib.Core.Path.{_≡_, refl, sym, ap, ap₂, subst, _∙_}
 use mathlib.Core.Bool.{Bool, true, false, cond, true≢false}
 use mathlib.Core.List.{List, [], _∷_, List·Memᴰ, List·Memᴰ·head}
@@ -8,15 +8,16 @@ use native.Mathlib.Omega.{arith}
 use lib.Dec.{eqb}
 use lib.ListN.{length}
 use Rattle.words.specs.Bits.{bits}
-use Rattle.register_words.specs.Sdr1.{tableLength, maskOnes}
-use Rattle.groups.specs.Page.{Page}
-use Rattle.groups.specs.Hash.{groupNumber}
-use Rattle.matches.specs.Search.{summary, found, inSecondary, entryOf}
-use Rattle.matches.specs.declared.Summary.{Summary}
-use Rattle.matches.proofs.Summaries.{Summarised, summarised, summary-none, place-found, place-secondary, place-entry}
+use Rattle.register_words.specs.Sdr1.{tableLength, maskOnes, hashBits}
+use Rattle.groups.proofs.Hash.{group-lt, within-table}
+use Rattle.groups.specs.Page.{Page, InRange}
+use Rattle.groups.specs.Hash.{groupNumber, located, TableOf}
+use Rattle.groups.specs.Group.{groupOf}
+use Rattle.groups.specs.declared.Located.{Located}
+use Rattle.matches.specs.Search.{WantedWord, told, inPrimary, inBoth}
+use Rattle.matches.specs.declared.Told.{Told}
 use Rattle.tables.specs.Matches.{Match}
 use Rattle.tables.specs.Layout.{matchesOf}
-use Rattle.tables.proofs.Groups.{members-of}
 use Rattle.protection.specs.Access.{storing}
 use Rattle.translation.specs.Steps.{pageOutcome, afterSearch}
 use Rattle.translation.specs.Decision.{decisionOf}
@@ -31,8 +32,9 @@ use Rattle.cache.specs.Cache.{hit}
 use Rattle.calls.specs.OnBytes.{layout, usedBy, wantedPage, searched, searchIn, firstPlaceIn}
 use Rattle.calls.proofs.AnyEntries.{by-matches}
 use Rattle.cached_calls.specs.Cached.{cachedSearch, cachedPlace, missed}
-use Rattle.page_calls.proofs.located.AtPage.{inside}
-use Rattle.table_access.specs.Part.{TableOf, nothingFound, foundIn, foundBy, searchedOf}
+use Rattle.calls.proofs.OnBytes.{matches-by-groups}
+use Rattle.page_calls.proofs.Searched.{at-groups, pageFree, told-is}
+use Rattle.table_access.specs.Part.{SearchTold, nothingFound, foundIn, foundBy, searchedOf}
 use Rattle.table_access.specs.declared.Found.{Found}
 
 -- a page with a match: whether the others contradict it, its second word, its group and its number
@@ -61,28 +63,26 @@ module _ (kind : ℕ) (key : Bool) (f : Found) where
     pub outcome-at : f .differs ≡ false → afterSearch kind key (searchedOf f) ≡ pageOutcome kind key (f .second)
     outcome-at q = ap (afterSearch kind key) (among false q) ∙ after-at kind key (f .second)
 
--- ---- what a search noted
+-- ---- what the search told
 
-module _ (k : ℕ) (t : List ℕ) (wanted : Wanted) (s : Summary) (noted : s ≡ summary (matchesOf (layout k) t (wantedPage wanted))) where
-  pub noted-none : found s ≡ false → foundIn k t wanted ≡ nothingFound
-  unfolding foundIn
-  noted-none missing =
-      by-matches (matchesOf (layout k) t (wantedPage wanted)) (λ empty. rw empty)
-      (λ x xs e. absurd (true≢false (sym (place-found s x (ap (λ (r : Summary). r .place) (noted ∙ ap summary e) ∙ summarised x xs .place)) ∙ missing)))
-
-  pub noted-first : found s ≡ true → foundIn k t wanted ≡ matched k wanted (s .differs) (s .second) (inSecondary s) (entryOf s)
-  unfolding foundIn
-  noted-first there =
-      by-matches (matchesOf (layout k) t (wantedPage wanted)) (λ empty. absurd (true≢false (sym there ∙ ap found (noted ∙ ap summary empty) ∙ summary-none)))
-      (λ x xs e.
-      let own = members-of (layout k) t (wantedPage wanted) x (subst (List·Memᴰ x) (sym e) (List·Memᴰ·head refl)) in
-      let m : Summarised x xs s = subst (Summarised x xs) (sym (noted ∙ ap summary e)) (summarised x xs) in
-      rw e
-      (ap₂ (λ (d : Bool) (w : ℕ). matched k wanted d w (x .secondary) (x .entry)) (sym (m .differs)) (sym (m .second))
-      ∙ ap₂ (λ (b : Bool) (i : ℕ). matched k wanted (s .differs) (s .second) b i)
-      (sym (place-secondary s x (m .place) (own .in-range))) (sym (place-entry s x (m .place) (own .in-range)))))
+-- the groups of a page in range, located and searched
+pub search-told : (sdr1 : ℕ) (t : List ℕ) (wanted : Wanted) (l : Located) (primary both : Told) → TableOf sdr1 (length t) → InRange (wantedPage wanted)
+    → ((k : ℕ) → length t ≡ 65536 * 2 ^ k → l ≡ located k (wantedPage wanted))
+    → ((vsid api : ℕ) → WantedWord false vsid api (l .wanted) → primary ≡ inPrimary vsid api (groupOf t (l .primary)))
+    → ((vsid api : ℕ) (group : List ℕ) → WantedWord false vsid api (l .wanted) → primary ≡ inPrimary vsid api group → both ≡ inBoth vsid api group (groupOf t (l .secondary)))
+    → SearchTold sdr1 t wanted l both
+search-told sdr1 t wanted l primary both right fits locates one two =
+    let page = wantedPage wanted in
+    let at = at-groups sdr1 page t l right fits locates in
+    let free = pageFree sdr1 page t l at in
+    (right, at .own, (free, told-is sdr1 page t l at primary both one two ∙ ap (λ (ms : List Match). told ms free) (sym (matches-by-groups (maskOnes sdr1) t page))))
 
 -- ---- by the table, by a hit
+
+-- a page's groups lie in the table
+pub inside : (sdr1 : ℕ) (t : List ℕ) (wanted : Wanted) → TableOf sdr1 (length t) → (b : Bool) → 64 * groupNumber (10 + maskOnes sdr1) b (wantedPage wanted) + 64 ≤ length t
+unfolding hashBits
+inside sdr1 t wanted of b = rw (of .right) (within-table sdr1 (groupNumber (10 + maskOnes sdr1) b (wantedPage wanted)) (of .shape) (group-lt (10 + maskOnes sdr1) (wantedPage wanted) b))
 
 module _ (k : ℕ) (t : List ℕ) (wanted : Wanted) where
   pub in-none : matchesOf (layout k) t (wantedPage wanted) ≡ [] → foundIn k t wanted ≡ nothingFound
@@ -114,9 +114,9 @@ module _ (k : ℕ) (t : List ℕ) (wanted : Wanted) where
 
   in-inside : (sdr1 : ℕ) → TableOf sdr1 (length t) → k ≡ maskOnes sdr1 → 64 * foundIn k t wanted .group + 64 ≤ length t
   unfolding foundIn tableLength
-  in-inside sdr1 (shape, right) is =
-      by-matches (matchesOf (layout k) t (wantedPage wanted)) (λ e. rw e (omega arith))
-      (λ x xs e. rw (e, is) (inside sdr1 (wantedPage wanted) (length t) shape right (x .secondary)))
+  in-inside sdr1 of is =
+      let right = of .right in
+      by-matches (matchesOf (layout k) t (wantedPage wanted)) (λ e. rw e (omega arith)) (λ x xs e. rw (e, is) (inside sdr1 t wanted of (x .secondary)))
 
 module _ (k kind : ℕ) (t d : List ℕ) (wanted : Wanted) where
   -- a hit, or none
@@ -175,5 +175,5 @@ module _ (k kind : ℕ) (t d : List ℕ) (wanted : Wanted) where
   pub found-inside : (sdr1 : ℕ) → TableOf sdr1 (length t) → k ≡ maskOnes sdr1 → 64 * foundBy k kind t d wanted .group + 64 ≤ length t
   found-inside sdr1 of is =
       by-hit (64 * foundBy k kind t d wanted .group + 64 ≤ length t)
-      (λ first second h. rw (found-hit first second h, is) (inside sdr1 (wantedPage wanted) (length t) (of .0) (of .1) (eqb (bits 25 25 first) 1)))
+      (λ first second h. rw (found-hit first second h, is) (inside sdr1 t wanted of (eqb (bits 25 25 first) 1)))
       (λ n. rw (found-table n) (in-inside k t wanted sdr1 of is))

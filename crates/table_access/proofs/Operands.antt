@@ -19,7 +19,8 @@ use Rattle.calls.proofs.Access.{unmarked, unmarked-decided}
 use Rattle.calls.proofs.TwoMarks.{mark-good, second-kept}
 use Rattle.cached_calls.specs.Cached.{missed, loadedBy, taken}
 use Rattle.register_words.specs.Sdr1.{maskOnes}
-use Rattle.table_access.specs.Part.{TableOf, takenBy, partEarly, ownPart, partTold, partDecided, wholeTold, partTaken, leftAt, Comes, EndsAs}
+use Rattle.groups.specs.Hash.{TableOf}
+use Rattle.table_access.specs.Part.{takenBy, partEarly, ownPart, partTold, partDecided, wholeTold, partTaken, leftAt, Comes, EndsAs}
 use Rattle.table_access.specs.declared.Access.{Access}
 use Rattle.table_access.specs.declared.Part.{Part}
 use Rattle.table_access.proofs.Parts.{SameMatches, same-self, ByPart, by-steps}

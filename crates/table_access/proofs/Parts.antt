@@ -17,7 +17,7 @@ use Rattle.entry.proofs.Addresses.{api-lt}
 use Rattle.register_words.specs.Sdr1.{tableLength, maskOnes}
 use Rattle.register_words.proofs.Sdr1.{length-is}
 use Rattle.groups.specs.Page.{Page, InRange}
-use Rattle.groups.specs.Hash.{groupNumber}
+use Rattle.groups.specs.Hash.{groupNumber, TableOf}
 use Rattle.groups.specs.Group.{firstOf, putAt}
 use Rattle.groups.proofs.Stored.{words-fit}
 use Rattle.matches.specs.Search.{hOf}
@@ -42,7 +42,7 @@ use Rattle.calls.proofs.AnyEntries.{by-matches}
 use Rattle.calls.proofs.TableLaws.{Word, layout-laws}
 use Rattle.calls.proofs.TwoMarks.{mark-first}
 use Rattle.cached_calls.specs.Cached.{cachedSearch, cachedPlace, missed, loadedBy, taken}
-use Rattle.table_access.specs.Part.{TableOf, nothingFound, foundIn, foundBy, byOutcome, byFound, begun, partBy, takenBy}
+use Rattle.table_access.specs.Part.{nothingFound, foundIn, foundBy, byOutcome, byFound, begun, partBy, takenBy}
 use Rattle.table_access.specs.declared.Begun.the-variants.{Told, Wants}
 use Rattle.table_access.specs.declared.Found.{Found}
 use Rattle.table_access.specs.declared.Part.{Part}
@@ -68,7 +68,7 @@ module _ (kind address : ℕ) (find : Wanted → Found) where
 
 -- a table of right length, in which every element is a byte
 pub good-table : (sdr1 : ℕ) (t : List ℕ) → TableOf sdr1 (length t) → ((i : ℕ) → getD t i 0 < 2 ^ 8) → GoodTable (maskOnes sdr1) t
-good-table sdr1 t (shape, right) bytes = record { long = right ∙ length-is sdr1 shape; bytes = bytes }
+good-table sdr1 t of bytes = record { long = of .right ∙ length-is sdr1 (of .shape); bytes = bytes }
 
 -- the page that a part wants has the same matches in both tables
 unfoldable pub SameMatches : ℕ → Early → List ℕ → List ℕ → Type 0
@@ -152,7 +152,7 @@ module _ (sdr1 kind address : ℕ) (t d : List ℕ) (of : TableOf sdr1 (length t
   unfolding takenBy missed tableLength
   by-decided outcome =
       let is = outcome-decided kind (cachedSearch k kind t d) outcome in
-      let right = of .1 in
+      let right = of .right in
       record {
         answers = ap (answerOf kind address) (sym is);
         decides = ap (decisionOf _) (sym is);

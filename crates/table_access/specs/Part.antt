@@ -9,12 +9,14 @@ use lib.ListN.{length}
 use Rattle.numbers.specs.Numbers.{groupEntries}
 use Rattle.words.specs.Bits.{bits}
 use Rattle.entry.specs.Entry.{pageIndex, withMarks}
-use Rattle.register_words.specs.Sdr1.{sdr1Shape, tableLength, maskOnes}
+use Rattle.register_words.specs.Sdr1.{maskOnes}
 use Rattle.register_words.specs.Block.{blWidth}
 use Rattle.registers.specs.Set.{isPage, blockPairs, sdr1Of, setWords}
-use Rattle.groups.specs.Hash.{groupNumber}
+use Rattle.groups.specs.Hash.{groupNumber, located, TableOf}
 use Rattle.groups.specs.Group.{firstOf, putAt}
-use Rattle.matches.specs.Search.{contradict}
+use Rattle.groups.specs.declared.Located.{Located}
+use Rattle.matches.specs.Search.{contradict, told}
+use Rattle.matches.specs.declared.Told as matches
 use Rattle.tables.specs.Layout.{matchesOf}
 use Rattle.protection.specs.Access.{storing}
 use Rattle.translation.specs.Steps.{beforeSearch, afterSearch, outcomeOf, answerOf}
@@ -54,10 +56,6 @@ callOf registers access answer = record {
   answer = answer;
 }
 
--- so many bytes are the table of an SDR1
-abbrev pub TableOf : ℕ → ℕ → Type 0
-TableOf sdr1 lent = (sdr1Shape sdr1 ≡ true) × (lent ≡ tableLength sdr1)
-
 -- a register page and a table of the length that its SDR1 asks for
 abbrev pub PageAndTable : List ℕ → List ℕ → Type 0
 PageAndTable registers table = (isPage (length registers) ≡ true) × TableOf (sdr1Of (setWords registers)) (length table)
@@ -94,6 +92,12 @@ foundBy k kind t d wanted =
       group = groupNumber (10 + k) (eqb (bits 25 25 (words .0)) 1) (wantedPage wanted);
       entry = hitEntry;
     })
+
+-- in the table of an SDR1 the groups of a page were located, and the search of both told this
+abbrev pub SearchTold : ℕ → List ℕ → Wanted → Located → matches.Told → Type 0
+SearchTold sdr1 t wanted page both =
+    TableOf sdr1 (length t) × (page ≡ located (maskOnes sdr1) (wantedPage wanted))
+    × ((free : ℕ) × (both ≡ told (matchesOf (layout (maskOnes sdr1)) t (wantedPage wanted)) free))
 
 -- what step 4 makes of it
 abbrev pub searchedOf : Found → Searched

@@ -1,11 +1,10 @@
 // One access on a lent table, with a cache of translations or without one: the rules of its arguments in order, the parts of its operand, each by the
 // steps, the marks, the loads and the answer.
-use page_calls::located::locate;
 use translation::operand::OperandAnswer;
 ghost use mathlib.Core.Path.{_≡_};
 ghost use mathlib.Core.Bool.{Bool, true, false, not, _&&_};
 ghost use mathlib.Core.List.{List, [], _∷_, _++_};
-ghost use Prim.Native.Nat.{ℕ, _+_, _*_, _<_, _≤_, _^_};
+ghost use Prim.Native.Nat.{ℕ, _+_, _*_, _<_, _≤_};
 ghost use lib.Dec.{eqb, ltb};
 ghost use lib.ListN.{length};
 ghost use Rattle.numbers.specs.Numbers.{refusedTableLength, refusedArgument, refusedOperandLength, accessAnswerSize};
@@ -13,18 +12,21 @@ ghost use Rattle.registers.specs.Rules.{firstBroken};
 ghost use Rattle.register_words.specs.Sdr1.{tableLength, maskOnes};
 ghost use Rattle.register_words.specs.Block.{blWidth};
 ghost use Rattle.registers.specs.Set.{isPage, isLong, blockPairs, coveringPair, sdr1Of, registerRules, registerWords, setWords};
+ghost use Rattle.groups.specs.Page.{InRange};
+ghost use Rattle.groups.specs.Hash.{TableOf, SomeTable};
 ghost use Rattle.protection.specs.Access.{userMode, relocated, sideOf};
 ghost use Rattle.translation.specs.Steps.{blockOutcome, beforeSearch, answerOf};
 ghost use Rattle.translation.specs.Decision.{decisionOf};
 ghost use Rattle.translation.specs.Operand.{partStart, operandAnswer};
 ghost use Rattle.translation.specs.declared.Outcome.the-variants.{Real};
+ghost use Rattle.translation.specs.declared.Wanted.{Wanted};
 ghost use Rattle.cache.specs.Cache.{cacheSize};
 ghost use Rattle.calls.specs.Request.{access};
 ghost use Rattle.calls.specs.Rules.{operandInRange};
 ghost use Rattle.calls.specs.Answers.{accessAnswer};
-ghost use Rattle.calls.specs.OnBytes.{ended, onBytes};
+ghost use Rattle.calls.specs.OnBytes.{ended, wantedPage, onBytes};
 ghost use Rattle.cached_calls.specs.Cached.{onCached};
-ghost use Rattle.table_access.specs.Part.{callOf, TableOf, PageAndTable, CacheOrNone, nothingFound, foundIn, foundBy, withoutPage, byOutcome, byFound, begun, partBy, takenBy, partEarly, EndsAs};
+ghost use Rattle.table_access.specs.Part.{callOf, SearchTold, PageAndTable, CacheOrNone, nothingFound, foundIn, foundBy, withoutPage, byOutcome, byFound, begun, partBy, takenBy, partEarly, EndsAs};
 
 // What an access asks for.
 pub struct Access {
@@ -100,51 +102,46 @@ pub fn refusal(registers: &[u8], access: Access, lent: usize) -> u32
     numbers::DONE
 }
 
-// Step 4: what the search of a page's two groups finds in a table.
-pub fn search_in(table: &[u8], wanted: translation::Wanted) -> Found
-    requires { ⌜ ((sdr1 : ℕ) × TableOf sdr1 (length (now table))) × (wanted .vsid < 2 ^ 24) × (wanted .index < 2 ^ 16) ⌝ }
-    ensures { λ r. ⌜ ((sdr1 : ℕ) → TableOf sdr1 (length (now (table .entry))) → r ≡ foundIn (maskOnes sdr1) (now (table .entry)) wanted) ⌝ }
+// What the search of a page's two groups told of it: the first match.
+pub fn found_in(page: groups::Located, told: matches::Told) -> Found
+    requires { ⌜ ((sdr1 : ℕ) × ((t : List ℕ) × ((wanted : Wanted) × SearchTold sdr1 t wanted page told))) ⌝ }
+    ensures { λ r. ⌜ ((sdr1 : ℕ) (t : List ℕ) (wanted : Wanted) → SearchTold sdr1 t wanted page told → r ≡ foundIn (maskOnes sdr1) t wanted) ⌝ }
 {
-    let at = locate(table.len(), wanted.vsid, wanted.index);
-    let from = at.primary * numbers::GROUP_SIZE;
-    let to = from + numbers::GROUP_SIZE;
-    let next = at.secondary * numbers::GROUP_SIZE;
-    let end = next + numbers::GROUP_SIZE;
-    let place = matches::find(&table[from..to], &table[next..end], wanted.vsid, at.api);
-    let search = matches::search_at(table, at.primary, at.secondary, wanted.vsid, at.api, place);
-    if !search.found() {
+    if !told.any() {
         return Found::nothing();
     }
     Found {
         any: true,
-        differs: search.differs,
-        second: search.second,
-        group: at.group(search.in_secondary()) as u32,
-        entry: search.entry() as u32,
+        differs: told.differs(),
+        second: told.second,
+        group: page.group(told.in_secondary()) as u32,
+        entry: told.entry() as u32,
     }
 }
 
 // Step 4 with a cache: a hit is what the search finds. It shows the group that the loaded H names.
 fn cached_search(table: &[u8], cache: &[u8], kind: u32, wanted: translation::Wanted) -> Found
-    requires { ⌜ ((sdr1 : ℕ) × TableOf sdr1 (length (now table))) × (wanted .vsid < 2 ^ 24) × (wanted .index < 2 ^ 16) × CacheOrNone (now cache) ⌝ }
+    requires { ⌜ SomeTable (length (now table)) × InRange (wantedPage wanted) × CacheOrNone (now cache) ⌝ }
     ensures { λ r. ⌜ ((sdr1 : ℕ) → TableOf sdr1 (length (now (table .entry)))
         → r ≡ foundBy (maskOnes sdr1) kind (now (table .entry)) (now (cache .entry)) wanted) ⌝ }
 {
+    let page = groups::locate(table.len(), wanted.vsid, wanted.index);
     if cache.len() == cache::SIZE {
         let store = protection::is_store(kind);
         let hit = cache::find(cache, store, wanted.vsid, wanted.index);
         if hit.found {
-            let at = locate(table.len(), wanted.vsid, wanted.index);
             return Found {
                 any: true,
                 differs: false,
                 second: hit.second,
-                group: at.group(entry::is_secondary(hit.first)) as u32,
+                group: page.group(entry::is_secondary(hit.first)) as u32,
                 entry: NO_ENTRY,
             };
         }
     }
-    search_in(table, wanted)
+    let primary = matches::in_primary(table, page);
+    let told = matches::in_secondary(table, page, primary);
+    found_in(page, told)
 }
 
 // A part that no page decides.

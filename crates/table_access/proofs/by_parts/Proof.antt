@@ -10,6 +10,7 @@ use native.Mathlib.Omega.{arith}
 use lib.Dec.{lit<}
 use lib.ListN.{length}
 use Rattle.register_words.specs.Sdr1.{maskOnes}
+use Rattle.groups.specs.Hash.{TableOf}
 use Rattle.registers.specs.Set.{sdr1Of, setWords}
 use Rattle.translation.specs.Steps.{beforeSearch}
 use Rattle.translation.specs.Operand.{firstBytes, overEdge, partStart, stopped, within, acrossEdge}
@@ -19,7 +20,7 @@ use Rattle.translation.specs.declared.operand.OperandAnswer.{OperandAnswer}
 use Rattle.translation.specs.declared.Early.{Early}
 use Rattle.translation.proofs.Parts.{start-first, start-second}
 use Rattle.calls.specs.Represents.{GoodTable}
-use Rattle.table_access.specs.Part.{TableOf, CacheOrNone, foundBy, partBy, takenBy, partEarly, ownPart, Comes}
+use Rattle.table_access.specs.Part.{CacheOrNone, foundBy, partBy, takenBy, partEarly, ownPart, Comes}
 use Rattle.table_access.specs.declared.Access.{Access}
 use Rattle.table_access.specs.declared.Found.{Found}
 use Rattle.table_access.specs.declared.Part.{Part}
@@ -78,7 +79,7 @@ loop-holds c =
 
 -- the lengths are those of what was lent
 table-right : (c : tie.At-loop Inv-loop μ-loop) → TableOf (sdr1 c) (length (c .loop .table))
-table-right c = (of c .0, ap (λ (t : List ℕ). length t) (c .loop .inv .0) ∙ of c .1)
+table-right c = record { shape = of c .shape; right = ap (λ (t : List ℕ). length t) (c .loop .inv .0) ∙ of c .right }
 
 cache-right : (c : tie.At-loop Inv-loop μ-loop) → CacheOrNone (c .loop .cache)
 cache-right c = rw (c .loop .inv .1) (begin c .pre .1)

@@ -10,7 +10,7 @@ use Rattle.translation.specs.Steps.{beforeSearch}
 use Rattle.translation.specs.declared.Early.{Early}
 use Rattle.translation.specs.declared.Early.the-variants.{Decided, Search}
 use Rattle.translation.specs.declared.Wanted.{Wanted}
-use Rattle.translation.proofs.Steps.{wanted-in-range}
+use Rattle.calls.proofs.Access.{part-valid}
 use Rattle.table_access.specs.Part.{byFound, foundBy, begun, partBy}
 use Rattle.table_access.specs.declared.Begun.{Begun}
 use Rattle.table_access.specs.declared.Begun.the-variants.{Told, Wants}
@@ -61,8 +61,7 @@ cached-search-requires c κs =
     let a = start .args in
     let wanted = known .wanted .given .0 .0 in
     let e = begun-wants (a .kind) (a .address) (early start) wanted (sym (at-before .before-search .ensures) ∙ known .wanted .given .1) in
-    let range = wanted-in-range 8 15 (setWords (a .registers .now)) (a .mode) (a .kind) (a .address) wanted e in
-    ((sdr1Of (setWords (a .registers .now)), start .pre .0 .1), range .0, range .1, start .pre .1)
+    ((sdr1Of (setWords (a .registers .now)), start .pre .0 .1), part-valid 8 15 (setWords (a .registers .now)) (a .mode) (a .kind) (a .address) wanted e, start .pre .1)
 
 after-search-requires : tie.Need-after-search-requires
 after-search-requires c κs = search needs

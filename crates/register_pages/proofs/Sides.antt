@@ -145,10 +145,11 @@ module _ (page : List ℕ) where
         pub lent-rises : seen .falls ≡ 0 → shapeOf (eqb s 1) ≡ true → apartOf (eqb s 1) ≡ true
         lent-rises none shape = sym (lent-apart shape) ∙ told .rises none long (eqb s 1) (lent-shape ∙ shape)
 
-    -- the tests of the first n sides; those of sharing count only where each block has its shape
+    -- the blocks of the first n sides have their shape
     abbrev shapes : ℕ → Bool
     shapes n = everyBelow n (λ s. shapeOf (eqb s 1))
 
+    -- what the tests of the first n sides told; those of sharing count only where each block has its shape
     pub record SidesSeen (n : ℕ) (good apart : Bool) : Type 0 where
       pub shape : good ≡ everyBelow n (λ s. shapeOf (eqb s 1))
       pub free : everyBelow n (λ s. shapeOf (eqb s 1)) ≡ true → apart ≡ everyBelow n (λ s. apartOf (eqb s 1))

@@ -26,9 +26,6 @@ add-further c = search needs
 holds-requires : tie.Need-holds-requires
 holds-requires c κs = let start = c .before .before in (omega (arith, set-lt (start .args .index)), start .pre .1)
 
-holds-requires-2 : tie.Need-holds-requires-2
-holds-requires-2 c κs = let start = c .before .before .before .before in (omega (arith, set-lt (start .args .index)), start .pre .1)
-
 -- what each test said of the page
 module _ (c : tie.After-holds) where
   abbrev begin : tie.Start
@@ -39,6 +36,9 @@ module _ (c : tie.After-holds) where
 
   held-0 : c .holds .result ≡ holds (begin .args .cache .now) page false
   held-0 = c .holds .ensures false (c .before .set-start .ensures ∙ sym (place-0 _))
+
+holds-requires-2 : tie.Need-holds-requires-2
+holds-requires-2 c κs = let start = begin (c .before) in (omega (arith, set-lt (start .args .index)), start .pre .1)
 
 held-1 : (c : tie.After-holds2) → c .holds2 .result ≡ holds (begin (c .before .before) .args .cache .now) (page (c .before .before)) true
 held-1 c =
@@ -86,13 +86,14 @@ read-word-requires-2 c κs = omega (arith, spot-le (c .before .before .before))
 
 returns-2 : tie.Need-returns-2
 returns-2 c =
-    let joined = c .before .before .before .before in
+    let at-read = c .before .before in
+    let joined = at-read .before .before in
     let a = begin (joined .before) .args in
     let s = a .cache .now in
     let (place, at, hits) = spot joined in
     let first : c .read-word2 .result ≡ firstIn s (a .index) place = c .read-word2 .ensures ∙ ap (wordAt s) at in
-    let second : c .before .before .read-word .result ≡ secondIn s (a .index) place =
-    c .before .before .read-word .ensures ∙ ap (λ (n : ℕ). wordAt s (n + 4)) at in
+    let second : at-read .read-word .result ≡ secondIn s (a .index) place =
+    at-read .read-word .ensures ∙ ap (λ (n : ℕ). wordAt s (n + 4)) at in
     let set : c .before .is-changed .result ≡ changed (secondIn s (a .index) place) = c .before .is-changed .ensures ∙ ap changed second in
     rw (first, second, set) (sym (hits (a .storing) ∙ met-found (a .storing) s (a .index) place))
 

@@ -45,7 +45,7 @@ add-read-word : tie.Need-add-read-word
 add-read-word c = search needs
 
 read-word-requires : tie.Need-read-word-requires
-read-word-requires c κs = omega (arith, set-lt (c .before .before .before .before .before .args .index))
+read-word-requires c κs = omega (arith, set-lt (begin (c .before .before .before) .args .index))
 
 add-read-word-2 : tie.Need-add-read-word-2
 add-read-word-2 c = search needs
@@ -54,7 +54,7 @@ add-read-word-3 : tie.Need-add-read-word-3
 add-read-word-3 c = search needs
 
 read-word-requires-2 : tie.Need-read-word-requires-2
-read-word-requires-2 c κs = omega (arith, set-lt (c .before .before .before .before .before .before .args .index))
+read-word-requires-2 c κs = let tests = c .before in omega (arith, set-lt (begin (tests .before .before .before) .args .index))
 
 returns-3 : tie.Need-returns-3
 unfolding olderPlace

@@ -29,9 +29,10 @@ same-length c = search needs
 
 returns : tie.Need-returns
 returns c =
-    let at-start = c .before .before .before .before in
+    let cleared = c .before .before in
+    let at-start = cleared .before .before in
     let a = at-start .before .before .args in
-    zeroed-part (a .cache .now) _ (a .index) (at-start .set-start .result) (at-start .before .before .pre) (at-start .set-start .ensures) (c .before .before .clear .ensures)
+    zeroed-part (a .cache .now) _ (a .index) (at-start .set-start .result) (at-start .before .before .pre) (at-start .set-start .ensures) (cleared .clear .ensures)
 
 pub zero-set-spec : {M : Type 1} → statement M
 zero-set-spec =

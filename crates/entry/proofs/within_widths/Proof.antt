@@ -53,7 +53,9 @@ module _ (f : Fields) where
 
 returns : tie.Need-returns
 returns c =
-    let f = c .before .before .before .before .before .before .before .before .args .f in
+    let fifth = c .before .before .before in
+    let second = fifth .before .before .before in
+    let f = second .before .before .args .f in
     same-test _ (withinWidths f) (λ e. widths f (tests-within f e)) (λ e. within-tests f (within f e))
 
 pub within-widths-spec : {M : Type 1} → statement M

@@ -41,11 +41,13 @@ loop-less c = search needs
 loop-again : tie.Need-loop-again Inv-loop μ-loop
 unfolding pairsOff
 loop-again c =
-    let l = c .before .before .before .loop in
-    let pairs = c .before .before .before .before .args .pairs .now in
+    let in-loop = c .before .before in
+    let l = in-loop .before .loop in
+    let start = in-loop .before .before in
+    let pairs = start .args .pairs .now in
     let (upto, whole, before) = l .inv in
     let here : off (wordAt pairs (8 * (l .at / 8))) ≡ true = ap (λ (n : ℕ). off (wordAt pairs n)) (at-pair (l .at) whole) ∙ off-byte pairs (l .at) (c .if1 .left) in
-    (omega (arith, c .before .before .loop-test .taken, c .before .before .before .before .pre), omega arith, passed-more (λ i. off (upperAt pairs i)) (l .at) whole before here)
+    (omega (arith, in-loop .loop-test .taken, start .pre), omega arith, passed-more (λ i. off (upperAt pairs i)) (l .at) whole before here)
 
 returns-2 : tie.Need-returns-2 Inv-loop μ-loop
 returns-2 c =

@@ -43,16 +43,19 @@ part-any-on-end-2 c = search needs
 any-on-requires-2 : tie.Need-any-on-requires-2
 any-on-requires-2 c κs = search needs
 
+abbrev begin : tie.After-any-on → tie.Start
+begin c = c .before .before .before
+
 -- the first eight pairs are off
-front : (c : tie.Else1) (i : ℕ) → i < 8 → off (wordAt (c .before .before .before .before .args .page .now) (68 + 8 * i)) ≡ true
+front : (c : tie.Else1) (i : ℕ) → i < 8 → off (wordAt (begin (c .before) .args .page .now) (68 + 8 * i)) ≡ true
 front c i l =
-    let start = c .before .before .before .before in
+    let start = begin (c .before) in
     part-off (start .args .page .now) 68 8 i (omega (arith, page-least (length (start .args .page .now)) (start .pre))) (c .before .any-on .ensures (c .if1 .left)) l
 
 returns-2 : tie.Need-returns-2
 returns-2 c = λ e.
     let else1 = c .before .before .before in
-    let page = else1 .before .before .before .before .args .page .now in
+    let page = begin (else1 .before) .args .page .now in
     let size : length page ≡ 196 = c .before .before .if2 .taken in
     let all : 2 * blockPairs (isLong (length page)) ≡ 16 = ap (λ (t : Bool). 2 * blockPairs t) (eq-eqb (length page) 196 size) in
     off-kept page (λ i l. by-test (ltb i 8) (λ t. front else1 i (ltb-true i 8 t))
@@ -64,7 +67,7 @@ returns-2 c = λ e.
 returns-3 : tie.Need-returns-3
 returns-3 c = λ e.
     let else1 = c .before in
-    let page = else1 .before .before .before .before .args .page .now in
+    let page = begin (else1 .before) .args .page .now in
     let all : 2 * blockPairs (isLong (length page)) ≡ 8 = ap (λ (t : Bool). 2 * blockPairs t) (ne-eqb (length page) 196 (c .if2 .left)) in
     off-kept page (λ i l. front else1 i (omega arith))
 

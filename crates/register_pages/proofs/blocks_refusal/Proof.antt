@@ -50,13 +50,16 @@ loop-holds c =
       λ right. sides-none (start .args .page .now) right,
     )
 
+abbrev started : tie.At-loop Inv-loop μ-loop → tie.Start Inv-loop μ-loop
+started c = c .before .before .before
+
 -- the bytes of the side at hand lie on the page
 module _ (c : tie.In-loop Inv-loop μ-loop) where
   abbrev at-loop : tie.At-loop Inv-loop μ-loop
   at-loop = c .before
 
   abbrev begin : tie.Start Inv-loop μ-loop
-  begin = at-loop .before .before .before
+  begin = started at-loop
 
   abbrev page : List ℕ
   page = begin .args .page .now
@@ -115,11 +118,18 @@ sub-side-apart c = search needs
 part-side-apart-start : tie.Need-part-side-apart-start Inv-loop μ-loop
 part-side-apart-start c = search needs
 
+-- what the pass over the side told, and the side that it passed
+abbrev told-at : tie.After-struct-known2 Inv-loop μ-loop → tie.After-side-of Inv-loop μ-loop
+told-at c = c .before .before
+
+abbrev own-side : tie.After-struct-known2 Inv-loop μ-loop → tie.In-loop Inv-loop μ-loop
+own-side c = told-at c .before .before
+
 part-side-apart-end : tie.Need-part-side-apart-end Inv-loop μ-loop
-part-side-apart-end c = omega (arith, most (c .before .before .before .before .before))
+part-side-apart-end c = omega (arith, most (own-side (c .before)))
 
 side-apart-requires : tie.Need-side-apart-requires Inv-loop μ-loop
-side-apart-requires c κs = let i = c .before .before .before .before .before .before in omega (arith, own-length i)
+side-apart-requires c κs = omega (arith, own-length (own-side (c .before .before)))
 
 add-side : tie.Need-add-side Inv-loop μ-loop
 add-side c = search needs
@@ -129,8 +139,8 @@ loop-less c = search needs
 
 loop-again : tie.Need-loop-again Inv-loop μ-loop
 loop-again c =
-    let i = c .before .before .before .before .before in
-    let seen = c .before .before .before .side-of in
+    let i = own-side (c .before) in
+    let seen = told-at (c .before) .side-of in
     let l = at-loop i .loop in
     let s = l .side in
     let below = i .loop-test .taken in
@@ -153,10 +163,10 @@ loop-again c =
 
 -- both sides were passed
 both-sides : (c : tie.After-loop Inv-loop μ-loop) →
-    let start = c .before .before .before .before in
+    let start = started (c .before) in
     SidesSeen (start .args .page .now) (start .pre) 2 (c .before .loop .good) (c .before .loop .apart)
 both-sides c =
-    let start = c .before .before .before .before in
+    let start = started (c .before) in
     let l = c .before .loop in
     let two : l .side ≡ 2 = let upto = l .inv .0 in omega (arith, c .loop-test .left) in
     subst (λ (n : ℕ). SidesSeen (start .args .page .now) (start .pre) n (l .good) (l .apart)) two (l .inv .4 (start .pre))

@@ -21,19 +21,22 @@ read-word-requires c κs = omega (arith, page-least (length (c .before .args .wh
 sdr1-shape-requires : tie.Need-sdr1-shape-requires
 sdr1-shape-requires c κs = search needs
 
+abbrev begin : tie.After-sdr1-shape → tie.Start
+begin c = c .before .before .before
+
 -- what the test of SDR1 told
-sdr1-told : (c : tie.After-sdr1-shape) → c .sdr1-shape .result ≡ sdr1Shape (wordAt (c .before .before .before .args .whole .now) 0)
+sdr1-told : (c : tie.After-sdr1-shape) → c .sdr1-shape .result ≡ sdr1Shape (wordAt (begin c .args .whole .now) 0)
 sdr1-told c = c .sdr1-shape .ensures ∙ ap sdr1Shape (c .before .read-word .ensures)
 
-sdr1-kept : (c : tie.Else1) → sdr1Shape (wordAt (c .before .before .before .before .args .whole .now) 0) ≡ true
+sdr1-kept : (c : tie.Else1) → sdr1Shape (wordAt (begin (c .before) .args .whole .now) 0) ≡ true
 sdr1-kept c = sym (sdr1-told (c .before)) ∙ not-false _ (c .if1 .left)
 
 -- past the blocks none of their rules is broken
-none-broken : (c : tie.Joined2) → let page = c .before .before .before .before .before .before .args .whole .now in blocksRefusal (isLong (length page)) (registerWords page) ≡ 0
+none-broken : (c : tie.Joined2) → let page = begin (c .before .before .before) .args .whole .now in blocksRefusal (isLong (length page)) (registerWords page) ≡ 0
 none-broken c = ⊎-elim (λ w. sym (w .1 .ensures) ∙ w .2 .left) (λ w. c .before .blocks-on .ensures (w .left)) (c .if2 .came)
 
 returns : tie.Need-returns
-returns c = sdr1-broken (c .before .before .before .before .args .whole .now) (sym (sdr1-told (c .before)) ∙ not-true _ (c .if1 .taken))
+returns c = sdr1-broken (begin (c .before) .args .whole .now) (sym (sdr1-told (c .before)) ∙ not-true _ (c .if1 .taken))
 
 blocks-on-requires : tie.Need-blocks-on-requires
 blocks-on-requires c κs = search needs
@@ -44,8 +47,8 @@ blocks-refusal-requires c κs = search needs
 returns-2 : tie.Need-returns-2
 returns-2 c =
     let refusal = c .before .blocks-refusal .ensures in
-    let else1 = c .before .before .before .before in
-    refusal ∙ blocks-broken _ (sdr1-kept else1) (λ none. c .if3 .taken (refusal ∙ none))
+    let on = c .before .before .before in
+    refusal ∙ blocks-broken _ (sdr1-kept (on .before)) (λ none. c .if3 .taken (refusal ∙ none))
 
 segments-good-requires : tie.Need-segments-good-requires
 segments-good-requires c κs = search needs

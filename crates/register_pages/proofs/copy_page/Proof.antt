@@ -28,8 +28,11 @@ sub-copy-2 c = search needs
 part-copy-start-2 : tie.Need-part-copy-start-2
 part-copy-start-2 c = search needs
 
+abbrev start-of : tie.After-copy-arg → tie.Start
+start-of c = c .before .before .before
+
 part-copy-end-2 : tie.Need-part-copy-end-2
-part-copy-end-2 c = omega (arith, page-least (c .before .before .before .args .size) (c .before .before .before .pre .0), c .before .before .before .pre .2)
+part-copy-end-2 c = let start = start-of c in omega (arith, page-least (start .args .size) (start .pre .0), start .pre .2)
 
 copy-requires : tie.Need-copy-requires
 copy-requires c κs = search needs
@@ -43,7 +46,7 @@ part-copy-start-3 c = search needs
 part-copy-end-3 : tie.Need-part-copy-end-3
 part-copy-end-3 c =
     let at-first = c .before .before in
-    let start = at-first .before .before .before .before .before in
+    let start = start-of (at-first .before .before) in
     let to = start .args .to .now in
     let from = start .args .from .now in
     let least = page-least (start .args .size) (start .pre .0) in
@@ -56,9 +59,13 @@ sub-copy-4 c = search needs
 part-copy-start-4 : tie.Need-part-copy-start-4
 part-copy-start-4 c = search needs
 
+-- where the first part was copied, from where the second is lent
+abbrev first-of : tie.After-copy-arg3 → tie.After-copy
+first-of c = c .before .before .before
+
 part-copy-end-4 : tie.Need-part-copy-end-4
 part-copy-end-4 c =
-    let start = c .before .before .before .before .before .before .before .before in
+    let start = start-of (first-of c .before .before) in
     omega (arith, page-least (start .args .size) (start .pre .0), start .pre .2)
 
 copy-requires-2 : tie.Need-copy-requires-2
@@ -94,10 +101,10 @@ module _ (c : tie.After-slice-known3) where
   at-second = c .before .before
 
   abbrev at-first : tie.After-copy
-  at-first = at-second .before .before .before .before .before
+  at-first = first-of (at-second .before .before)
 
   abbrev begin : tie.Start
-  begin = at-first .before .before .before .before .before
+  begin = start-of (at-first .before .before)
 
   abbrev to : List ℕ
   to = begin .args .to .now
@@ -115,10 +122,12 @@ module _ (c : tie.After-slice-known3) where
 
 returns : tie.Need-returns
 returns c =
-    let known = c .before .before .before .before .before .before in
-    ap₂ (putMid 132 64) (two-parts known) (c .before .before .copy3 .ensures)
+    let at-third = c .before .before in
+    let long = at-third .before .before .before in
+    let known = long .before in
+    ap₂ (putMid 132 64) (two-parts known) (at-third .copy3 .ensures)
     ∙ copied-more (to known) (from known) 132 64 (omega (arith, least known, begin known .pre .2))
-    ∙ ap (λ (n : ℕ). take n (from known) ++ drop n (to known)) (sym (c .before .before .before .before .before .if1 .taken))
+    ∙ ap (λ (n : ℕ). take n (from known) ++ drop n (to known)) (sym (long .if1 .taken))
 
 same-length-2 : tie.Need-same-length-2
 same-length-2 c = search needs

@@ -18,16 +18,18 @@ copy-page-requires c κs = let start = c .before .before in (start .pre, page-mo
 
 returns : tie.Need-returns
 returns c =
-    let start = c .before .before .before .before in
+    let copied = c .before in
+    let known = copied .before .before in
+    let start = known .before in
     let page = start .args .page .now in
     let size = length page in
     let zeros : List ℕ = replicate 196 0 in
-    let is : c .before .copy-page .last .0 ≡ page ++ drop size zeros = c .before .copy-page .ensures ∙ ap (λ (l : List ℕ). l ++ drop size zeros) (take-length page) in
+    let is : copied .copy-page .last .0 ≡ page ++ drop size zeros = copied .copy-page .ensures ∙ ap (λ (l : List ℕ). l ++ drop size zeros) (take-length page) in
     let most = page-most size (start .pre) in (
       record {
         page = start .pre;
         room = ap length is ∙ length-append page (drop size zeros) ∙ omega (arith, length-drop size zeros);
-        bytes = rw is (bytes-append page (drop size zeros) (λ i. c .before .before .before .shared-slice-known .given i .fits) (bytes-drop size zeros (bytes-zeros 196)));
+        bytes = rw is (bytes-append page (drop size zeros) (λ i. known .shared-slice-known .given i .fits) (bytes-drop size zeros (bytes-zeros 196)));
       },
       ap (take size) is ∙ take-at page (drop size zeros) size refl,
     )

@@ -29,10 +29,13 @@ mul-byte c = search needs
 slice-aggregate-read-word : tie.Need-slice-aggregate-read-word
 slice-aggregate-read-word c = search needs
 
+abbrev start-of : tie.After-read-set → tie.Start
+start-of c = c .before .before .before
+
 -- what the method answered is the definition's answer for the page
 module _ (c : tie.After-with-word) where
   abbrev begin : tie.Start
-  begin = c .before .before .before .before
+  begin = start-of (c .before)
 
   abbrev page : List ℕ
   page = begin .args .page .now
@@ -80,11 +83,15 @@ module _ (c : tie.After-with-word) where
         ∙ ap (λ (s : List ℕ). wordAt s (4 * number)) new-is
         ∙ word-same page (4 * number) word fits (begin .fits .word .fits)
 
+-- the word was taken
+abbrev taken : tie.After-new2 → tie.Then1
+taken c = c .before .before .before
+
 read-word-requires : tie.Need-read-word-requires
-read-word-requires c κs = let t = c .before .before .before in omega (arith, new-fits (t .before) (t .if1 .taken))
+read-word-requires c κs = let t = taken c in omega (arith, new-fits (t .before) (t .if1 .taken))
 
 write-word-requires : tie.Need-write-word-requires
-write-word-requires c κs = let t = c .before .before .before .before in fits (t .before) (t .if1 .taken)
+write-word-requires c κs = let t = taken (c .before) in fits (t .before) (t .if1 .taken)
 
 same-length : tie.Need-same-length
 same-length c = search needs
@@ -93,7 +100,7 @@ returns : tie.Need-returns
 unfolding pageReplaced
 returns c =
     let at-write = c .before .before in
-    let t = at-write .before .before .before .before .before in
+    let t = taken (at-write .before .before) in
     let k = t .before in
     rw (← result-is k, eq-eqb _ _ (t .if1 .taken))
     (ap (λ (b : List ℕ). (k .with-word .result .result, b))

@@ -73,21 +73,6 @@ fall-one false = lit≤ tt
 no-fall : (pair end : ℕ) → boolByte (leb pair end) ≡ 0 → end < pair
 no-fall pair end z = by-test (leb pair end) (λ e. absurd (let one : _≡_ {A = ℕ} 1 0 = (rw e at z) in omega arith)) (λ e. leb-false pair end e)
 
-add-falls : tie.Need-add-falls Inv-loop2 μ-loop2 Inv-loop μ-loop
-add-falls c =
-    let l2 = c .before .before .before .before .before .before .loop2 in
-    let start = c .before .before .before .before .before .before .before .before .before .before in
-    record { fits = omega (arith, fall-one (leb (c .before .before .read-pair .result) (l2 .end)), l2 .inv .1 .few, start .pre .1) }
-
-end-of-requires : tie.Need-end-of-requires Inv-loop2 μ-loop2 Inv-loop μ-loop
-end-of-requires c κs = search needs
-
-add-i : tie.Need-add-i Inv-loop2 μ-loop2 Inv-loop μ-loop
-add-i c = search needs
-
-loop2-less : tie.Need-loop2-less Inv-loop2 μ-loop2 Inv-loop μ-loop
-loop2-less c = search needs
-
 -- what was passed, and the pair at hand
 module _ (c : tie.After-shared-slice-known2 Inv-loop2 μ-loop2 Inv-loop μ-loop) where
   abbrev at-loop2 : tie.At-loop2 Inv-loop2 μ-loop2 Inv-loop μ-loop
@@ -126,6 +111,22 @@ module _ (c : tie.After-shared-slice-known2 Inv-loop2 μ-loop2 Inv-loop μ-loop)
       is upper-lt lower-lt (fall-one (leb pair (l2 .end))) (no-fall pair (l2 .end))
       (λ long side l s. own long side l s (ap off high ∙ on) ∙ ap₂ (blockShape (blWidth long) side) high low) in
       subst (SeenAt (n + 1) (bitOr (l2 .any) asked) (l2 .falls + boolByte (leb pair (l2 .end)))) (sym (end-is ∙ ap endOf high)) seen
+
+add-falls : tie.Need-add-falls Inv-loop2 μ-loop2 Inv-loop μ-loop
+add-falls c =
+    let at-read = c .before .before in
+    let b = at-read .before .before in
+    let l2 = at-loop2 b .loop2 in
+    record { fits = omega (arith, fall-one (leb (at-read .read-pair .result) (l2 .end)), l2 .inv .1 .few, begin b .pre .1) }
+
+end-of-requires : tie.Need-end-of-requires Inv-loop2 μ-loop2 Inv-loop μ-loop
+end-of-requires c κs = search needs
+
+add-i : tie.Need-add-i Inv-loop2 μ-loop2 Inv-loop μ-loop
+add-i c = search needs
+
+loop2-less : tie.Need-loop2-less Inv-loop2 μ-loop2 Inv-loop μ-loop
+loop2-less c = search needs
 
 loop2-again : tie.Need-loop2-again Inv-loop2 μ-loop2 Inv-loop μ-loop
 loop2-again c =

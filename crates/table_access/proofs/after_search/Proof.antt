@@ -118,12 +118,14 @@ page-allows-requires c κs = search needs
 -- what the code asks of PP is the test of step 6
 allowed : (c : tie.After-page-allows) →
     let else3 = c .before .before .before in
-    let a = begin (else3 .before .before .before .before) .args in
+    let at-wimg = else3 .before .before .before in
+    let a = begin (at-wimg .before) .args in
     pageAllows (a .key) (ppOf (a .found .second)) (a .kind) ≡ c .page-allows .result
 allowed c =
     let at-pp = c .before in
     let else3 = at-pp .before .before in
-    let a = begin (else3 .before .before .before .before) .args in
+    let at-wimg = else3 .before .before .before in
+    let a = begin (at-wimg .before) .args in
     sym (c .page-allows .ensures ∙ ap (λ (pp : ℕ). pageAllows (a .key) pp (a .kind)) (at-pp .pp-of .ensures))
 
 fault-answer-requires-3 : tie.Need-fault-answer-requires-3

@@ -30,6 +30,9 @@ lower-requires c κs = search needs
 abbrev begin : tie.After-side-of → tie.Start
 begin c = c .before .before
 
+abbrev asked : tie.After-block-pp → tie.Start
+asked c = begin (c .before .before .before)
+
 -- the words that were read are those of the pair
 upper-is : (c : tie.After-upper) → let a = begin (c .before) .args in c .upper .result ≡ upperOf 8 (setWords (a .registers .now)) (sideOf (a .kind)) (a .pair)
 upper-is c = let a = begin (c .before) .args in c .upper .ensures ∙ ap (λ (side : Bool). upperOf 8 (setWords (a .registers .now)) side (a .pair)) (c .before .side-of .ensures)
@@ -41,11 +44,11 @@ lower-is c =
 
 -- what the code asks of PP is the test of step 2
 allowed : (c : tie.After-block-allows) →
-    let a = begin (c .before .before .before .before) .args in
+    let a = asked (c .before) .args in
     blockAllows (blockPP (lowerOf 8 (setWords (a .registers .now)) (sideOf (a .kind)) (a .pair))) (a .kind) ≡ c .block-allows .result
 allowed c =
     let at-pp = c .before in
-    let kind = begin (at-pp .before .before .before) .args .kind in
+    let kind = asked at-pp .args .kind in
     sym (c .block-allows .ensures ∙ ap (λ (pp : ℕ). blockAllows pp kind) (at-pp .block-pp .ensures ∙ ap blockPP (lower-is (at-pp .before))))
 
 block-pp-requires : tie.Need-block-pp-requires
@@ -60,7 +63,7 @@ fault-answer-requires c κs = search needs
 cast-without-page : tie.Need-cast-without-page
 cast-without-page c =
     let at-allows = c .before .before in
-    let start = begin (at-allows .before .before .before .before) in
+    let start = asked (at-allows .before) in
     omega (arith, pairs-most (isLong (length (start .args .registers .now))))
 
 without-page-requires : tie.Need-without-page-requires
@@ -70,7 +73,7 @@ returns : tie.Need-returns
 unfolding answerOf decisionOf
 returns c =
     let then1 = c .before .before in
-    let a = begin (then1 .before .before .before .before .before) .args in
+    let a = asked (then1 .before .before) .args in
     rw (block-fault 8 15 (setWords (a .registers .now)) (a .kind) (a .address) (a .pair) (allowed (then1 .before) ∙ not-true _ (then1 .if1 .taken)))
     (c .without-page .ensures ∙ ap (withoutPage 1 (a .pair)) (c .before .fault-answer .ensures))
 
@@ -85,8 +88,8 @@ done-answer-requires c κs = search needs
 
 cast-without-page-2 : tie.Need-cast-without-page-2
 cast-without-page-2 c =
-    let at-allows = c .before .before .before .before in
-    let start = begin (at-allows .before .before .before .before) in
+    let else1 = c .before .before .before in
+    let start = asked (else1 .before .before) in
     omega (arith, pairs-most (isLong (length (start .args .registers .now))))
 
 without-page-requires-2 : tie.Need-without-page-requires-2

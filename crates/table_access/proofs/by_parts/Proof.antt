@@ -74,7 +74,9 @@ real-part-requires c κs = search needs
 
 loop-holds : tie.Need-loop-holds Inv-loop μ-loop
 loop-holds c =
-    let a = c .before .before .before .before .before .before .args .access in
+    let at-bytes = c .before in
+    let known = at-bytes .before .before .before in
+    let a = known .before .before .args .access in
     (refl, refl, refl, sym (start-first (a .address) (a .length)), λ e. absurd (true≢false (sym e)))
 
 -- the lengths are those of what was lent

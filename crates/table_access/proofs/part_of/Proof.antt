@@ -30,7 +30,7 @@ covering-pair-requires : tie.Need-covering-pair-requires
 covering-pair-requires c κs = search needs
 
 abbrev begin : tie.After-side-of → tie.Start
-begin c = c .before .before .before .before
+begin c = let known = c .before .before in known .before .before
 
 before-search-requires : tie.Need-before-search-requires
 before-search-requires c κs =

@@ -67,7 +67,8 @@ table-length-requires c κs = search needs
 
 -- the length that is asked for is that of the page's SDR1
 length-is : (c : tie.After-table-length) →
-    let else2 = c .before .before .before .before in
+    let at-sdr1 = c .before in
+    let else2 = at-sdr1 .before .before .before in
     let start = begin (in-range (else2 .before) .before) in
     c .table-length .result ≡ tableLength (sdr1Of (registerWords (registers start)))
 length-is c =

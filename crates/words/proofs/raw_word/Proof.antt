@@ -34,8 +34,10 @@ word-of-requires c κs = search needs
 returns : tie.Need-returns
 unfolding wordAt
 returns c =
-    let known = c .before .shared-slice-known5 .given in
-    let at = c .before .before .before .before .before .before .args .at in
+    let last = c .before in
+    let third = last .before .before in
+    let at = third .before .before .before .args .at in
+    let known = last .shared-slice-known5 .given in
     c .word-of .ensures ∙ sym (swapped-of _ _ _ _ (known at .fits) (known (at + 1) .fits) (known (at + 2) .fits) (known (at + 3) .fits))
 
 pub raw-word-spec : {M : Type 1} → statement M

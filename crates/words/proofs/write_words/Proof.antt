@@ -42,13 +42,15 @@ loop-less c = search needs
 
 loop-again : tie.Need-loop-again Inv-loop μ-loop
 loop-again c =
-    let at-loop = c .before .before .before .before .before .before in
+    let at-write = c .before .before in
+    let in-loop = at-write .before .before .before in
+    let at-loop = in-loop .before in
     let i = at-loop .loop .i in
     let start = at-loop .before .before .before in
     let s₀ = start .args .s .now in
     let words = start .args .words .now in
     let w = getD words i 0 in
-    let done = c .before .before .write-word .ensures in
+    let done = at-write .write-word .ensures in
     let below : i < length words = omega arith in
     let next : written s₀ 0 (take (i + 1) words) ≡ withWord (written s₀ 0 (take i words)) (4 * i) w =
     ap (λ (k : ℕ). written s₀ 0 (take k words)) (add-one i)
@@ -65,10 +67,11 @@ same-length c = c .before .loop .inv .1
 
 returns : tie.Need-returns Inv-loop μ-loop
 returns c =
-    let start = c .before .before .before .before in
+    let at-loop = c .before in
+    let start = at-loop .before .before .before in
     let words = start .args .words .now in
-    let end : c .before .loop .i ≡ length words = omega arith in
-    c .before .loop .inv .2
+    let end : at-loop .loop .i ≡ length words = omega arith in
+    at-loop .loop .inv .2
     ∙ ap (written (start .args .s .now) 0) (ap (λ (k : ℕ). take k words) end ∙ take-length words)
     ∙ written-all words (start .args .s .now) (start .pre)
 

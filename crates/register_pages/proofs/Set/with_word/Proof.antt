@@ -88,8 +88,12 @@ read-word-requires c κs = let e = c .before .before in on-bytes (e .before) (e 
 slice-aggregate-write-word : tie.Need-slice-aggregate-write-word
 slice-aggregate-write-word c = search needs
 
+-- past the test of the number, from where the old word was read
+abbrev tested : tie.After-read-word → tie.Else1
+tested r = r .before .before .before
+
 write-word-requires : tie.Need-write-word-requires
-write-word-requires c κs = let e = c .before .before .before .before in on-bytes (e .before) (e .if1 .left)
+write-word-requires c κs = let e = tested (c .before) in on-bytes (e .before) (e .if1 .left)
 
 sub-check : tie.Need-sub-check
 sub-check c = search needs
@@ -100,7 +104,7 @@ part-check-start c = search needs
 -- the bytes with the word put in
 module _ (w : tie.After-write-word) where
   abbrev past : tie.Else1
-  past = w .before .before .before .before .before
+  past = tested (w .before .before)
 
   abbrev held : tie.After-count-of
   held = past .before
@@ -117,10 +121,14 @@ module _ (w : tie.After-write-word) where
   lent-page : take (size held - 0) new ≡ put held (past .if1 .left)
   lent-page = let whole : size held - 0 ≡ size held = omega arith in ap (λ (n : ℕ). take n new) whole ∙ new-page
 
+-- where the word was put in, from where the bytes are lent to the check
+abbrev changed : tie.After-check-arg → tie.After-write-word
+changed c = c .before .before .before
+
 -- what the check of them answered
-result-is : (c : tie.After-check) → let w = c .before .before .before .before in c .check .result ≡ checked (held w) (past w .if1 .left)
+result-is : (c : tie.After-check) → let w = changed (c .before) in c .check .result ≡ checked (held w) (past w .if1 .left)
 result-is c =
-    let w = c .before .before .before .before in
+    let w = changed (c .before) in
     c .check .ensures
     ∙ ap (λ (p : List ℕ). checkWords (blockPairs (isLong (length p))) (blWidth (isLong (length p))) (registerWords p)) (lent-page w)
 
@@ -129,20 +137,20 @@ part-check-end c = let w = c .before .before in omega (arith, new-length w, most
 
 check-requires : tie.Need-check-requires
 check-requires c κs =
-    let w = c .before .before .before in
+    let w = changed c in
     ap (λ (p : List ℕ). isPage (length p)) (lent-page w) ∙ put-right (page (held w)) (right (held w)) (at (held w)) (begin (held w) .args .word)
 
 slice-aggregate-write-word-2 : tie.Need-slice-aggregate-write-word-2
 slice-aggregate-write-word-2 c = search needs
 
 write-word-requires-2 : tie.Need-write-word-requires-2
-write-word-requires-2 c κs = let w = c .before .before .before .before .before .before in omega (arith, new-length w, on-bytes (held w) (past w .if1 .left))
+write-word-requires-2 c κs = let w = changed (c .before .before .before) in omega (arith, new-length w, on-bytes (held w) (past w .if1 .left))
 
 returns-2 : tie.Need-returns-2
 returns-2 c =
     let refused = c .before .before .before in
     let k = refused .before in
-    let w = k .before .before .before .before in
+    let w = changed (k .before) in
     let h = held w in
     let own = past w .if1 .left in
     let old : c .before .write-word2 .last .0 ≡ bytes h =
@@ -155,7 +163,7 @@ returns-2 c =
 returns-3 : tie.Need-returns-3
 returns-3 c =
     let k = c .before in
-    let w = k .before .before .before .before in
+    let w = changed (k .before) in
     let h = held w in
     let own = past w .if1 .left in
     ap₂ (λ (r : ℕ) (p : List ℕ). (r, p)) (result-is k) (new-page w)

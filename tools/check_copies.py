@@ -6,7 +6,7 @@
     check_copies.py --self-test
 
 Imports, comments, blank lines and lone brackets do not count, and a function's name in its head does not tell it from
-another. The library are the crates that name neither `io` nor `check`: the other ones are test programs. A source file
+another. The library are the crates that name none of `io`, `check` and `report`: the other ones are test programs. A source file
 that is a link is a copy too, and fails.
 """
 import collections
@@ -50,7 +50,7 @@ def copies(paths):
 def library(root):
     """The Rattle files of the crates that are no test programs."""
     listed = [line.split("#")[0].split(":") for line in (root / "crates.txt").read_text(encoding="utf-8").splitlines() if ":" in line.split("#")[0]]
-    crates = [name.strip() for name, deps in listed if not {"io", "check"} & set(deps.split())]
+    crates = [name.strip() for name, deps in listed if not {"io", "check", "report"} & set(deps.split())]
     return sorted(path for crate in crates for path in (root / "crates" / crate).rglob("*") if path.suffix in (".rt", ".antt"))
 
 

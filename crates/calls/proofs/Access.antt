@@ -1,28 +1,19 @@
--- The cases of an access on bytes: its rules after 11, what one pass over a page's matches says of the search and of the mark, and what the call leaves.
+-- The cases of an access on bytes: its rules after 11, when it leaves no mark, and what the call leaves.
 use mathlib.Core.Path.{_≡_, refl, sym, ap, _∙_}
 use mathlib.Core.Bool.{Bool, true, false, cond, not, _&&_, true≢false}
-use mathlib.Core.List.{List, [], _∷_, _++_, List·Memᴰ, List·Memᴰ·head}
+use mathlib.Core.List.{List, [], _∷_, _++_}
 use Prim.Native.Nat.{ℕ, _+_}
 use native.Mathlib.Omega.{arith}
 use lib.Dec.{eqb, ltb}
 use lib.ListN.{length}
 use borrow.Author.Tests.{eq-eqb, ne-eqb, eqb-true}
 use Rattle.register_words.specs.Block.{blWidth}
-use Rattle.entry.specs.Entry.{withMarks}
 use Rattle.registers.specs.Rules.{firstBroken}
 use Rattle.register_words.specs.Sdr1.{sdr1Shape, tableLength, maskOnes}
 use Rattle.registers.specs.Set.{isPage, blockPairs, sdr1Of, segmentsShape, sideShape, sideApart, registerRules, checkWords, registerWords}
 use Rattle.registers.proofs.Set.{checked}
 use Rattle.groups.specs.Page.{InRange}
-use Rattle.groups.specs.Hash.{groupNumber}
-use Rattle.groups.specs.Group.{firstOf, putAt}
-use Rattle.matches.specs.Search as search
-use Rattle.matches.specs.declared.Summary.{Summary}
-use Rattle.matches.proofs.Summaries.{Summarised, summarised, summary-none, place-found, place-secondary, place-entry}
-use Rattle.tables.specs.Matches.{Match}
-use Rattle.tables.specs.Layout.{matchesOf, overwrite}
-use Rattle.tables.proofs.Groups.{MatchOf, members-of}
-use Rattle.protection.specs.Access.{fetching, storing}
+use Rattle.protection.specs.Access.{fetching}
 use Rattle.protection.specs.Fault.{noMatch, noFetch, protection, faultOf}
 use Rattle.translation.specs.Steps.{beforeSearch, afterSearch, outcomeOf, answerOf, refusedAnswer}
 use Rattle.translation.specs.Decision.{decided, decisionOf}
@@ -35,11 +26,11 @@ use Rattle.translation.specs.declared.decision.Used.{Used}
 use Rattle.translation.specs.declared.Searched.{Searched}
 use Rattle.translation.specs.declared.Searched.the-variants.{Nothing, At, Contradicting}
 use Rattle.translation.specs.declared.Wanted.{Wanted}
-use Rattle.translation.proofs.Steps.{page-by, done-passes, wanted-in-range}
+use Rattle.translation.proofs.Steps.{page-by, wanted-in-range}
 use Rattle.calls.specs.Request.{AccessCall, access, sdr1In, fed}
 use Rattle.calls.specs.Rules.{onLongPage, operandInRange, rules, refusal}
 use Rattle.calls.specs.Answers.{refusedBytes, accessAnswer, answerRefused}
-use Rattle.calls.specs.OnBytes.{layout, ended, byMatches, startOf, earlyOf, usedBy, eachPart, wantedPage, searched, firstPlaceIn, markedBy, bytesDo, onBytes}
+use Rattle.calls.specs.OnBytes.{ended, startOf, earlyOf, eachPart, wantedPage, markedBy, bytesDo, onBytes}
 use Rattle.calls.proofs.OnBytes.{taken, refused}
 
 -- ---- the rules after 11
@@ -112,46 +103,6 @@ module _ (pairs width : ℕ) (words : List ℕ) (mode kind operand lent : ℕ) w
       go true true false long b p l z = absurd (true≢false (sym (eq-eqb _ 0 z) ∙ p))
       go true false passed long b p l z = absurd (omega arith)
       go false bytes passed long b p l z = absurd (omega arith)
-
--- ---- what one pass over the matches says
-
-module _ (s : Summary) where
-  -- by the list that was passed over: none, or the first match and the others
-  by-list : (P : List Match → Type 0) (ms : List Match) → s ≡ search.summary ms
-      → (s ≡ search.summary [] → P []) → ((x : Match) (xs : List Match) → Summarised x xs s → P (x ∷ xs)) → P ms
-  by-list P [] e none found = none e
-  by-list P (x ∷ xs) e none found = found x xs (rw e (summarised x xs))
-
-  module _ (ms : List Match) (e : s ≡ search.summary ms) where
-    pub searched-nothing : search.found s ≡ false → searched ms ≡ Nothing
-    unfolding searched
-    searched-nothing f = by-list (λ l. searched l ≡ Nothing) ms e (λ z. refl) (λ x xs m. absurd (true≢false (sym (place-found s x (m .place)) ∙ f)))
-
-    pub searched-contradicting : search.found s ≡ true → s .differs ≡ true → searched ms ≡ Contradicting
-    unfolding searched
-    searched-contradicting f d =
-        by-list (λ l. searched l ≡ Contradicting) ms e (λ z. absurd (true≢false (sym f ∙ ap search.found z ∙ summary-none)))
-        (λ x xs m. rw (← m .differs, d))
-
-    pub searched-at : search.found s ≡ true → s .differs ≡ false → searched ms ≡ At (s .second)
-    unfolding searched
-    searched-at f d =
-        by-list (λ l. searched l ≡ At (s .second)) ms e (λ z. absurd (true≢false (sym f ∙ ap search.found z ∙ summary-none)))
-        (λ x xs m. rw (← m .differs, d) (ap At (sym (m .second))))
-
-    -- an access is done only by the first match
-    pub record ByFirst (second : ℕ) : Type 0 where
-      pub found : search.found s ≡ true
-      pub word : s .second ≡ second
-
-    pub done-by-first : (kind : ℕ) (key : Bool) (second : ℕ) → afterSearch kind key (searched ms) ≡ Done second → ByFirst second
-    done-by-first kind key second done =
-        go (search.found s) (s .differs) refl refl (done-passes kind key (searched ms) second done .found)
-      where
-        go : (t d : Bool) → search.found s ≡ t → s .differs ≡ d → searched ms ≡ At second → ByFirst second
-        go true false f g a = record { found = f; word = let same = sym (searched-at f g) ∙ a in cc }
-        go true true f g a = let other = sym (searched-contradicting f g) ∙ a in absurd (true≢false (cc))
-        go false d f g a = let other = sym (searched-nothing f) ∙ a in absurd (true≢false (cc))
 
 -- ---- by cases
 
@@ -231,53 +182,6 @@ parts-unmarked k c result t n =
 pub unmarked-decided : (k kind : ℕ) (outcome : Outcome) (result : ℕ) (t : List ℕ) → markedBy k kind (Decided outcome) result t ≡ t
 unfolding markedBy
 unmarked-decided k kind outcome result t = refl
-
-module _ (k : ℕ) (wanted : Wanted) (t : List ℕ) (s : Summary) (e : s ≡ search.summary (matchesOf (layout k) t (wantedPage wanted))) where
-  -- an access done by the page marks the first match, where the search told
-  pub marked-done : (kind : ℕ) → search.found s ≡ true
-      → let g = groupNumber (10 + k) (search.inSecondary s) (wantedPage wanted) in
-      markedBy k kind (Search wanted) 0 t
-      ≡ putAt t g (search.entryOf s) (firstOf t g (search.entryOf s)) (withMarks true (storing kind) (s .second))
-  unfolding markedBy overwrite
-  marked-done kind f =
-      by-list s (λ l. ((x : Match) → List·Memᴰ x l → MatchOf (layout k) t (wantedPage wanted) x)
-      → byMatches l t (λ x xs. overwrite (layout k) (wantedPage wanted) x (x .first) (withMarks true (storing kind) (x .second)) t) ≡ marked (search.inSecondary s) (search.entryOf s))
-      (matchesOf (layout k) t (wantedPage wanted)) e
-      (λ z h. absurd (true≢false (sym f ∙ ap search.found z ∙ summary-none)))
-      (λ x xs m h.
-      let own = h x (List·Memᴰ·head refl) in
-      rw (place-secondary s x (m .place) (own .in-range), place-entry s x (m .place) (own .in-range), m .second)
-      (ap (λ (first : ℕ). putAt t (groupNumber (10 + k) (x .secondary) (wantedPage wanted)) (x .entry) first (withMarks true (storing kind) (x .second))) (own .first-word)))
-      (members-of (layout k) t (wantedPage wanted))
-    where
-      marked : Bool → ℕ → List ℕ
-      marked b i =
-          let g = groupNumber (10 + k) b (wantedPage wanted) in
-          putAt t g i (firstOf t g i) (withMarks true (storing kind) (s .second))
-
-  -- what decided the part, told by the place that the search noted
-  pub decision-noted : (kind : ℕ) → let outcome = afterSearch kind (wanted .key) (searched (matchesOf (layout k) t (wantedPage wanted))) in
-      decisionOf (record { key = wanted .key; group = groupNumber (10 + k) (search.inSecondary s) (wantedPage wanted); entry = search.entryOf s }) outcome
-      ≡ decisionOf (usedBy (firstPlaceIn k t) (Search wanted)) outcome
-  unfolding decisionOf searched afterSearch
-  decision-noted kind =
-      by-list s (λ l. ((x : Match) → List·Memᴰ x l → MatchOf (layout k) t (wantedPage wanted) x)
-      → decisionOf noted (afterSearch kind (wanted .key) (searched l)) ≡ decisionOf (at (placed l)) (afterSearch kind (wanted .key) (searched l)))
-      (matchesOf (layout k) t (wantedPage wanted)) e
-      (λ z h. refl)
-      (λ x xs m h.
-      let own = h x (List·Memᴰ·head refl) in
-      rw (place-secondary s x (m .place) (own .in-range), place-entry s x (m .place) (own .in-range)))
-      (members-of (layout k) t (wantedPage wanted))
-    where
-      noted : Used
-      noted = record { key = wanted .key; group = groupNumber (10 + k) (search.inSecondary s) (wantedPage wanted); entry = search.entryOf s }
-
-      placed : List Match → ℕ × ℕ
-      placed l = byMatches l (0, 0) (λ x xs. (groupNumber (10 + k) (x .secondary) (wantedPage wanted), x .entry))
-
-      at : ℕ × ℕ → Used
-      at place = record { key = wanted .key; group = place .0; entry = place .1 }
 
 -- ---- the call
 

@@ -19,7 +19,7 @@ use Rattle.groups.specs.Page.{Page, InRange}
 use Rattle.groups.proofs.Stored.{words-fit}
 use Rattle.matches.specs.Search.{anyMatch, contradict, merged}
 use Rattle.matches.proofs.Agreement.{any-true, any-member}
-use Rattle.matches.proofs.Summaries.{merged-referenced, merged-changed}
+use Rattle.matches.proofs.Merged.{merged-referenced, merged-changed}
 use Rattle.tables.specs.Matches.{Match}
 use Rattle.tables.specs.Layout.{matchesOf, freePlace, overwrite, overwriteEach}
 use Rattle.tables.proofs.Groups.{MatchOf}

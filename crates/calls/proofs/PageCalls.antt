@@ -1,7 +1,7 @@
 -- The cases of the calls on one page, as the code meets them: what their three common rules refuse, what one search of a page's two groups
 -- says of the table's matches, and what its edit and its free entry are in the table.
 use mathlib.Core.Path.{_≡_, refl, sym, ap, _∙_}
-use mathlib.Core.Bool.{Bool, true, false, cond, not, _&&_, true≢false}
+use mathlib.Core.Bool.{Bool, true, false, cond, not, _&&_}
 use mathlib.Core.List.{List, [], _∷_}
 use mathlib.Core.Option.{Option, none, some}
 use Prim.Native.Nat.{ℕ, _+_, _*_, _^_, _≤_, _<_}
@@ -18,22 +18,18 @@ use Rattle.groups.specs.Page.{Page}
 use Rattle.groups.specs.Hash.{groupNumber}
 use Rattle.groups.specs.Group as groups
 use Rattle.groups.specs.Group.{groupOf, onGroup, firstOf, putAt}
-use Rattle.matches.specs.Search.{pairMatches}
-use Rattle.matches.specs.Search.{summary, found, contradict, merged}
+use Rattle.matches.specs.Search.{pairMatches, contradict}
 use Rattle.edits.specs.Edit as edits
 use Rattle.edits.specs.Edit.{edited, editMatches}
 use Rattle.edits.specs.declared.Edit.{Edit}
-use Rattle.edits.specs.declared.Edit.the-variants.{Clear, Protect}
 use Rattle.groups.specs.declared.Place.{Place}
 use Rattle.groups.specs.declared.Place.the-variants.{Entry, Full}
-use Rattle.matches.specs.declared.Summary.{Summary}
 use Rattle.groups.proofs.Hash.{own-groups-differ}
-use Rattle.matches.proofs.Summaries.{Summarised, summarised, summary-none, found-none}
 use Rattle.edits.proofs.Edits.{edit-both-each}
 use Rattle.tables.specs.Matches.{Match}
 use Rattle.tables.specs.Layout.{freeEntry, freePlace, matchesOf, overwrite, overwriteEach}
 use Rattle.calls.specs.Request.{ClearCall, MapCall, ProtectCall, AnsweredCall, Request, clear, mapPage, unmap, protect, look, sdr1In, fed}
-use Rattle.calls.specs.Made.{toMap, toUnmap, toProtect, toLook}
+use Rattle.calls.specs.Made.{toMap, toLook}
 use Rattle.calls.specs.Rules.{pageInRange, mapInRange, tableRules, rules, refusal}
 use Rattle.calls.specs.Answers.{wordAnswer, refusedBytes, answerRefused}
 use Rattle.calls.specs.OnBytes.{layout, Ended, ended, entryWord, bytesDo, onBytes}
@@ -203,28 +199,11 @@ module _ (c : AnsweredCall (List ℕ)) (t : List ℕ) (wrong : length (c .answer
 
 -- ---- the search
 
--- a list of matches that has a first, and what the search told of it
-pub record Matched (ms : List Match) (s : Summary) : Type 0 where
-  pub x : Match
-  pub xs : List Match
-  pub are : ms ≡ x ∷ xs
-  pub told : Summarised x xs s
-
-found-some : (ms : List Match) → found (summary ms) ≡ true → Matched ms (summary ms)
-found-some [] f = absurd (true≢false (sym f ∙ summary-none))
-found-some (x ∷ xs) f = record { x = x; xs = xs; are = refl; told = summarised x xs }
-
--- what the calls ask of the matches, by what the search told
-module _ (x : Match) (xs : List Match) (s : Summary) (told : Summarised x xs s) where
-  pub contradict-is : contradict x xs ≡ s .differs
-  contradict-is = sym (told .differs)
-
 -- the place of a free entry, as the definition on tables gives it
 abbrev pub placeOption : Place → Option (Bool × ℕ)
 placeOption (Entry secondary i) = some (secondary, i)
 placeOption Full = none
 
--- `s` is what the search of the page's two groups told
 module _ (k : ℕ) (t : List ℕ) (page : Page) where
   -- the 64 bytes of the page's primary (false) or secondary (true) group
   abbrev pub ownGroup : Bool → List ℕ
@@ -232,9 +211,6 @@ module _ (k : ℕ) (t : List ℕ) (page : Page) where
 
   abbrev pub pageMatches : List Match
   pageMatches = pairMatches (page .vsid) (apiOf (page .index)) (ownGroup false) (ownGroup true)
-
-  abbrev pub pageSearch : Summary
-  pageSearch = summary pageMatches
 
   pub free-place-is : freePlace (layout k) t page ≡ placeOption (groups.firstFreePlace (ownGroup false) (ownGroup true))
   unfolding freePlace freeEntry groups.firstFreePlace groups.firstFree groups.entryFree firstOf
@@ -267,65 +243,36 @@ module _ (k : ℕ) (t : List ℕ) (page : Page) where
       ∙ each (edited edit) _ t
       ∙ ap (λ (ms : List Match). overwriteEach (layout k) page (edited edit) ms t) (sym (matches-by-groups k t page))
 
-  module _ (s : Summary) (e : s ≡ pageSearch) where
-    pub unmatched : found s ≡ false → matchesOf (layout k) t page ≡ []
-    unmatched f = matches-by-groups k t page ∙ found-none _ (ap found (sym e) ∙ f)
+  pub own-are : (ms : List Match) → pageMatches ≡ ms → matchesOf (layout k) t page ≡ ms
+  own-are ms e = matches-by-groups k t page ∙ e
 
-    pub matched : found s ≡ true → Matched (matchesOf (layout k) t page) s
-    matched f = rw (matches-by-groups k t page, e) (found-some _ (ap found (sym e) ∙ f))
-
-    -- map
+  -- map and look of a page with no match
+  module _ (none : pageMatches ≡ []) where
     module _ (sdr1 rpn wimg pp : ℕ) where
-      pub map-matched : found s ≡ true → bytesDo k (toMap sdr1 page rpn wimg pp) t ≡ ended 7 t []
+      pub map-full : groups.firstFreePlace (ownGroup false) (ownGroup true) ≡ Full → bytesDo k (toMap sdr1 page rpn wimg pp) t ≡ ended 9 t []
       unfolding bytesDo
-      map-matched f = rw (matched f .are)
+      map-full full = rw (own-are [] none, free-place-is, full)
 
-      pub map-full : found s ≡ false → groups.firstFreePlace (ownGroup false) (ownGroup true) ≡ Full → bytesDo k (toMap sdr1 page rpn wimg pp) t ≡ ended 9 t []
-      unfolding bytesDo
-      map-full f full = rw (unmatched f, free-place-is, full)
-
-      pub map-placed : found s ≡ false → (secondary : Bool) (i : ℕ) → groups.firstFreePlace (ownGroup false) (ownGroup true) ≡ Entry secondary i
+      pub map-placed : (secondary : Bool) (i : ℕ) → groups.firstFreePlace (ownGroup false) (ownGroup true) ≡ Entry secondary i
           → bytesDo k (toMap sdr1 page rpn wimg pp) t
           ≡ ended 0 (putAt t (groupNumber (10 + k) secondary page) i (entryWord secondary page) (secondWord rpn 0 0 wimg pp)) []
       unfolding bytesDo
-      map-placed f secondary i place = rw (unmatched f, free-place-is, place)
+      map-placed secondary i place = rw (own-are [] none, free-place-is, place)
 
-    -- unmap and look of a page with no match
-    pub unmap-missing : (sdr1 : ℕ) (answer : List ℕ) → found s ≡ false → bytesDo k (toUnmap sdr1 page answer) t ≡ ended 8 t (wordAnswer 8 0)
+    pub look-missing : (sdr1 : ℕ) (answer : List ℕ) → bytesDo k (toLook sdr1 page answer) t ≡ ended 8 t (wordAnswer 8 0)
     unfolding bytesDo
-    unmap-missing sdr1 answer f = rw (unmatched f)
+    look-missing sdr1 answer = rw (own-are [] none)
 
-    pub protect-missing : (sdr1 pp : ℕ) → found s ≡ false → bytesDo k (toProtect sdr1 page pp) t ≡ ended 8 t []
+  -- of a page that has a match
+  module _ (x : Match) (xs : List Match) (are : pageMatches ≡ x ∷ xs) where
+    pub map-matched : (sdr1 rpn wimg pp : ℕ) → bytesDo k (toMap sdr1 page rpn wimg pp) t ≡ ended 7 t []
     unfolding bytesDo
-    protect-missing sdr1 pp f = rw (unmatched f)
+    map-matched sdr1 rpn wimg pp = rw (own-are (x ∷ xs) are)
 
-    pub look-missing : (sdr1 : ℕ) (answer : List ℕ) → found s ≡ false → bytesDo k (toLook sdr1 page answer) t ≡ ended 8 t (wordAnswer 8 0)
+    pub look-contradicted : (sdr1 : ℕ) (answer : List ℕ) → contradict x xs ≡ true → bytesDo k (toLook sdr1 page answer) t ≡ ended 10 t (wordAnswer 10 0)
     unfolding bytesDo
-    look-missing sdr1 answer f = rw (unmatched f)
+    look-contradicted sdr1 answer d = rw (own-are (x ∷ xs) are, d)
 
-    pub look-contradicted : (sdr1 : ℕ) (answer : List ℕ) → found s ≡ true → s .differs ≡ true → bytesDo k (toLook sdr1 page answer) t ≡ ended 10 t (wordAnswer 10 0)
+    pub look-done : (sdr1 : ℕ) (answer : List ℕ) → contradict x xs ≡ false → bytesDo k (toLook sdr1 page answer) t ≡ ended 0 t (wordAnswer 0 (x .second))
     unfolding bytesDo
-    look-contradicted sdr1 answer f d =
-        let m = matched f in
-        rw (m .are, contradict-is (m .x) (m .xs) s (m .told) ∙ d)
-
-    pub look-done : (sdr1 : ℕ) (answer : List ℕ) → found s ≡ true → s .differs ≡ false → bytesDo k (toLook sdr1 page answer) t ≡ ended 0 t (wordAnswer 0 (s .second))
-    unfolding bytesDo
-    look-done sdr1 answer f d =
-        let m = matched f in
-        rw (m .are, contradict-is (m .x) (m .xs) s (m .told) ∙ d) (ap (λ (w : ℕ). ended 0 t (wordAnswer 0 w)) (sym (m .told .second)))
-
-    -- unmap and protect of a page that has a match, whose groups lie in the table
-    module _ (inside : (b : Bool) → 64 * groupNumber (10 + k) b page + 64 ≤ length t) (f : found s ≡ true) where
-      pub unmap-done : (sdr1 : ℕ) (answer : List ℕ) (word : ℕ)
-          → ((x : Match) (xs : List Match) → pageMatches ≡ x ∷ xs → s ≡ summary (x ∷ xs) → word ≡ merged x xs)
-          → bytesDo k (toUnmap sdr1 page answer) t ≡ ended 0 (editedBoth Clear) (wordAnswer 0 word)
-      unfolding bytesDo edited
-      unmap-done sdr1 answer word is =
-          let m = matched f in
-          let own : pageMatches ≡ m .x ∷ m .xs = sym (matches-by-groups k t page) ∙ m .are in
-          rw (edit-is Clear inside, m .are, is (m .x) (m .xs) own (e ∙ ap summary own))
-
-      pub protect-done : (sdr1 pp : ℕ) → bytesDo k (toProtect sdr1 page pp) t ≡ ended 0 (editedBoth (Protect pp)) []
-      unfolding bytesDo edited
-      protect-done sdr1 pp = rw (edit-is (Protect pp) inside, matched f .are)
+    look-done sdr1 answer d = rw (own-are (x ∷ xs) are, d)

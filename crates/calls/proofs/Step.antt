@@ -11,7 +11,7 @@ use Rattle.placement.specs.FiniteMap.{fieldsAt, takeOut, revise, mappedPages}
 use Rattle.placement.proofs.FiniteMap.{revise-unmapped}
 use Rattle.registers.specs.Set.{registerWords}
 use Rattle.groups.proofs.Hash.{samePage-refl, samePage-eq}
-use Rattle.matches.proofs.Summaries.{merged-one}
+use Rattle.matches.proofs.Merged.{merged-one}
 use Rattle.entry.specs.Entry.{apiOf, referenced, changed, withMarks, withPP}
 use Rattle.entry.proofs.Addresses.{api-lt}
 use Rattle.entry.proofs.Matches.{match-own, free-zero}

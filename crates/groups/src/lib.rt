@@ -8,7 +8,7 @@ ghost use Rattle.numbers.specs.Numbers.{groupSize, groupEntries};
 ghost use Rattle.register_words.specs.Sdr1.{sdr1Shape, hashBits};
 ghost use Rattle.groups.specs.Page.{InRange};
 ghost use Rattle.groups.specs.Hash.{hashOf, groupsOf, groupAddress, located};
-ghost use Rattle.groups.specs.Group.{firstOf, secondOf, putEntry, putAt, entryFree, firstFree, firstFreePlace, freeAfter};
+ghost use Rattle.groups.specs.Group.{firstOf, secondOf, putEntry, putAt, entryFree, firstFreePlace, freeAfter};
 
 // The numbers of the two groups of a hash.
 pub struct Groups {
@@ -105,21 +105,6 @@ pub fn free_after(before: u32, group: &[u8]) -> u32
 pub enum Place {
     Entry(bool, usize),
     Full,
-}
-
-// The first entry of a group with V = 0, or 8 where none has.
-pub fn first_free(group: &[u8]) -> usize
-    requires { ⌜ length (now group) ≡ groupSize ⌝ }
-    ensures { λ r. ⌜ r ≡ firstFree (now (group .entry)) ⌝ }
-{
-    let mut entry = 0;
-    while numbers::ENTRY_SIZE * entry < group.len() {
-        if entry::is_free(words::read_word(group, numbers::ENTRY_SIZE * entry)) {
-            return entry;
-        }
-        entry += 1;
-    }
-    numbers::GROUP_ENTRIES
 }
 
 // The first free entry in search order, by which entries of a page's two groups are free: two groups by eight entries, left at the first with V = 0.

@@ -12,7 +12,7 @@ use Rattle.groups.specs.Group.{firstAt}
 use Rattle.matches.specs.Search.{hOf, matchesTo, anyMatch, disagrees, contradict, each, numberOf, withOthers, foundOf, firstSecond}
 use Rattle.matches.proofs.Agreement.{agree-self}
 use Rattle.matches.proofs.Matches.{entryAt, matches-more, matches-same}
-use Rattle.matches.proofs.Summaries.{or-false, any-append}
+use Rattle.matches.proofs.Merged.{or-false, any-append}
 
 -- a match's number is one of sixteen
 pub number-lt : (m : Match) → numberOf m < 16

@@ -122,10 +122,6 @@ match-entry vsid api primary secondary m h =
         let side : m .secondary ≡ b = ap (λ (x : Match). x .secondary) (i .is-entry) in
         (i .entry-lt, i .is-entry ∙ ap (λ (g : List ℕ). entryAt b g (m .entry)) e ∙ ap (λ (c : Bool). entryAt c (cond c secondary primary) (m .entry)) (sym side))
 
-pub match-words : (vsid api : ℕ) (primary secondary : List ℕ) (m : Match) → List·Memᴰ m (pairMatches vsid api primary secondary)
-    → (m .entry < 8) × (m .first ≡ firstAt (cond (m .secondary) secondary primary) (m .entry))
-match-words vsid api primary secondary m h = let own = match-entry vsid api primary secondary m h in (own .0, ap (λ (x : Match). x .first) (own .1))
-
 h-same : (b c : Bool) → hOf b ≡ hOf c → b ≡ c
 h-same true true e = refl
 h-same true false e = absurd (omega arith)

@@ -8,11 +8,7 @@ unfolding matches-compute
 matches-tables = record {
   all-found = record { equal = refl };
   agreement = record { equal = refl };
-  summaries = record { equal = refl };
   merged-words = record { equal = refl };
   lists-told = record { equal = refl };
   groups-told = record { equal = refl };
-  group-searches = record { equal = refl };
-  told-places = record { equal = refl };
-  told-entries = record { equal = refl };
 }

@@ -3,15 +3,13 @@ use Prim.Native.Nat.{ℕ, _+_, _*_, _%_, _^_, _<_}
 use mathlib.Core.Path.{_≡_}
 use mathlib.Core.Bool.{Bool, true, false, cond, not, _&&_, _||_}
 use mathlib.Core.List.{List, [], _∷_, _++_, foldr}
-use lib.Dec.{eqb, leb}
+use lib.Dec.{eqb}
 use Rattle.numbers.specs.Numbers.{groupEntries}
 use Rattle.words.specs.Words.{swapped}
 use Rattle.entry.specs.Entry.{firstWord, matches, rpnOf, wimgOf, ppOf, referenced, changed, withMarks}
 use Rattle.tables.specs.Matches.{Match, matchesBelow}
-use Rattle.groups.specs.Group.{firstAt, secondAt, firstFree, freeAfter}
+use Rattle.groups.specs.Group.{firstAt, secondAt, freeAfter}
 use Rattle.matches.specs.declared.Told.{Told}
-use Rattle.matches.specs.declared.Summary.{Summary}
-use Rattle.matches.specs.declared.GroupSearch.{GroupSearch}
 
 -- H of an entry: 0 in the primary group (false), 1 in the secondary (true)
 abbrev pub hOf : Bool → ℕ
@@ -90,36 +88,3 @@ inPrimary vsid api primary = told (groupMatches false vsid api primary) (freeAft
 
 unfoldable pub inBoth : ℕ → ℕ → List ℕ → List ℕ → Told
 inBoth vsid api primary secondary = told (pairMatches vsid api primary secondary) (freeAfter (freeAfter 0 primary) secondary)
-
--- the place of entry 0 as one number that is not 0: 16 in the primary group, 24 in the secondary
-abbrev pub firstPlace : Bool → ℕ
-firstPlace secondary = cond secondary 24 16
-
--- the place of a match: that of its group's entry 0, and the entry's number
-abbrev pub placeOf : Match → ℕ
-placeOf m = firstPlace (m .secondary) + m .entry
-
--- what the search tells of the matches of a list: the first one's place and second word, whether there are others, and whether they contradict
-unfoldable pub summary : List Match → Summary
-summary [] = record { place = 0; second = 0; several = false; differs = false }
-summary (m ∷ ms) = record { place = placeOf m; second = m .second; several = anyMatch each ms; differs = contradict m ms }
-
--- what the search of one group tells, for any 64 bytes, H, VSID and API: the matches, and the first entry with V = 0, or 8 where none has
-unfoldable pub groupSearch : Bool → ℕ → ℕ → List ℕ → GroupSearch
-groupSearch secondary vsid api group = record { matches = summary (groupMatches secondary vsid api group); free = firstFree group }
-
--- the place of the only match of a list: 0 where there is none, and 1, which is no place, where there are several
-abbrev pub onlyPlace : List Match → ℕ
-onlyPlace [] = 0
-onlyPlace (m ∷ []) = placeOf m
-onlyPlace (m ∷ n ∷ ms) = 1
-
--- whether a search found a match, whether the first is in the secondary group, and its entry's number
-unfoldable pub found : Summary → Bool
-found s = not (eqb (s .place) 0)
-
-unfoldable pub inSecondary : Summary → Bool
-inSecondary s = leb 24 (s .place)
-
-unfoldable pub entryOf : Summary → ℕ
-entryOf s = s .place % 8

@@ -8,10 +8,8 @@ use lib.ListN.{replicate}
 use Rattle.words.specs.Rows.{Hold, eachBit}
 use Rattle.tables.specs.Matches.{Match}
 use Rattle.groups.specs.Tables.{mixed, example, full, last}
-use Rattle.matches.specs.Search.{groupMatches, pairMatches, agree, merged, told, inPrimary, inBoth, summary, groupSearch, found, inSecondary, entryOf}
+use Rattle.matches.specs.Search.{groupMatches, agree, merged, told, inPrimary, inBoth}
 use Rattle.matches.specs.declared.Told.{Told}
-use Rattle.matches.specs.declared.Summary.{Summary}
-use Rattle.matches.specs.declared.GroupSearch.{GroupSearch}
 
 -- the answer of a search: the first match's number with what is added to it, its second word, and which entries are free
 abbrev pub telling : ℕ → ℕ → ℕ → Told
@@ -19,14 +17,6 @@ telling found second free = record { found = found; second = second; free = free
 
 abbrev pub matched : Bool → ℕ → ℕ → ℕ → Match
 matched secondary entry first second = record { secondary = secondary; entry = entry; first = first; second = second }
-
--- what a search tells: place and second word of the first match, whether there is a further match, whether one contradicts
-abbrev pub summed : ℕ → ℕ → Bool → Bool → Summary
-summed place second several differs = record { place = place; second = second; several = several; differs = differs }
-
--- what the search of one group tells, with its first free entry
-abbrev pub toldWith : Summary → ℕ → GroupSearch
-toldWith found free = record { matches = found; free = free }
 
 -- the bits in which second words that agree may differ: the ignored ones and the marks, bits 20 to 24, and bit 29
 abbrev pub mayDiffer : List Bool
@@ -53,31 +43,6 @@ pub record MatchesTables : Type 0 where
       ∷ (map (λ bit. agree 0 bit) eachBit, mayDiffer)
       ∷ (agree 0x12345012 0x12345F96 ∷ agree 0x12345E96 0x12345112 ∷ [], true ∷ true ∷ [])
       ∷ (agree 0x12345E96 0x12345E96 ∷ agree 0 0 ∷ agree 0xFFFFFFFF 0xFFFFFFFF ∷ [], true ∷ true ∷ true ∷ [])
-      ∷ []
-      )
-  -- the first match in search order, its second word, a further one, and whether they contradict: by RPN, WIMG or PP, in one group or across both,
-  -- the second or a third; not by R, C or an ignored bit
-  pub summaries : Hold (
-      (summary (pairMatches 0x0C701C 3 example example), summed 17 0x12345E96 true false)
-      ∷ (summary (pairMatches 0x0C701C 3 (mixed 0x86380E03 0x12345112 0 0 0 0) example), summed 17 0x12345112 true false)
-      ∷ (summary (pairMatches 0x0C701C 3 (mixed 0x86380E03 0x12345011 0 0 0 0) example), summed 17 0x12345011 true true)
-      ∷ (summary (pairMatches 0x0C701C 3 full example), summed 24 0x12345012 false false)
-      ∷ (summary (matched false 1 0x86380E03 0x12345E96 ∷ matched false 3 0x86380E03 0x12345E96 ∷ []), summed 17 0x12345E96 true false)
-      ∷ (summary (matched false 6 0x86380E03 0x12345112 ∷ matched true 0 0x86380E43 0x12344012 ∷ []), summed 22 0x12345112 true true)
-      ∷ (summary (matched true 0 0x86380E43 0x12345012 ∷ matched true 6 0x86380E43 0x12345E9E ∷ []), summed 24 0x12345012 true true)
-      ∷ (
-        summary (matched false 1 0x86380E03 0x12345012 ∷ matched false 2 0x86380E03 0x12345016 ∷ matched true 0 0x86380E43 0x12345013 ∷ []),
-        summed 17 0x12345012 true true,
-      )
-      ∷ (
-        summary (matched false 1 0x86380E03 0x12345012 ∷ matched false 2 0x86380E03 0x12345113 ∷ matched false 4 0x86380E03 0x12345093 ∷ []),
-        summed 17 0x12345012 true true,
-      )
-      ∷ (
-        summary (matched false 1 0x86380E03 0x12345012 ∷ matched false 2 0x86380E03 0x12345113 ∷ matched true 0 0x86380E43 0x12345012 ∷ []),
-        summed 17 0x12345012 true true,
-      )
-      ∷ (summary (pairMatches 0x0C701C 2 example example), summed 0 0 false false)
       ∷ []
       )
   -- the first's second word with R and C of any
@@ -126,30 +91,5 @@ pub record MatchesTables : Type 0 where
       ∷ (inBoth 0x0C701C 2 last (replicate 64 0), telling 16 0 0x01FF)
       ∷ (inBoth 0xFFFFFF 63 full full, telling 40 0xFFFFFFFF 0)
       ∷ (inBoth 0xFFFFFF 63 full last, telling 40 0xFFFFFFFF 0x0001)
-      ∷ []
-      )
-  -- the search of one group by its summary: a match behind free entries is seen, and the first entry with V = 0 is told, wherever the matches stand; 8 where there
-  -- is none
-  pub group-searches : Hold (
-      (groupSearch false 0x0C701C 3 example, toldWith (summed 17 0x12345E96 true false) 2)
-      ∷ (groupSearch true 0x0C701C 3 example, toldWith (summed 24 0x12345012 false false) 2)
-      ∷ (groupSearch true 0xFFFFFF 63 example, toldWith (summed 31 0xFFFFFFFF false false) 2)
-      ∷ (groupSearch false 0x0C701C 3 (mixed 0 0 0 0 0x86380E03 0x12345112), toldWith (summed 22 0x12345112 false false) 1)
-      ∷ (groupSearch false 0x0C701C 3 (mixed 0x86380E03 0x12345012 0 0 0x86380E03 0x12345011), toldWith (summed 17 0x12345012 true true) 2)
-      ∷ (groupSearch false 0x0C701C 2 example, toldWith (summed 0 0 false false) 2)
-      ∷ (groupSearch false 0xFFFFFF 63 full, toldWith (summed 0 0 false false) 8)
-      ∷ (groupSearch true 0xFFFFFF 63 full, toldWith (summed 24 0xFFFFFFFF true false) 8)
-      ∷ (groupSearch true 0xFFFFFF 63 last, toldWith (summed 24 0xFFFFFFFF true false) 7)
-      ∷ (groupSearch false 0 0 (replicate 64 0), toldWith (summed 0 0 false false) 0)
-      ∷ []
-      )
-  -- what a place tells: a match, its group, its entry's number
-  pub told-places : Hold (
-      (map (λ place. found (summed place 0 false false)) (0 ∷ 16 ∷ 23 ∷ 24 ∷ 31 ∷ []), false ∷ true ∷ true ∷ true ∷ true ∷ [])
-      ∷ (map (λ place. inSecondary (summed place 0 false false)) (0 ∷ 16 ∷ 23 ∷ 24 ∷ 31 ∷ []), false ∷ false ∷ false ∷ true ∷ true ∷ [])
-      ∷ []
-      )
-  pub told-entries : Hold (
-      (map (λ place. entryOf (summed place 0 false false)) (16 ∷ 17 ∷ 20 ∷ 23 ∷ 24 ∷ 25 ∷ 28 ∷ 31 ∷ []), 0 ∷ 1 ∷ 4 ∷ 7 ∷ 0 ∷ 1 ∷ 4 ∷ 7 ∷ [])
       ∷ []
       )

@@ -19,14 +19,14 @@ use Rattle.groups.specs.declared.Place.the-variants.{Entry}
 use Rattle.groups.proofs.Free.{PlaceCase, in-primary, in-secondary, nowhere, place-case}
 use Rattle.groups.proofs.Hash.{group-lt, own-groups-differ, within-table}
 use Rattle.tables.specs.Matches.{Match}
-use Rattle.matches.specs.Search.{hOf, WantedWord, pairMatches, anyMatch, each, marksOf, merged, contradict, told, inPrimary, inBoth, summary, found}
+use Rattle.matches.specs.Search.{hOf, WantedWord, pairMatches, anyMatch, each, marksOf, merged, contradict, told, inPrimary, inBoth}
 use Rattle.matches.specs.declared.Told.{Told}
-use Rattle.matches.proofs.Summaries.{summarised, summary-none, found-any, alone, merged-one}
+use Rattle.matches.proofs.Merged.{alone, merged-one}
 use Rattle.edits.specs.Edit.{editAt, editPair}
 use Rattle.edits.specs.declared.Edit.{Edit}
 use Rattle.edits.proofs.Alone.{entry-is, edit-alone}
 use Rattle.calls.specs.OnBytes.{entryWord}
-use Rattle.calls.proofs.PageCalls.{Kept, ownGroup, pageMatches, pageSearch, editedBoth}
+use Rattle.calls.proofs.PageCalls.{Kept, ownGroup, pageMatches, editedBoth}
 
 -- a free place is one of a group's eight entries
 pub place-lt : (p s : List ℕ) (b : Bool) (i : ℕ) → firstFreePlace p s ≡ Entry b i → i < 8
@@ -121,10 +121,6 @@ module _ (sdr1 : ℕ) (page : Page) (t : List ℕ) (l : Located) where
     -- ---- by what the search answered
 
     module _ (both : Told) (is : both ≡ told (pageMatches k t page) pageFree) where
-      -- some match, or none
-      pub any-is : (some : Bool) → ((ms : List Match) (free : ℕ) → both ≡ told ms free → some ≡ anyMatch each ms) → found (pageSearch k t page) ≡ some
-      any-is some tells = found-any (pageMatches k t page) ∙ sym (tells (pageMatches k t page) pageFree is)
-
       -- the first match and the others
       pub record First : Type 0 where
         pub x : Match
@@ -134,33 +130,21 @@ module _ (sdr1 : ℕ) (page : Page) (t : List ℕ) (l : Located) where
         pub word : both .second ≡ x .second
         pub in-groups : pairMatches (page .vsid) (apiOf (page .index)) (groupOf t (l .primary)) (groupOf t (l .secondary)) ≡ x ∷ xs
 
-      pub first : found (pageSearch k t page) ≡ true → First
+      pub first : anyMatch each (pageMatches k t page) ≡ true → First
       unfolding told
       first f = go (pageMatches k t page) refl f
         where
-          go : (ms : List Match) → pageMatches k t page ≡ ms → found (summary ms) ≡ true → First
-          go [] e q = absurd (true≢false (sym q ∙ summary-none))
+          go : (ms : List Match) → pageMatches k t page ≡ ms → anyMatch each ms ≡ true → First
+          go [] e q = absurd (true≢false (sym q))
           go (x ∷ xs) e q =
               let tells = is ∙ ap (λ (ms : List Match). told ms pageFree) e in
               record { x = x; xs = xs; are = e; tells = tells; word = ap (λ (y : Told). y .second) tells; in-groups = pair-is ∙ e }
 
       module _ (f : First) where
-        -- what is answered of the first match and of the others
+        -- what is answered of the others
         pub differs-is : (differs : Bool) → ((m : Match) (ms : List Match) (free : ℕ) → both ≡ told (m ∷ ms) free → differs ≡ contradict m ms)
-            → pageSearch k t page .differs ≡ differs
-        differs-is differs tells =
-            ap (λ (ms : List Match). summary ms .differs) (f .are) ∙ summarised (f .x) (f .xs) .differs ∙ sym (tells (f .x) (f .xs) pageFree (f .tells))
-
-        pub second-is : pageSearch k t page .second ≡ both .second
-        second-is = ap (λ (ms : List Match). summary ms .second) (f .are) ∙ summarised (f .x) (f .xs) .second ∙ sym (f .word)
-
-        -- the word that an unmap answers, of however the list is taken apart
-        pub word-is : (word : ℕ) → word ≡ merged (f .x) (f .xs) → (y : Match) (ys : List Match) → pageMatches k t page ≡ y ∷ ys → word ≡ merged y ys
-        word-is word e y ys q = e ∙ ap mergedOf (sym (f .are) ∙ q)
-          where
-            mergedOf : List Match → ℕ
-            mergedOf [] = 0
-            mergedOf (n ∷ ns) = merged n ns
+            → contradict (f .x) (f .xs) ≡ differs
+        differs-is differs tells = sym (tells (f .x) (f .xs) pageFree (f .tells))
 
         -- each of several matches edited: the edit of the page's groups, and the word with the marks of all
         pub all-edited : (edit : Edit) (u : List ℕ) (word : ℕ)
@@ -224,7 +208,8 @@ module _ (sdr1 : ℕ) (page : Page) (t : List ℕ) (l : Located) (both : Told) (
   pub record Known : Type 0 where
     pub at : AtGroups sdr1 page t l
     pub is : both ≡ told (pageMatches (maskOnes sdr1) t page) (pageFree sdr1 page t l at)
-    pub some-is : found (pageSearch (maskOnes sdr1) t page) ≡ some
+    pub unmatched : some ≡ false → pageMatches (maskOnes sdr1) t page ≡ []
+    pub matched : some ≡ true → First sdr1 page t l at both is
 
   pub known : (primary : Told) → TableOf sdr1 (length t) → InRange page → ((k : ℕ) → length t ≡ 65536 * 2 ^ k → l ≡ located k page)
       → ((vsid api : ℕ) → WantedWord false vsid api (l .wanted) → primary ≡ inPrimary vsid api (groupOf t (l .primary)))
@@ -233,4 +218,5 @@ module _ (sdr1 : ℕ) (page : Page) (t : List ℕ) (l : Located) (both : Told) (
   known primary right fits locates one two any =
       let at = at-groups sdr1 page t l right fits locates in
       let is = told-is sdr1 page t l at primary both one two in
-      record { at = at; is = is; some-is = any-is sdr1 page t l at both is some any }
+      let some-is = sym (any (pageMatches (maskOnes sdr1) t page) _ is) in
+      record { at = at; is = is; unmatched = λ e. alone _ (some-is ∙ e); matched = λ e. first sdr1 page t l at both is (some-is ∙ e) }

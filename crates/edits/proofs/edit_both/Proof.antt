@@ -9,7 +9,7 @@ use Rattle.groups.specs.Group.{groupOf, onGroup}
 use Rattle.groups.proofs.Group.{group-other, length-group}
 use Rattle.groups.proofs.Lent.{lent-group, back-on}
 use Rattle.matches.specs.Search.{groupMatches, pairMatches, marksOf}
-use Rattle.matches.proofs.Summaries.{marks-append}
+use Rattle.matches.proofs.Merged.{marks-append}
 use Rattle.edits.specs.Edit.{editMatches}
 use Rattle.edits.specs.declared.Edit.{Edit}
 use Rattle.edits.proofs.Edits.{length-edit-matches}

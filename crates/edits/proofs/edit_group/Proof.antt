@@ -13,7 +13,7 @@ use Rattle.groups.specs.Group.{firstAt, secondAt, putEntry}
 use Rattle.groups.proofs.Entries.{length-entry}
 use Rattle.matches.specs.Search.{hOf, WantedWord, matchesTo, groupMatches, marksOf}
 use Rattle.matches.proofs.Matches.{wanted-matches, entryAt, matches-more, matches-same}
-use Rattle.matches.proofs.Summaries.{marks-none, marks-more}
+use Rattle.matches.proofs.Merged.{marks-none, marks-more}
 use Rattle.edits.specs.Edit.{editedWords, edited, editEach, editMatches}
 use Rattle.edits.proofs.Edits.{edit-more, edit-later}
 use Rattle.edits.proofs.edit_group.Statement.{statement}

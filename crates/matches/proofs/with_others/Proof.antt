@@ -7,7 +7,7 @@ use Prim.Native.Nat.{ℕ, _+_}
 use native.Mathlib.Omega.{arith}
 use lib.Dec.{leb}
 use Rattle.matches.specs.Search.{groupMatches, anyMatch, disagrees, contradict}
-use Rattle.matches.proofs.Summaries.{or-swap, any-append}
+use Rattle.matches.proofs.Merged.{or-swap, any-append}
 use Rattle.matches.proofs.Found.{found-number, found-differs}
 use borrow.Author.Needs.{needs}
 use Rattle.matches.proofs.with_others.Statement.{statement}

@@ -1,17 +1,14 @@
 -- `page_calls::look_page` meets its contract: by what the search of the page's groups told: none, matches that contradict, or the first one's second word.
-use mathlib.Core.Path.{_≡_, refl, sym, ap, _∙_}
-use mathlib.Core.Bool.{true}
+use mathlib.Core.Path.{sym, ap, _∙_}
 use Prim.Native.Nat.{ℕ}
 use lib.ListN.{length}
 use borrow.Author.Tests.{not-true, not-false}
-use Rattle.register_words.specs.Sdr1.{maskOnes}
 use Rattle.groups.specs.Page.{Page}
 use Rattle.groups.specs.Hash.{TableOf}
-use Rattle.matches.specs.Search.{found}
 use Rattle.calls.specs.Answers.{wordAnswer}
 use Rattle.calls.specs.OnBytes.{ended}
-use Rattle.calls.proofs.PageCalls.{pageSearch, look-missing, look-contradicted, look-done}
-use Rattle.page_calls.proofs.Searched.{locatable, primary-asked, secondary-asked, Known, known, First, first, differs-is, second-is}
+use Rattle.calls.proofs.PageCalls.{look-missing, look-contradicted, look-done}
+use Rattle.page_calls.proofs.Searched.{locatable, primary-asked, secondary-asked, Known, known, First, differs-is}
 use borrow.Author.Needs.{needs}
 use Rattle.page_calls.proofs.look_page.Statement.{statement}
 use Rattle.page_calls.proofs.look_page.Tie as tie
@@ -35,26 +32,24 @@ module _ (c : tie.After-any) where
   told-of sdr1 right = known sdr1 page _ _ _ _ _ right (begin .pre .1) (at .locate .ensures) (searched .in-primary .ensures) (c .before .in-secondary .ensures) (c .any .ensures)
 
 -- there is a match
-found-first : (c : tie.After-differs) (sdr1 : ℕ) (right : TableOf sdr1 (length (begin (c .before .before) .args .table .now)))
-    → (found (pageSearch (maskOnes sdr1) (begin (c .before .before) .args .table .now) (page (c .before .before))) ≡ true)
-    × First _ _ _ _ (told-of (c .before .before) sdr1 right .at) _ (told-of (c .before .before) sdr1 right .is)
-found-first c sdr1 right =
-    let some = told-of (c .before .before) sdr1 right .some-is ∙ not-false _ (c .before .if1 .left) in
-    (some, first _ _ _ _ (told-of (c .before .before) sdr1 right .at) _ (told-of (c .before .before) sdr1 right .is) some)
+leader : (c : tie.After-differs) (sdr1 : ℕ) (right : TableOf sdr1 (length (begin (c .before .before) .args .table .now)))
+    → First _ _ _ _ (told-of (c .before .before) sdr1 right .at) _ (told-of (c .before .before) sdr1 right .is)
+leader c sdr1 right = told-of (c .before .before) sdr1 right .matched (not-false _ (c .before .if1 .left))
 
 returns : tie.Need-returns
-returns c sdr1 right = sym (look-missing _ _ _ _ refl _ _ (told-of (c .before) sdr1 right .some-is ∙ not-true _ (c .if1 .taken)))
+returns c sdr1 right = sym (look-missing _ _ _ (told-of (c .before) sdr1 right .unmatched (not-true _ (c .if1 .taken))) _ _)
 
 returns-2 : tie.Need-returns-2
 returns-2 c sdr1 right =
-    let (some, f) = found-first (c .before) sdr1 right in
-    sym (look-contradicted _ _ _ _ refl _ _ some (differs-is _ _ _ _ _ _ _ f _ (c .before .differs .ensures) ∙ c .if2 .taken))
+    let f = leader (c .before) sdr1 right in
+    sym (look-contradicted _ _ _ _ _ (f .are) _ _ (differs-is _ _ _ _ _ _ _ f _ (c .before .differs .ensures) ∙ c .if2 .taken))
 
 returns-3 : tie.Need-returns-3
 returns-3 c sdr1 right =
-    let (some, f) = found-first (c .before) sdr1 right in
-    sym (look-done _ _ _ _ refl _ _ some (differs-is _ _ _ _ _ _ _ f _ (c .before .differs .ensures) ∙ c .if2 .left)
-    ∙ ap (λ (word : ℕ). ended 0 (begin (c .before .before .before) .args .table .now) (wordAnswer 0 word)) (second-is _ _ _ _ _ _ _ f))
+    let f = leader (c .before) sdr1 right in
+    let asked = c .before .before .before in
+    ap (λ (word : ℕ). ended 0 (begin asked .args .table .now) (wordAnswer 0 word)) (f .word)
+    ∙ sym (look-done _ _ _ _ _ (f .are) _ _ (differs-is _ _ _ _ _ _ _ f _ (c .before .differs .ensures) ∙ c .if2 .left))
 
 pub look-page-spec : {M : Type 1} → statement M
 look-page-spec =

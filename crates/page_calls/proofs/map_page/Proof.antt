@@ -1,16 +1,14 @@
 -- `page_calls::map_page` meets its contract: where the search told of no match, the page's entry goes to the first free place that it told.
-use mathlib.Core.Path.{_≡_, refl, sym, ap, _∙_}
-use mathlib.Core.Bool.{false}
+use mathlib.Core.Path.{_≡_, sym, ap, _∙_}
 use mathlib.Core.List.{List, []}
 use Prim.Native.Nat.{ℕ}
 use lib.ListN.{length}
 use Rattle.register_words.specs.Sdr1.{maskOnes}
 use Rattle.groups.specs.Page.{Page}
 use Rattle.groups.specs.Hash.{TableOf}
-use Rattle.matches.specs.Search.{found}
 use Rattle.entry.specs.Entry.{secondWord}
 use Rattle.calls.specs.OnBytes.{ended}
-use Rattle.calls.proofs.PageCalls.{pageSearch, map-matched, map-full, map-placed}
+use Rattle.calls.proofs.PageCalls.{pageMatches, map-matched, map-full, map-placed}
 use Rattle.page_calls.proofs.Searched.{locatable, primary-asked, secondary-asked, Known, known, group-inside, free-is, place-lt, placed-is}
 use borrow.Author.Needs.{needs}
 use Rattle.page_calls.proofs.map_page.Statement.{statement}
@@ -39,9 +37,8 @@ module _ (c : tie.After-free-place) where
   abbrev asked : tie.After-any
   asked = c .before .before
 
-  none : (sdr1 : ℕ) (right : TableOf sdr1 (length (begin asked .args .table .now)))
-      → found (pageSearch (maskOnes sdr1) (begin asked .args .table .now) (page asked)) ≡ false
-  none sdr1 right = told-of asked sdr1 right .some-is ∙ c .before .if1 .left
+  none : (sdr1 : ℕ) (right : TableOf sdr1 (length (begin asked .args .table .now))) → pageMatches (maskOnes sdr1) (begin asked .args .table .now) (page asked) ≡ []
+  none sdr1 right = told-of asked sdr1 right .unmatched (c .before .if1 .left)
 
 -- the state before an entry is written
 abbrev placed-at : tie.After-group → tie.After-known-told
@@ -51,7 +48,9 @@ abbrev freed : tie.After-known-told → tie.After-free-place
 freed c = let key = c .before .before in key .before
 
 returns : tie.Need-returns
-returns c sdr1 right = sym (map-matched _ _ _ _ refl _ _ _ _ (told-of (c .before) sdr1 right .some-is ∙ c .if1 .taken))
+returns c sdr1 right =
+    let f = told-of (c .before) sdr1 right .matched (c .if1 .taken) in
+    sym (map-matched _ _ _ _ _ (f .are) _ _ _ _)
 
 put-entry-requires : tie.Need-put-entry-requires
 put-entry-requires c κs =
@@ -74,12 +73,12 @@ returns-2 c sdr1 right =
     ap (λ (t : List ℕ). ended 0 t [])
     (placed-is _ _ _ _ g _ _ _ _ _ (secondWord (a .rpn) 0 0 (a .wimg) (a .pp)) _ (group .group .ensures)
     (second .before .first-in .ensures _ _ (g .wants .0) (g .wants .1) (g .wants .2)) (second .second-word .ensures) (put .put-entry .ensures))
-    ∙ sym (map-placed _ _ _ _ refl _ _ _ _ (none free sdr1 right) _ _ (free-is _ _ _ _ g _ _ _ (told-of (asked free) sdr1 right .is) (free .free-place .ensures) (place .1)))
+    ∙ sym (map-placed _ _ _ (none free sdr1 right) _ _ _ _ _ _ (free-is _ _ _ _ g _ _ _ (told-of (asked free) sdr1 right .is) (free .free-place .ensures) (place .1)))
 
 returns-3 : tie.Need-returns-3
 returns-3 c sdr1 right =
     let free = c .before .before in
-    sym (map-full _ _ _ _ refl _ _ _ _ (none free sdr1 right)
+    sym (map-full _ _ _ (none free sdr1 right) _ _ _ _
     (free-is _ _ _ _ (told-of (asked free) sdr1 right .at) _ _ _ (told-of (asked free) sdr1 right .is) (free .free-place .ensures) (c .enum-told .given .1)))
 
 pub map-page-spec : {M : Type 1} → statement M

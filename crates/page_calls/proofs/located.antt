@@ -1,2 +1,0 @@
--- What the proofs of the calls that search a page's groups have in common.
-pub mod AtPage

@@ -1,0 +1,2 @@
+-- What unmap and protect have in common.
+pub mod Edited

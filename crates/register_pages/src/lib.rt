@@ -292,12 +292,20 @@ pub fn covering_pair(page: &[u8], side: bool, user: bool, address: u32) -> usize
     registers::BLOCK_PAIRS
 }
 
+// The byte of a pair of a side, which lies on the page.
+fn pair_at(size: usize, side: bool, i: usize) -> usize
+    requires { ⌜ (isPage size ≡ true) × (i < blockPairs (isLong size)) ⌝ }
+    ensures { λ r. ⌜ (r ≡ sideByte (isLong size) side + 8 * i) × (r + 8 ≤ size) ⌝ }
+{
+    side_at(size, side) + 8 * i
+}
+
 // The upper word of a pair of the page.
 pub fn upper(page: &[u8], side: bool, i: usize) -> u32
     requires { ⌜ (isPage (length (now page)) ≡ true) × (i < blockPairs (isLong (length (now page)))) ⌝ }
     ensures { λ r. ⌜ r ≡ upperOf (blockPairs true) (setWords (now (page .entry))) side i ⌝ }
 {
-    words::read_word(page, side_at(page.len(), side) + 8 * i)
+    words::read_word(page, pair_at(page.len(), side, i))
 }
 
 // The lower word of a pair of the page.
@@ -305,7 +313,7 @@ pub fn lower(page: &[u8], side: bool, i: usize) -> u32
     requires { ⌜ (isPage (length (now page)) ≡ true) × (i < blockPairs (isLong (length (now page)))) ⌝ }
     ensures { λ r. ⌜ r ≡ lowerOf (blockPairs true) (setWords (now (page .entry))) side i ⌝ }
 {
-    words::read_word(page, side_at(page.len(), side) + 8 * i + 4)
+    words::read_word(page, pair_at(page.len(), side, i) + 4)
 }
 
 // A segment register of the page.

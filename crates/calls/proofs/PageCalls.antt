@@ -18,10 +18,11 @@ use Rattle.groups.specs.Page.{Page}
 use Rattle.groups.specs.Hash.{groupNumber}
 use Rattle.groups.specs.Group as groups
 use Rattle.groups.specs.Group.{groupOf, onGroup, firstOf, putAt}
-use Rattle.matches.specs.Search.{pairMatches, contradict}
+use Rattle.matches.specs.Search.{pairMatches, contradict, merged}
 use Rattle.edits.specs.Edit as edits
 use Rattle.edits.specs.Edit.{edited, editMatches}
 use Rattle.edits.specs.declared.Edit.{Edit}
+use Rattle.edits.specs.declared.Edit.the-variants.{Clear, Protect}
 use Rattle.groups.specs.declared.Place.{Place}
 use Rattle.groups.specs.declared.Place.the-variants.{Entry, Full}
 use Rattle.groups.proofs.Hash.{own-groups-differ}
@@ -29,7 +30,7 @@ use Rattle.edits.proofs.Edits.{edit-both-each}
 use Rattle.tables.specs.Matches.{Match}
 use Rattle.tables.specs.Layout.{freeEntry, freePlace, matchesOf, overwrite, overwriteEach}
 use Rattle.calls.specs.Request.{ClearCall, MapCall, ProtectCall, AnsweredCall, Request, clear, mapPage, unmap, protect, look, sdr1In, fed}
-use Rattle.calls.specs.Made.{toMap, toLook}
+use Rattle.calls.specs.Made.{toMap, toUnmap, toProtect, toLook}
 use Rattle.calls.specs.Rules.{pageInRange, mapInRange, tableRules, rules, refusal}
 use Rattle.calls.specs.Answers.{wordAnswer, refusedBytes, answerRefused}
 use Rattle.calls.specs.OnBytes.{layout, Ended, ended, entryWord, bytesDo, onBytes}
@@ -243,10 +244,10 @@ module _ (k : ℕ) (t : List ℕ) (page : Page) where
       ∙ each (edited edit) _ t
       ∙ ap (λ (ms : List Match). overwriteEach (layout k) page (edited edit) ms t) (sym (matches-by-groups k t page))
 
-  pub own-are : (ms : List Match) → pageMatches ≡ ms → matchesOf (layout k) t page ≡ ms
+  own-are : (ms : List Match) → pageMatches ≡ ms → matchesOf (layout k) t page ≡ ms
   own-are ms e = matches-by-groups k t page ∙ e
 
-  -- map and look of a page with no match
+  -- map, unmap, protect and look of a page with no match
   module _ (none : pageMatches ≡ []) where
     module _ (sdr1 rpn wimg pp : ℕ) where
       pub map-full : groups.firstFreePlace (ownGroup false) (ownGroup true) ≡ Full → bytesDo k (toMap sdr1 page rpn wimg pp) t ≡ ended 9 t []
@@ -258,6 +259,14 @@ module _ (k : ℕ) (t : List ℕ) (page : Page) where
           ≡ ended 0 (putAt t (groupNumber (10 + k) secondary page) i (entryWord secondary page) (secondWord rpn 0 0 wimg pp)) []
       unfolding bytesDo
       map-placed secondary i place = rw (own-are [] none, free-place-is, place)
+
+    pub unmap-missing : (sdr1 : ℕ) (answer : List ℕ) → bytesDo k (toUnmap sdr1 page answer) t ≡ ended 8 t (wordAnswer 8 0)
+    unfolding bytesDo
+    unmap-missing sdr1 answer = rw (own-are [] none)
+
+    pub protect-missing : (sdr1 pp : ℕ) → bytesDo k (toProtect sdr1 page pp) t ≡ ended 8 t []
+    unfolding bytesDo
+    protect-missing sdr1 pp = rw (own-are [] none)
 
     pub look-missing : (sdr1 : ℕ) (answer : List ℕ) → bytesDo k (toLook sdr1 page answer) t ≡ ended 8 t (wordAnswer 8 0)
     unfolding bytesDo
@@ -276,3 +285,21 @@ module _ (k : ℕ) (t : List ℕ) (page : Page) where
     pub look-done : (sdr1 : ℕ) (answer : List ℕ) → contradict x xs ≡ false → bytesDo k (toLook sdr1 page answer) t ≡ ended 0 t (wordAnswer 0 (x .second))
     unfolding bytesDo
     look-done sdr1 answer d = rw (own-are (x ∷ xs) are, d)
+
+  -- what an edit of every match leaves, of a page whose groups lie in the table: the table, and a word with the marks of all
+  pub record AllEdited (edit : Edit) (u : List ℕ) (word : ℕ) : Type 0 where
+    pub x : Match
+    pub xs : List Match
+    pub are : pageMatches ≡ x ∷ xs
+    pub inside : (b : Bool) → 64 * groupNumber (10 + k) b page + 64 ≤ length t
+    pub table-is : u ≡ editedBoth edit
+    pub word-is : word ≡ merged x xs
+
+  pub unmap-done : (sdr1 : ℕ) (answer u : List ℕ) (word : ℕ) → AllEdited Clear u word → ended 0 u (wordAnswer 0 word) ≡ bytesDo k (toUnmap sdr1 page answer) t
+  unfolding bytesDo edited
+  unmap-done sdr1 answer u word e =
+      rw (e .table-is, e .word-is, edit-is Clear (e .inside), own-are (e .x ∷ e .xs) (e .are))
+
+  pub protect-done : (sdr1 pp : ℕ) (u : List ℕ) (word : ℕ) → AllEdited (Protect pp) u word → ended 0 u [] ≡ bytesDo k (toProtect sdr1 page pp) t
+  unfolding bytesDo edited
+  protect-done sdr1 pp u word e = rw (e .table-is, edit-is (Protect pp) (e .inside), own-are (e .x ∷ e .xs) (e .are))

@@ -1,3 +1,2 @@
 -- What the calls on one page have in common, for the crates above.
 pub mod Searched
-pub mod Edited

@@ -26,7 +26,7 @@ use Rattle.edits.specs.Edit.{editAt, editPair}
 use Rattle.edits.specs.declared.Edit.{Edit}
 use Rattle.edits.proofs.Alone.{entry-is, edit-alone}
 use Rattle.calls.specs.OnBytes.{entryWord}
-use Rattle.calls.proofs.PageCalls.{Kept, ownGroup, pageMatches, editedBoth}
+use Rattle.calls.proofs.PageCalls.{Kept, ownGroup, pageMatches, editedBoth, AllEdited}
 
 -- a free place is one of a group's eight entries
 pub place-lt : (p s : List ℕ) (b : Bool) (i : ℕ) → firstFreePlace p s ≡ Entry b i → i < 8
@@ -150,11 +150,18 @@ module _ (sdr1 : ℕ) (page : Page) (t : List ℕ) (l : Located) where
         pub all-edited : (edit : Edit) (u : List ℕ) (word : ℕ)
             → ((vsid api : ℕ) → WantedWord false vsid api (l .wanted) → (u ≡ editPair edit vsid api (l .primary) (l .secondary) t)
             × (word ≡ marksOf (pairMatches vsid api (groupOf t (l .primary)) (groupOf t (l .secondary))) (both .second)))
-            → (u ≡ editedBoth k t page edit) × (word ≡ merged (f .x) (f .xs))
+            → AllEdited k t page edit u word
         unfolding merged
         all-edited edit u word edits =
             let done = edits (page .vsid) (apiOf (page .index)) (at .wants) in
-            (done .0 ∙ edit-is edit, done .1 ∙ ap₂ marksOf (f .in-groups) (f .word))
+            record {
+              x = f .x;
+              xs = f .xs;
+              are = f .are;
+              inside = at .both-in;
+              table-is = done .0 ∙ edit-is edit;
+              word-is = done .1 ∙ ap₂ marksOf (f .in-groups) (f .word);
+            }
 
         -- the entry that was found, by its group and number there
         module _ (b : Bool) (i g : ℕ) (in-group : (m : Match) (ms : List Match) (free : ℕ) → both ≡ told (m ∷ ms) free → b ≡ m .secondary)
@@ -181,16 +188,22 @@ module _ (sdr1 : ℕ) (page : Page) (t : List ℕ) (l : Located) where
           -- where there is no other, its edit is the edit of the page's groups, and its word has the marks of all
           pub alone-edited : (several : Bool) → ((m : Match) (ms : List Match) (free : ℕ) → both ≡ told (m ∷ ms) free → several ≡ anyMatch each ms) → several ≡ false
               → (edit : Edit) (u : List ℕ) (word : ℕ) → (u ≡ editAt edit t g i) × (word ≡ secondOf t g i)
-              → (u ≡ editedBoth k t page edit) × (word ≡ merged (f .x) (f .xs))
+              → AllEdited k t page edit u word
           alone-edited several tells none edit u word edits =
-              let single : f .xs ≡ [] = alone (f .xs) (sym (tells (f .x) (f .xs) pageFree (f .tells)) ∙ none) in (
-                edits .0
+              let single : f .xs ≡ [] = alone (f .xs) (sym (tells (f .x) (f .xs) pageFree (f .tells)) ∙ none) in
+              record {
+                x = f .x;
+                xs = f .xs;
+                are = f .are;
+                inside = at .both-in;
+                table-is =
+                    edits .0
                     ∙ ap₂ (editAt edit t) side-is number-is
                     ∙ edit-alone edit (page .vsid) (apiOf (page .index)) (l .primary) (l .secondary) t (f .x) (f .in-groups ∙ ap (λ (ms : List Match). f .x ∷ ms) single)
                     (at .primary-in) (at .secondary-in) (at .apart)
-                    ∙ edit-is edit,
-                edits .1 ∙ ap₂ (secondOf t) side-is number-is ∙ words .2 ∙ sym (merged-one (f .x)) ∙ ap (merged (f .x)) (sym single),
-              )
+                    ∙ edit-is edit;
+                word-is = edits .1 ∙ ap₂ (secondOf t) side-is number-is ∙ words .2 ∙ sym (merged-one (f .x)) ∙ ap (merged (f .x)) (sym single);
+              }
 
 -- what the search of the two groups asks
 module _ (page : Page) (t : List ℕ) (l : Located) (table : SomeTable (length t)) (fits : InRange page) (locates : (k : ℕ) → length t ≡ 65536 * 2 ^ k → l ≡ located k page) where
@@ -211,11 +224,16 @@ module _ (sdr1 : ℕ) (page : Page) (t : List ℕ) (l : Located) (both : Told) (
     pub unmatched : some ≡ false → pageMatches (maskOnes sdr1) t page ≡ []
     pub matched : some ≡ true → First sdr1 page t l at both is
 
-  pub known : (primary : Told) → TableOf sdr1 (length t) → InRange page → ((k : ℕ) → length t ≡ 65536 * 2 ^ k → l ≡ located k page)
+-- the same for any SDR1 that the table's length is right for
+module _ (page : Page) (t : List ℕ) (l : Located) (both : Told) (some : Bool) where
+  abbrev pub KnownOf : Type 0
+  KnownOf = (sdr1 : ℕ) → TableOf sdr1 (length t) → Known sdr1 page t l both some
+
+  pub known : (primary : Told) → InRange page → ((k : ℕ) → length t ≡ 65536 * 2 ^ k → l ≡ located k page)
       → ((vsid api : ℕ) → WantedWord false vsid api (l .wanted) → primary ≡ inPrimary vsid api (groupOf t (l .primary)))
       → ((vsid api : ℕ) (group : List ℕ) → WantedWord false vsid api (l .wanted) → primary ≡ inPrimary vsid api group → both ≡ inBoth vsid api group (groupOf t (l .secondary)))
-      → ((ms : List Match) (free : ℕ) → both ≡ told ms free → some ≡ anyMatch each ms) → Known
-  known primary right fits locates one two any =
+      → ((ms : List Match) (free : ℕ) → both ≡ told ms free → some ≡ anyMatch each ms) → KnownOf
+  known primary fits locates one two any sdr1 right =
       let at = at-groups sdr1 page t l right fits locates in
       let is = told-is sdr1 page t l at primary both one two in
       let some-is = sym (any (pageMatches (maskOnes sdr1) t page) _ is) in

@@ -9,12 +9,10 @@ ghost use Rattle.registers.specs.Rules.{firstBroken};
 ghost use Rattle.register_words.specs.Sdr1.{maskOnes};
 ghost use Rattle.groups.specs.Page.{InRange};
 ghost use Rattle.groups.specs.Hash.{TableOf, SomeTable};
-ghost use Rattle.edits.specs.Edit.{EditFits};
 ghost use Rattle.calls.specs.Request.{mapPage, unmap, protect, look};
 ghost use Rattle.calls.specs.Rules.{pageInRange, mapInRange, tableRules};
 ghost use Rattle.calls.specs.Answers.{wordAnswer};
 ghost use Rattle.calls.specs.OnBytes.{ended, bytesDo};
-ghost use Rattle.page_calls.specs.Edited.{editPage};
 
 // What unmap and look answer: the result number and the second entry word.
 pub struct WordAnswer {
@@ -89,11 +87,11 @@ pub fn map_page(vsid: u32, index: u32, rpn: u32, wimg: u32, pp: u32, table: &mut
     }
 }
 
-// Edits each match of a page. The answer is the first one's second word as it was, with the marks of all.
-fn edit_page(vsid: u32, index: u32, edit: edits::Edit, table: &mut [u8]) -> WordAnswer
-    requires { ⌜ SomeTable (length (now table)) × InRange (record { vsid = vsid; index = index }) × EditFits edit ⌝ }
-    ensures { λ r. ⌜ ((sdr1 : ℕ) → TableOf sdr1 (length (now (table .entry)))
-        → (r, now (table .exit)) ≡ editPage (maskOnes sdr1) edit (record { vsid = vsid; index = index }) (now (table .entry))) ⌝ }
+// Unmaps a page: each match becomes eight zero bytes.
+pub fn unmap_page(vsid: u32, index: u32, table: &mut [u8]) -> WordAnswer
+    requires { ⌜ SomeTable (length (now table)) × InRange (record { vsid = vsid; index = index }) ⌝ }
+    ensures { λ r. ⌜ ((sdr1 : ℕ) → TableOf sdr1 (length (now (table .entry))) → ended (r .result) (now (table .exit)) (wordAnswer (r .result) (r .word))
+        ≡ bytesDo (maskOnes sdr1) (unmap (record { sdr1 = sdr1; page = record { vsid = vsid; index = index }; answer = [] })) (now (table .entry))) ⌝ }
 {
     let page = groups::locate(table.len(), vsid, index);
     let primary = matches::in_primary(table, page);
@@ -104,6 +102,7 @@ fn edit_page(vsid: u32, index: u32, edit: edits::Edit, table: &mut [u8]) -> Word
             word: 0,
         };
     }
+    let edit = edits::Edit::Clear;
     let word = if told.several() {
         edits::edit_both(table, page, told.second, edit)
     } else {
@@ -115,22 +114,25 @@ fn edit_page(vsid: u32, index: u32, edit: edits::Edit, table: &mut [u8]) -> Word
     }
 }
 
-// Unmaps a page: each match becomes eight zero bytes.
-pub fn unmap_page(vsid: u32, index: u32, table: &mut [u8]) -> WordAnswer
-    requires { ⌜ SomeTable (length (now table)) × InRange (record { vsid = vsid; index = index }) ⌝ }
-    ensures { λ r. ⌜ ((sdr1 : ℕ) → TableOf sdr1 (length (now (table .entry))) → ended (r .result) (now (table .exit)) (wordAnswer (r .result) (r .word))
-        ≡ bytesDo (maskOnes sdr1) (unmap (record { sdr1 = sdr1; page = record { vsid = vsid; index = index }; answer = [] })) (now (table .entry))) ⌝ }
-{
-    edit_page(vsid, index, edits::Edit::Clear, table)
-}
-
 // Puts another PP into each match of a page.
 pub fn protect_page(vsid: u32, index: u32, pp: u32, table: &mut [u8]) -> u32
     requires { ⌜ SomeTable (length (now table)) × InRange (record { vsid = vsid; index = index }) × (pp < 2 ^ 2) ⌝ }
     ensures { λ r. ⌜ ((sdr1 : ℕ) → TableOf sdr1 (length (now (table .entry))) → ended r (now (table .exit)) []
         ≡ bytesDo (maskOnes sdr1) (protect (record { sdr1 = sdr1; page = record { vsid = vsid; index = index }; pp = pp })) (now (table .entry))) ⌝ }
 {
-    edit_page(vsid, index, edits::Edit::Protect(pp), table).result
+    let page = groups::locate(table.len(), vsid, index);
+    let primary = matches::in_primary(table, page);
+    let told = matches::in_secondary(table, page, primary);
+    if !told.any() {
+        return numbers::REFUSED_NO_MATCH;
+    }
+    let edit = edits::Edit::Protect(pp);
+    if told.several() {
+        edits::edit_both(table, page, told.second, edit);
+    } else {
+        edits::edit_entry(table, page.group(told.in_secondary()), told.entry(), edit);
+    }
+    numbers::DONE
 }
 
 // Looks a page up.

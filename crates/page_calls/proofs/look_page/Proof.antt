@@ -3,12 +3,11 @@ use mathlib.Core.Path.{sym, ap, _∙_}
 use Prim.Native.Nat.{ℕ}
 use lib.ListN.{length}
 use borrow.Author.Tests.{not-true, not-false}
-use Rattle.groups.specs.Page.{Page}
 use Rattle.groups.specs.Hash.{TableOf}
 use Rattle.calls.specs.Answers.{wordAnswer}
 use Rattle.calls.specs.OnBytes.{ended}
 use Rattle.calls.proofs.PageCalls.{look-missing, look-contradicted, look-done}
-use Rattle.page_calls.proofs.Searched.{locatable, primary-asked, secondary-asked, Known, known, First, differs-is}
+use Rattle.page_calls.proofs.Searched.{locatable, primary-asked, secondary-asked, KnownOf, known, First, differs-is}
 use borrow.Author.Needs.{needs}
 use Rattle.page_calls.proofs.look_page.Statement.{statement}
 use Rattle.page_calls.proofs.look_page.Tie as tie
@@ -24,12 +23,8 @@ module _ (c : tie.After-any) where
   abbrev begin : tie.Start
   begin = at .before .before
 
-  abbrev page : Page
-  page = record { vsid = begin .args .vsid; index = begin .args .index }
-
-  told-of : (sdr1 : ℕ) → TableOf sdr1 (length (begin .args .table .now))
-      → Known sdr1 page (begin .args .table .now) (at .locate .result) (c .before .in-secondary .result) (c .any .result)
-  told-of sdr1 right = known sdr1 page _ _ _ _ _ right (begin .pre .1) (at .locate .ensures) (searched .in-primary .ensures) (c .before .in-secondary .ensures) (c .any .ensures)
+  told-of : KnownOf (record { vsid = begin .args .vsid; index = begin .args .index }) (begin .args .table .now) (at .locate .result) (c .before .in-secondary .result) (c .any .result)
+  told-of = known _ _ _ _ _ _ (begin .pre .1) (at .locate .ensures) (searched .in-primary .ensures) (c .before .in-secondary .ensures) (c .any .ensures)
 
 -- there is a match
 leader : (c : tie.After-differs) (sdr1 : ℕ) (right : TableOf sdr1 (length (begin (c .before .before) .args .table .now)))

@@ -4,12 +4,11 @@ use mathlib.Core.List.{List, []}
 use Prim.Native.Nat.{ℕ}
 use lib.ListN.{length}
 use Rattle.register_words.specs.Sdr1.{maskOnes}
-use Rattle.groups.specs.Page.{Page}
 use Rattle.groups.specs.Hash.{TableOf}
 use Rattle.entry.specs.Entry.{secondWord}
 use Rattle.calls.specs.OnBytes.{ended}
 use Rattle.calls.proofs.PageCalls.{pageMatches, map-matched, map-full, map-placed}
-use Rattle.page_calls.proofs.Searched.{locatable, primary-asked, secondary-asked, Known, known, group-inside, free-is, place-lt, placed-is}
+use Rattle.page_calls.proofs.Searched.{locatable, primary-asked, secondary-asked, KnownOf, known, group-inside, free-is, place-lt, placed-is}
 use borrow.Author.Needs.{needs}
 use Rattle.page_calls.proofs.map_page.Statement.{statement}
 use Rattle.page_calls.proofs.map_page.Tie as tie
@@ -25,19 +24,15 @@ module _ (c : tie.After-any) where
   abbrev begin : tie.Start
   begin = at .before .before
 
-  abbrev page : Page
-  page = record { vsid = begin .args .vsid; index = begin .args .index }
-
-  told-of : (sdr1 : ℕ) → TableOf sdr1 (length (begin .args .table .now))
-      → Known sdr1 page (begin .args .table .now) (at .locate .result) (c .before .in-secondary .result) (c .any .result)
-  told-of sdr1 right = known sdr1 page _ _ _ _ _ right (begin .pre .1) (at .locate .ensures) (searched .in-primary .ensures) (c .before .in-secondary .ensures) (c .any .ensures)
+  told-of : KnownOf (record { vsid = begin .args .vsid; index = begin .args .index }) (begin .args .table .now) (at .locate .result) (c .before .in-secondary .result) (c .any .result)
+  told-of = known _ _ _ _ _ _ (begin .pre .1) (at .locate .ensures) (searched .in-primary .ensures) (c .before .in-secondary .ensures) (c .any .ensures)
 
 -- the free place is that of the page's groups
 module _ (c : tie.After-free-place) where
   abbrev asked : tie.After-any
   asked = c .before .before
 
-  none : (sdr1 : ℕ) (right : TableOf sdr1 (length (begin asked .args .table .now))) → pageMatches (maskOnes sdr1) (begin asked .args .table .now) (page asked) ≡ []
+  none : (sdr1 : ℕ) (right : TableOf sdr1 (length (begin asked .args .table .now))) → pageMatches (maskOnes sdr1) (begin asked .args .table .now) (record { vsid = begin asked .args .vsid; index = begin asked .args .index }) ≡ []
   none sdr1 right = told-of asked sdr1 right .unmatched (c .before .if1 .left)
 
 -- the state before an entry is written

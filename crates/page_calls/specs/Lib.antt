@@ -1,2 +1,0 @@
--- What unmap and protect have in common.
-pub mod Edited

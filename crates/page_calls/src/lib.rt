@@ -144,20 +144,20 @@ pub fn look_page(vsid: u32, index: u32, table: &[u8]) -> WordAnswer
     let page = groups::locate(table.len(), vsid, index);
     let primary = matches::in_primary(table, page);
     let told = matches::in_secondary(table, page, primary);
-    if !told.any() {
+    if told.any() {
+        if told.differs() {
+            return WordAnswer {
+                result: numbers::REFUSED_CONTRADICTION,
+                word: 0,
+            };
+        }
         return WordAnswer {
-            result: numbers::REFUSED_NO_MATCH,
-            word: 0,
-        };
-    }
-    if told.differs() {
-        return WordAnswer {
-            result: numbers::REFUSED_CONTRADICTION,
-            word: 0,
+            result: numbers::DONE,
+            word: told.second,
         };
     }
     WordAnswer {
-        result: numbers::DONE,
-        word: told.second,
+        result: numbers::REFUSED_NO_MATCH,
+        word: 0,
     }
 }

@@ -2,7 +2,6 @@
 use mathlib.Core.Path.{sym, ap, _∙_}
 use Prim.Native.Nat.{ℕ}
 use lib.ListN.{length}
-use borrow.Author.Tests.{not-true, not-false}
 use Rattle.groups.specs.Hash.{TableOf}
 use Rattle.calls.specs.Answers.{wordAnswer}
 use Rattle.calls.specs.OnBytes.{ended}
@@ -29,22 +28,22 @@ module _ (c : tie.After-any) where
 -- there is a match
 leader : (c : tie.After-differs) (sdr1 : ℕ) (right : TableOf sdr1 (length (begin (c .before .before) .args .table .now)))
     → First _ _ _ _ (told-of (c .before .before) sdr1 right .at) _ (told-of (c .before .before) sdr1 right .is)
-leader c sdr1 right = told-of (c .before .before) sdr1 right .matched (not-false _ (c .before .if1 .left))
+leader c sdr1 right = told-of (c .before .before) sdr1 right .matched (c .before .if1 .taken)
 
 returns : tie.Need-returns
-returns c sdr1 right = sym (look-missing _ _ _ (told-of (c .before) sdr1 right .unmatched (not-true _ (c .if1 .taken))) _ _)
+returns c sdr1 right =
+    let f = leader (c .before) sdr1 right in
+    sym (look-contradicted _ _ _ _ _ (f .are) _ _ (differs-is _ _ _ _ _ _ _ f _ (c .before .differs .ensures) ∙ c .if2 .taken))
 
 returns-2 : tie.Need-returns-2
 returns-2 c sdr1 right =
     let f = leader (c .before) sdr1 right in
-    sym (look-contradicted _ _ _ _ _ (f .are) _ _ (differs-is _ _ _ _ _ _ _ f _ (c .before .differs .ensures) ∙ c .if2 .taken))
-
-returns-3 : tie.Need-returns-3
-returns-3 c sdr1 right =
-    let f = leader (c .before) sdr1 right in
     let asked = c .before .before .before in
     ap (λ (word : ℕ). ended 0 (begin asked .args .table .now) (wordAnswer 0 word)) (f .word)
     ∙ sym (look-done _ _ _ _ _ (f .are) _ _ (differs-is _ _ _ _ _ _ _ f _ (c .before .differs .ensures) ∙ c .if2 .left))
+
+returns-3 : tie.Need-returns-3
+returns-3 c sdr1 right = sym (look-missing _ _ _ (told-of (c .before) sdr1 right .unmatched (c .if1 .left)) _ _)
 
 pub look-page-spec : {M : Type 1} → statement M
 look-page-spec =
@@ -54,7 +53,7 @@ look-page-spec =
     (λ c κs. let start = c .before .before in primary-asked _ (start .args .table .now) _ (start .pre .0) (start .pre .1) (c .locate .ensures))
     (λ c κs. let located = c .before in let start = located .before .before in secondary-asked _ (start .args .table .now) _ (start .pre .0) (start .pre .1) (located .locate .ensures))
     (λ c κs. search needs)
-    returns
     (λ c κs. search needs)
+    returns
     returns-2
     returns-3)

@@ -31,7 +31,7 @@ use Rattle.calls.proofs.Access.{by-early, then-not-11}
 use Rattle.calls.proofs.AnyEntries.{by-matches, own}
 use Rattle.calls.proofs.Histories.{map-taken, map-refused, wrong-length}
 use Rattle.calls.proofs.OnBytes.{taken, refused}
-use Rattle.calls.proofs.Refusals.{refusals-leave, whole-fits}
+use Rattle.calls.proofs.Refusals.{refusals-leave, whole-past}
 use Rattle.cached_calls.proofs.Found.{by-cases, done-at}
 use Rattle.access_rights.specs.Rights.{RightsCall, asking, wouldEnd, newMarks, threeTold, rightsTold}
 use Rattle.access_rights.proofs.Marks.{unchanged-none}
@@ -72,7 +72,7 @@ module _ (c : RightsCall) (page : isPage (length (c .registers)) ≡ true) (kind
   number-not-11 t =
       let number = refusal (fed (access (asking c kind))) (length t) in
       by-test (eqb number 0)
-      (λ z. let is = taken (access (asking c kind)) t (eqb-true number 0 z) in λ e. whole-fits (asking c kind) _ _ (sym (ap (λ (x : Ended (List ℕ)). x .number) is) ∙ e))
+      (λ z. let is = taken (access (asking c kind)) t (eqb-true number 0 z) in λ e. whole-past (asking c kind) _ _ .not-11 (sym (ap (λ (x : Ended (List ℕ)). x .number) is) ∙ e))
       (λ z.
       let is = refused (access (asking c kind)) t number refl (eqb-false number 0 z) in
       λ e. refusal-not-11 (length t) (sym (ap (λ (x : Ended (List ℕ)). x .number) is) ∙ e))

@@ -18,6 +18,7 @@ use Rattle.histories.proofs.Theorem.{table-refines-map, rights-follow-h
 use Rattle.histories.proofs.Corollaries.{access-follows-history}
 use Rattle.histories.proofs.Invisible.{cache-invisible}
 use Rattle.histories.proofs.Rows.{slice-rows, waiting-rows}
+use Rattle.histories.proofs.Instances.{instance-rows}
 
 pub all-demands : Demands
 all-demands = record {
@@ -44,4 +45,5 @@ all-demands = record {
   cached-calls = cached-rows;
   slices = slice-rows;
   waiting = waiting-rows;
+  instances = instance-rows;
 }

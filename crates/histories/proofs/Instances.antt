@@ -67,6 +67,23 @@ unmap-maps-none request is (by-map m e) zero = let z : _≡_ {A = ℕ} 0 1 = cc 
 invalidate-asks-none : (index : ℕ) {number : ℕ} → AsksNoMap (invalidate index) number
 invalidate-asks-none index request is maps zero = let z : _≡_ {A = ℕ} 0 1 = cc in omega arith
 
+-- the tests of the two lists, which compute
+disciplined-under : TestedUnder disciplined
+unfolding histories-compute
+disciplined-under = refl
+
+disciplined-tested : TestedKept disciplined
+unfolding histories-compute arrangement?
+disciplined-tested = refl
+
+exceptions-under : TestedUnder exceptions
+unfolding histories-compute
+exceptions-under = refl
+
+exceptions-tested : TestedKept exceptions
+unfolding histories-compute arrangement?
+exceptions-tested = refl
+
 -- a table and a cache of these lengths
 module _ (s : State) (long : lengthsOf s ≡ sizes) where
   pub under-each : (calls : List Call) → TestedUnder calls → Each (Under 0 (lengthsOf s)) calls
@@ -104,14 +121,6 @@ module _ (s : State) (long : lengthsOf s ≡ sizes) where
 
   kept-list : (calls : List Call) → TestedUnder calls → TestedKept calls → Met calls CacheKept s
   kept-list calls e test = record { history = historyOf calls e; its-sdr1 = refl; its-start = refl; its-calls = refl; holds = kept calls e calls e test }
-
-  disciplined-kept : Met disciplined CacheKept s
-  unfolding histories-compute arrangement?
-  disciplined-kept = kept-list disciplined refl refl
-
-  exceptions-kept : Met exceptions CacheKept s
-  unfolding histories-compute arrangement?
-  exceptions-kept = kept-list exceptions refl refl
 
   -- a map of the page 16 of case 11
   in-range : (calls : List Call) (e : TestedUnder calls) → MapInRange (historyOf calls e) (mapOf 16)
@@ -228,8 +237,8 @@ module _ (s : State) (long : lengthsOf s ≡ sizes) where
 
 pub instance-rows : InstanceRows
 instance-rows = record {
-  disciplined-list = disciplined-kept;
-  both-exceptions = exceptions-kept;
+  disciplined-list = λ s long. kept-list s long disciplined disciplined-under disciplined-tested;
+  both-exceptions = λ s long. kept-list s long exceptions exceptions-under exceptions-tested;
   full-pair = full;
   room-left = room;
   unmapped-page = unmapped;

@@ -17,6 +17,7 @@ use Rattle.histories.specs.Demands.{Demands}
 use Rattle.histories.proofs.Theorem.{table-refines-map, cache-invisible, rights-follow-history}
 use Rattle.histories.proofs.Corollaries.{access-follows-history}
 use Rattle.histories.proofs.Rows.{slice-rows, waiting-rows}
+use Rattle.histories.proofs.Instances.{instance-rows}
 
 pub all-demands : Demands
 all-demands = record {
@@ -43,4 +44,5 @@ all-demands = record {
   cached-calls = cached-rows;
   slices = slice-rows;
   waiting = waiting-rows;
+  instances = instance-rows;
 }

@@ -10,6 +10,8 @@ pub mod Acts
 pub mod Standing
 pub mod Theorem
 pub mod Corollaries
+pub mod Tested
 pub mod Computes
+pub mod Instances
 pub mod Rows
 pub mod Demands

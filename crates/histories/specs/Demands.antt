@@ -18,6 +18,7 @@ use Rattle.access_rights.specs.Stated.{RightsStated}
 use Rattle.histories.specs.Theorem.{TableRefinesMap, AccessFollowsHistory, RightsFollowHistory}
 use Rattle.histories.specs.Invisible.{CacheInvisible}
 use Rattle.histories.specs.Rows.{SliceRows, WaitingRows}
+use Rattle.histories.specs.Instances.{InstanceRows}
 
 pub record Demands : Type 0 where
   -- 1: a refusal leaves what was lent; of calls with a cache that stands in what they do to any
@@ -52,3 +53,5 @@ pub record Demands : Type 0 where
   pub cached-calls : CachedRows
   pub slices : SliceRows
   pub waiting : WaitingRows
+  -- what the statements assume is met
+  pub instances : InstanceRows

@@ -6,4 +6,5 @@ pub mod Histories
 pub mod Theorem
 pub mod Invisible
 pub mod Rows
+pub mod Instances
 pub mod Demands

@@ -2,3 +2,4 @@
 pub mod Domain
 pub mod Lost
 pub mod Rows
+pub mod Instances

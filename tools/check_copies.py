@@ -6,8 +6,7 @@
     check_copies.py --self-test
 
 Imports, comments, blank lines and lone brackets do not count, and a function's name in its head does not tell it from
-another. The library are the crates that name none of `io`, `check` and `report`: the other ones are test programs. A source file
-that is a link is a copy too, and fails.
+another. Tests, whose crates begin with `test_`, are left out. A source file that is a link is a copy too, and fails.
 """
 import collections
 import re
@@ -48,10 +47,10 @@ def copies(paths):
 
 
 def library(root):
-    """The Rattle files of the crates that are no test programs."""
-    listed = [line.split("#")[0].split(":") for line in (root / "crates.txt").read_text(encoding="utf-8").splitlines() if ":" in line.split("#")[0]]
-    crates = [name.strip() for name, deps in listed if not {"io", "check", "report"} & set(deps.split())]
-    return sorted(path for crate in crates for path in (root / "crates" / crate).rglob("*") if path.suffix in (".rt", ".antt"))
+    """The Rattle files of the crates that are no tests."""
+    lines = [line.split("#")[0] for line in (root / "crates.txt").read_text(encoding="utf-8").splitlines()]
+    crates = [line.split(":")[0].strip() for line in lines if ":" in line]
+    return sorted(path for crate in crates if not crate.startswith("test_") for path in (root / "crates" / crate).rglob("*") if path.suffix in (".rt", ".antt"))
 
 
 def counted(root):
@@ -77,10 +76,10 @@ def self_test():
     with tempfile.TemporaryDirectory() as folder:
         root = Path(folder)
         body = "".join(f"    step({number});\n" for number in range(RUN - 1))
-        for name, text in {"low": f"pub fn one() {{\n{body}}}\n", "high": f"// A remark.\nuse low;\nfn two() {{\n{body}}}\n", "other": f"fn two(a: u32) {{\n{body}}}\n"}.items():
+        for name, text in {"low": f"pub fn one() {{\n{body}}}\n", "high": f"// A remark.\nuse low;\nfn two() {{\n{body}}}\n", "test_other": f"fn two(a: u32) {{\n{body}}}\n"}.items():
             (root / "crates" / name / "src").mkdir(parents=True)
             (root / "crates" / name / "src" / "lib.rt").write_text(text, encoding="utf-8")
-        (root / "crates.txt").write_text("low: # the lowest\nhigh: low\nother: low check io\n", encoding="utf-8")
+        (root / "crates.txt").write_text("low: # the lowest\nhigh: low\ntest_other: low check io\n", encoding="utf-8")
         code, whole, pairs, links = counted(root)
         right = (code, whole, len(pairs), links) == (2 * RUN, 2 * RUN, 1, [])
         (root / "crates" / "high" / "src" / "more.rt").symlink_to("lib.rt")

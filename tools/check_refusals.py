@@ -238,7 +238,7 @@ def self_test():
     wrong += [edit for wanted, edit in EDITS if (fault(Edit(edit)) is None) != wanted]
     wrong += [edit for wanted, edit in RULES if (breach(Edit(edit), {"Rows"}) is None) != wanted]
     whole = [sample("mmu", "src", "call: mmu_map"), sample("page_calls", "src", "call: mmu_map")]
-    both = [sample("calls", area, f"{key}: {number}") for area in ("src", "specs") for key, last in (("machine", 6), ("reading", 5)) for number in range(1, last + 1)]
+    both = [sample("theory_calls", area, f"{key}: {number}") for area in ("src", "specs") for key, last in (("machine", 6), ("reading", 5)) for number in range(1, last + 1)]
     if lacking(whole + both, ["mmu_map"]):
         wrong.append("edits that lack nothing")
     if len(lacking(whole[:1] + both[1:], ["mmu_map"])) != 2 or len(lacking(whole[:1] * 2 + both[:-1], ["mmu_map"])) != 2:

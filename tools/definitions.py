@@ -25,14 +25,14 @@ PAGE = os.path.join(TOP, "docs", "DEFINITIONS.md")
 
 # What the contracts cite, and the statements.
 START = [
-    ("calls", "OnBytes", ["ended", "onBytes"]),
-    ("calls", "WithoutTable", ["checkCall", "setRegisterCall", "packCall", "unpackCall"]),
+    ("theory_calls", "OnBytes", ["ended", "onBytes"]),
+    ("theory_calls", "WithoutTable", ["checkCall", "setRegisterCall", "packCall", "unpackCall"]),
     ("access_rights", "Rights", ["rightsCall"]),
-    ("cached_calls", "Cached", ["onCached", "invalidateCall"]),
-    ("histories", "Demands", ["Demands"]),
-    ("lost_call", "Lost", ["OneLostCall"]),
+    ("theory_cache", "Cached", ["onCached", "invalidateCall"]),
+    ("theory_histories", "Demands", ["Demands"]),
+    ("theory_lost_call", "Lost", ["OneLostCall"]),
 ]
-ROWS = {"Tables", "PageRows", "OperandRows", "FourGroups", "Rows", "Cases"}
+ROWS = {"Examples", "Instances", "PageRows", "OperandRows", "FourGroups", "Rows", "Cases"}
 STATEMENTS = "Statements"
 ORDER = [
     ("Numbers", ["numbers/Numbers"]),
@@ -40,13 +40,13 @@ ORDER = [
     ("Entries", ["entry/Entry"]),
     ("Registers", ["register_words/Sdr1", "register_words/Segment", "register_words/Block", "registers/Rules", "registers/Set"]),
     ("Access", ["protection/Access", "protection/Protection", "protection/Fault", "translation/Steps", "translation/Decision", "translation/Operand"]),
-    ("Groups and matches", ["groups/Page", "groups/Hash", "groups/Group", "tables/Matches", "tables/Layout", "matches/Search"]),
-    ("Calls on bytes", ["calls/Request", "calls/Made", "calls/Rules", "calls/Answers", "calls/OnBytes", "calls/Lent", "calls/WithoutTable", "access_rights/Rights"]),
-    ("Calls with a cache", ["cache/Cache", "cached_calls/Cached"]),
-    ("The finite map", ["placement/Lists", "placement/FiniteMap", "placement/Placement", "calls/OnMap"]),
-    ("The list", ["tables/Runs", "histories/Calls", "histories/Fed", "histories/Discipline"]),
-    (STATEMENTS, ["entry/RoundTrip", "registers/Blocks", "registers/Check", "translation/Stated", "calls/AnyTable", "calls/Refusals", "calls/Arguments", "calls/Widened", "calls/Represents", "access_rights/Stated", "cache/Placed",
-        "cached_calls/Shown", "cached_calls/AnyCache", "calls/FirstClear", "histories/Histories", "histories/Theorem", "histories/Invisible", "histories/Demands", "lost_call/Lost"]),
+    ("Groups and matches", ["groups/Page", "groups/Hash", "groups/Group", "theory_tables/Matches", "theory_tables/Layout", "matches/Search"]),
+    ("Calls on bytes", ["theory_calls/Request", "theory_calls/Made", "theory_calls/Rules", "theory_calls/Answers", "theory_calls/OnBytes", "theory_calls/Lent", "theory_calls/WithoutTable", "access_rights/Rights"]),
+    ("Calls with a cache", ["cache/Cache", "theory_cache/Cached"]),
+    ("The finite map", ["theory_placement/Lists", "theory_placement/FiniteMap", "theory_placement/Placement", "theory_calls/OnMap"]),
+    ("The list", ["theory_tables/Runs", "theory_histories/Calls", "theory_histories/Fed", "theory_histories/Discipline"]),
+    (STATEMENTS, ["entry/RoundTrip", "registers/Blocks", "registers/Check", "translation/Stated", "theory_calls/AnyTable", "theory_calls/Refusals", "theory_calls/Arguments", "theory_calls/Widened", "theory_calls/Represents", "access_rights/Stated", "cache/Placed",
+        "theory_cache/Shown", "theory_cache/AnyCache", "theory_calls/FirstClear", "theory_histories/Histories", "theory_histories/Theorem", "theory_histories/Invisible", "theory_histories/Demands", "theory_lost_call/Lost"]),
 ]
 
 WORD = re.compile(r"[^\s(){},;.]+")

@@ -20,7 +20,7 @@ sys.path.insert(0, os.path.dirname(os.path.abspath(__file__)))
 from definitions import HEAD, ORDER, ROWS, STATEMENTS, blocks_of, is_text  # noqa: E402
 
 TOP = os.path.join(os.path.dirname(os.path.abspath(__file__)), "..")
-PROGRAMS = {"report"}
+PROGRAMS = {"test_report"}
 STATED = {place for title, places in ORDER if title == STATEMENTS for place in places}
 FUNCTION = re.compile(r"^impl (?P<owner>\w+)|^(?P<indent> *)(?:pub )?(?:extern \"C\" )?fn (?P<name>\w+)(?P<head>.*?)^(?P=indent)\{\n(?P<body>.*?)^(?P=indent)\}", re.M | re.S)
 KINDS = ["definitions", "statements", "rows", "contracts", "code", "proofs"]

@@ -74,7 +74,7 @@ try_edits() {
 
 # An edit of the smallest crate is refused, a changed comment is not, and a label that does not exist is told.
 self_test() {
-    local crate=placement edits source comment
+    local crate=theory_placement edits source comment
     edits=("crates/$crate"/must-fail/*.edit)
     try_edits "$crate" "$(basename "${edits[0]}" .edit)" > "$work/first" || { cat "$work/first"; exit 1; }
     [ "$(grep -c 'must-fail .*: refused, as it must be' "$work/first")" = 1 ] || { cat "$work/first"; exit 1; }

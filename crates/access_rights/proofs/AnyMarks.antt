@@ -12,21 +12,21 @@ use Rattle.words.proofs.Tests.{by-test}
 use Rattle.entry.specs.Entry.{withMarks}
 use Rattle.register_words.specs.Sdr1.{maskOnes}
 use Rattle.groups.proofs.Stored.{stored-own}
-use Rattle.tables.specs.Matches.{Match}
-use Rattle.tables.specs.Layout.{overwrite}
+use Rattle.theory_tables.specs.Matches.{Match}
+use Rattle.theory_tables.specs.Layout.{overwrite}
 use Rattle.protection.specs.Access.{storing}
 use Rattle.translation.specs.declared.Early.the-variants.{Decided, Search}
 use Rattle.translation.specs.declared.Wanted.{Wanted}
-use Rattle.calls.specs.Request.{access, sdr1In, fed}
-use Rattle.calls.specs.Rules.{refusal}
-use Rattle.calls.specs.OnBytes.{layout, earlyOf, partAnswer, wantedPage, searchIn}
-use Rattle.calls.specs.AnyTable.{groupAt, Taken}
-use Rattle.calls.proofs.OnBytes.{refused}
-use Rattle.calls.proofs.Access.{by-early, unmarked-decided}
-use Rattle.calls.proofs.AnyEntries.{by-matches, own, head-is}
-use Rattle.calls.proofs.TwoMarks.{mark-first, mark-none, own-match}
-use Rattle.calls.proofs.TakenCalls.{number-of, state-of}
-use Rattle.calls.proofs.Refusals.{refusals-leave}
+use Rattle.theory_calls.specs.Request.{access, sdr1In, fed}
+use Rattle.theory_calls.specs.Rules.{refusal}
+use Rattle.theory_calls.specs.OnBytes.{layout, earlyOf, partAnswer, wantedPage, searchIn}
+use Rattle.theory_calls.specs.AnyTable.{groupAt, Taken}
+use Rattle.theory_calls.proofs.OnBytes.{refused}
+use Rattle.theory_calls.proofs.Access.{by-early, unmarked-decided}
+use Rattle.theory_calls.proofs.AnyEntries.{by-matches, own, head-is}
+use Rattle.theory_calls.proofs.TwoMarks.{mark-first, mark-none, own-match}
+use Rattle.theory_calls.proofs.TakenCalls.{number-of, state-of}
+use Rattle.theory_calls.proofs.Refusals.{refusals-leave}
 use Rattle.access_rights.specs.Rights.{RightsCall, asking, wouldEnd, newMarks}
 use Rattle.access_rights.specs.Stated.{newlySet, MarksOnAny}
 use Rattle.access_rights.proofs.Marks.{marks-grow, unchanged-none, ends-done, ends-stopped, page-marks}

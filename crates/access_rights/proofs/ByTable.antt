@@ -3,14 +3,14 @@ use Prim.Native.Nat.{ℕ}
 use mathlib.Core.Path.{_≡_, refl, sym, ap, _∙_}
 use mathlib.Core.List.{List, _∷_}
 use Rattle.numbers.specs.Numbers.{groupEntries}
-use Rattle.tables.specs.Matches.{Match}
-use Rattle.tables.specs.Layout.{matchesOf}
+use Rattle.theory_tables.specs.Matches.{Match}
+use Rattle.theory_tables.specs.Layout.{matchesOf}
 use Rattle.translation.specs.Steps.{afterSearch, outcomeOf, answerOf}
 use Rattle.translation.specs.Decision.{decisionOf}
 use Rattle.translation.specs.declared.Early.{Early}
 use Rattle.translation.specs.declared.Early.the-variants.{Decided, Search}
 use Rattle.translation.proofs.Steps.{outcome-decided, outcome-searched}
-use Rattle.calls.specs.OnBytes.{layout, usedBy, wantedPage, searchIn, firstPlaceIn}
+use Rattle.theory_calls.specs.OnBytes.{layout, usedBy, wantedPage, searchIn, firstPlaceIn}
 use Rattle.table_access.specs.Part.{tableFound, partBy}
 use Rattle.table_access.specs.declared.Found.{Found}
 use Rattle.table_access.specs.declared.Part.{Part}

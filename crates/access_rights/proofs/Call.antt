@@ -8,10 +8,10 @@ use lib.ListN.{length}
 use Rattle.words.specs.Words.{bytesOf}
 use Rattle.register_words.specs.Block.{blWidth}
 use Rattle.registers.specs.Set.{isPage, isLong, blockPairs, registerWords}
-use Rattle.calls.specs.Request.{access, fed}
-use Rattle.calls.specs.Rules.{rules, refusal}
-use Rattle.calls.specs.Answers.{accessAnswer}
-use Rattle.calls.proofs.Access.{then-not-11}
+use Rattle.theory_calls.specs.Request.{access, fed}
+use Rattle.theory_calls.specs.Rules.{rules, refusal}
+use Rattle.theory_calls.specs.Answers.{accessAnswer}
+use Rattle.theory_calls.proofs.Access.{then-not-11}
 use Rattle.access_rights.specs.Rights.{RightsCall, asking, rightsTold, rightsRefusal, rightsCall}
 use Rattle.access_rights.specs.Held.{TellsAll}
 use Rattle.access_rights.specs.declared.Rights.{Rights}

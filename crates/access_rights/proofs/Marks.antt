@@ -16,7 +16,7 @@ use Rattle.register_words.specs.Sdr1.{sdr1Shape, maskOnes}
 use Rattle.register_words.proofs.Sdr1.{ones-at-most-9}
 use Rattle.groups.specs.Group.{secondOf}
 use Rattle.groups.proofs.Hash.{group-lt}
-use Rattle.tables.specs.Matches.{Match}
+use Rattle.theory_tables.specs.Matches.{Match}
 use Rattle.protection.specs.Access.{storing}
 use Rattle.translation.specs.Steps.{outcomeOf, answerOf}
 use Rattle.translation.specs.Decision.{byEntry, keyAndPP, decisionOf}
@@ -31,16 +31,16 @@ use Rattle.translation.specs.declared.Searched.the-variants.{Nothing, At}
 use Rattle.translation.specs.declared.Wanted.{Wanted}
 use Rattle.translation.proofs.Steps.{done-passes}
 use Rattle.translation.proofs.Parts.{first-stops, one-done}
-use Rattle.calls.specs.Request.{AccessCall, access, sdr1In, fed}
-use Rattle.calls.specs.Answers.{accessAnswer}
-use Rattle.calls.specs.OnBytes.{Ended, ended, byMatches, startOf, earlyOf, partAnswer, partDecision, usedBy, wantedPage, searched, searchIn, firstPlaceIn, markedBy, bytesDo, onBytes}
-use Rattle.calls.specs.AnyTable.{groupAt, Taken}
-use Rattle.calls.proofs.Rules.{fitting}
-use Rattle.calls.proofs.Histories.{sdr1-fed}
-use Rattle.calls.proofs.TakenCalls.{good-table, does, state-of}
-use Rattle.calls.proofs.Access.{by-early, late-done, unmarked, unmarked-decided}
-use Rattle.calls.proofs.AnyEntries.{by-matches, own, first-of}
-use Rattle.calls.proofs.TwoMarks.{mark-reads, own-match}
+use Rattle.theory_calls.specs.Request.{AccessCall, access, sdr1In, fed}
+use Rattle.theory_calls.specs.Answers.{accessAnswer}
+use Rattle.theory_calls.specs.OnBytes.{Ended, ended, byMatches, startOf, earlyOf, partAnswer, partDecision, usedBy, wantedPage, searched, searchIn, firstPlaceIn, markedBy, bytesDo, onBytes}
+use Rattle.theory_calls.specs.AnyTable.{groupAt, Taken}
+use Rattle.theory_calls.proofs.Rules.{fitting}
+use Rattle.theory_calls.proofs.Histories.{sdr1-fed}
+use Rattle.theory_calls.proofs.TakenCalls.{good-table, does, state-of}
+use Rattle.theory_calls.proofs.Access.{by-early, late-done, unmarked, unmarked-decided}
+use Rattle.theory_calls.proofs.AnyEntries.{by-matches, own, first-of}
+use Rattle.theory_calls.proofs.TwoMarks.{mark-reads, own-match}
 use Rattle.access_rights.proofs.ByTable.{OfFirst, ByTable}
 use Rattle.table_access.specs.declared.Part.{Part}
 use Rattle.access_rights.specs.Rights.{newMarks}

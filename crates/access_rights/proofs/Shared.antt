@@ -18,14 +18,14 @@ use Rattle.translation.specs.Operand.{overEdge, partStart, stopped, within}
 use Rattle.translation.specs.declared.Answer.{Answer}
 use Rattle.translation.specs.declared.decision.Decision.{Decision}
 use Rattle.translation.proofs.Parts.{one-part}
-use Rattle.calls.specs.Request.{access, sdr1In, fed}
-use Rattle.calls.specs.Rules.{rules, refusal}
-use Rattle.calls.specs.Answers.{accessAnswer}
-use Rattle.calls.specs.OnBytes.{ended, startOf, earlyOf}
-use Rattle.calls.specs.AnyTable.{Taken}
-use Rattle.calls.proofs.Access.{rulesThen, then-kept, access-refused}
-use Rattle.calls.proofs.TakenCalls.{state-of, answer-of}
-use Rattle.calls.proofs.Pages.{sdr1-set, early-set}
+use Rattle.theory_calls.specs.Request.{access, sdr1In, fed}
+use Rattle.theory_calls.specs.Rules.{rules, refusal}
+use Rattle.theory_calls.specs.Answers.{accessAnswer}
+use Rattle.theory_calls.specs.OnBytes.{ended, startOf, earlyOf}
+use Rattle.theory_calls.specs.AnyTable.{Taken}
+use Rattle.theory_calls.proofs.Access.{rulesThen, then-kept, access-refused}
+use Rattle.theory_calls.proofs.TakenCalls.{state-of, answer-of}
+use Rattle.theory_calls.proofs.Pages.{sdr1-set, early-set}
 use Rattle.groups.specs.Hash.{TableOf}
 use Rattle.table_access.specs.declared.Part.{Part}
 use Rattle.access_rights.specs.Rights.{RightsCall, asking, wouldEnd}

@@ -15,12 +15,12 @@ use Rattle.registers.specs.Rules.{firstBroken}
 use Rattle.register_words.specs.Sdr1.{maskOnes}
 use Rattle.register_words.specs.Block.{blWidth}
 use Rattle.registers.specs.Set.{isPage, isLong, blockPairs, registerWords}
-use Rattle.calls.specs.Request.{access, sdr1In, fed}
-use Rattle.calls.specs.Rules.{refusal}
-use Rattle.calls.specs.Answers.{accessAnswer, refusedBytes, answerRefused}
-use Rattle.calls.specs.OnBytes.{ended, bytesDo, onBytes}
-use Rattle.calls.proofs.Access.{then-not-11}
-use Rattle.calls.proofs.Arguments.{access-decides}
+use Rattle.theory_calls.specs.Request.{access, sdr1In, fed}
+use Rattle.theory_calls.specs.Rules.{refusal}
+use Rattle.theory_calls.specs.Answers.{accessAnswer, refusedBytes, answerRefused}
+use Rattle.theory_calls.specs.OnBytes.{ended, bytesDo, onBytes}
+use Rattle.theory_calls.proofs.Access.{then-not-11}
+use Rattle.theory_calls.proofs.Arguments.{access-decides}
 use Rattle.access_rights.specs.Rights.{RightsCall, asking, wouldEnd, newMarks, rightsTold, rightsRefusal, rightsCall}
 use Rattle.access_rights.specs.Stated.{answerTold, marksTold, ToldOnAny, RightsStated}
 use Rattle.access_rights.proofs.Shared.{ownRules, own-rules}

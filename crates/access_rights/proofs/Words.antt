@@ -6,10 +6,10 @@ use native.Mathlib.Omega.{arith}
 use Rattle.words.specs.Bits.{bits, withBits}
 use Rattle.entry.specs.Entry.{withMarks}
 use Rattle.entry.proofs.Packing.{second-packed}
-use Rattle.placement.specs.Lists.{oneIf}
-use Rattle.calls.specs.OnMap.{PageFields, fieldsWord}
-use Rattle.calls.specs.Represents.{FieldsInRange}
-use Rattle.calls.proofs.Fields.{oneIf-lt}
+use Rattle.theory_placement.specs.Lists.{oneIf}
+use Rattle.theory_calls.specs.OnMap.{PageFields, fieldsWord}
+use Rattle.theory_calls.specs.Represents.{FieldsInRange}
+use Rattle.theory_calls.proofs.Fields.{oneIf-lt}
 
 -- what the marks of an access add to a second word, a store's or another's
 abbrev pub lacking : Bool → ℕ → ℕ

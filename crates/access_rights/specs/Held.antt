@@ -11,10 +11,10 @@ use Rattle.registers.specs.Set.{blockPairs, coveringPair, sdr1Of, setWords}
 use Rattle.protection.specs.Access.{userMode}
 use Rattle.translation.specs.Steps.{segmentAt, wantedOf}
 use Rattle.table_access.specs.Part.{tableFound}
-use Rattle.calls.specs.Request.{access, fed}
-use Rattle.calls.specs.Rules.{refusal}
-use Rattle.calls.specs.Answers.{accessAnswer}
-use Rattle.calls.specs.OnBytes.{Ended}
+use Rattle.theory_calls.specs.Request.{access, fed}
+use Rattle.theory_calls.specs.Rules.{refusal}
+use Rattle.theory_calls.specs.Answers.{accessAnswer}
+use Rattle.theory_calls.specs.OnBytes.{Ended}
 use Rattle.access_rights.specs.Rights.{RightsCall, asking, wouldEnd, newMarks}
 use Rattle.access_rights.specs.declared.Standing.{Standing}
 use Rattle.access_rights.specs.declared.Right.{Right}

@@ -9,9 +9,9 @@ use Rattle.numbers.specs.Numbers.{refusedLentLength, fetch, load, store, access
 use Rattle.words.specs.Words.{wordAt, bytesOf}
 use Rattle.registers.specs.Rules.{firstBroken}
 use Rattle.groups.specs.Group.{secondOf}
-use Rattle.calls.specs.Request.{AccessCall, access, fed}
-use Rattle.calls.specs.Rules.{rules}
-use Rattle.calls.specs.OnBytes.{Ended, onBytes}
+use Rattle.theory_calls.specs.Request.{AccessCall, access, fed}
+use Rattle.theory_calls.specs.Rules.{rules}
+use Rattle.theory_calls.specs.OnBytes.{Ended, onBytes}
 
 -- what is asked: the bytes of the register page, the mode and the effective address
 pub record RightsCall : Type 0 where

@@ -6,8 +6,8 @@ use lib.ListN.{replicate}
 use Rattle.numbers.specs.Numbers.{done, dataStorageFault, instructionStorageFault, refusedTableLength, refusedArgument, refusedLentLength, refusedContradiction}
 use Rattle.words.specs.Rows.{Hold}
 use Rattle.words.specs.Words.{bytesOf}
-use Rattle.calls.specs.PageRows.{zeroRegisters, rule, noRule, stop, oneByte}
-use Rattle.calls.specs.OperandRows.{group}
+use Rattle.theory_calls.specs.PageRows.{zeroRegisters, rule, noRule, stop, oneByte}
+use Rattle.theory_calls.specs.OperandRows.{group}
 use Rattle.access_rights.specs.Rights.{rightsCall}
 
 -- a table of which group 0 has these four words first

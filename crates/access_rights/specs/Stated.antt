@@ -14,11 +14,11 @@ use Rattle.protection.specs.Access.{storing}
 use Rattle.translation.specs.declared.Early.the-variants.{Decided, Search}
 use Rattle.translation.specs.declared.Outcome.{Outcome}
 use Rattle.translation.specs.declared.Wanted.{Wanted}
-use Rattle.calls.specs.Request.{access, sdr1In, fed}
-use Rattle.calls.specs.Rules.{refusal}
-use Rattle.calls.specs.OnBytes.{onBytes, earlyOf, wantedPage}
-use Rattle.calls.specs.AnyTable.{secondHere, FirstMatch}
-use Rattle.calls.specs.Arguments.{Translates}
+use Rattle.theory_calls.specs.Request.{access, sdr1In, fed}
+use Rattle.theory_calls.specs.Rules.{refusal}
+use Rattle.theory_calls.specs.OnBytes.{onBytes, earlyOf, wantedPage}
+use Rattle.theory_calls.specs.AnyTable.{secondHere, FirstMatch}
+use Rattle.theory_calls.specs.Arguments.{Translates}
 use Rattle.access_rights.specs.Rights.{RightsCall, asking, wouldEnd, newMarks, rightsSize, rightsCall}
 use Rattle.access_rights.specs.Rows.{RightsRows}
 

@@ -4,4 +4,4 @@ pub mod Hits
 pub mod Steps
 pub mod None
 pub mod Computes
-pub mod Tables
+pub mod Examples

@@ -6,4 +6,4 @@ pub mod Marks
 pub mod Addresses
 pub mod RoundTrip
 pub mod Computes
-pub mod Tables
+pub mod Examples

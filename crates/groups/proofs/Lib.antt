@@ -6,4 +6,4 @@ pub mod Stored
 pub mod Lent
 pub mod Free
 pub mod Computes
-pub mod Tables
+pub mod Examples

@@ -2,4 +2,4 @@
 pub mod Page
 pub mod Hash
 pub mod Group
-pub mod Tables
+pub mod Examples

@@ -7,7 +7,7 @@ use Prim.Native.Nat.{ℕ}
 use borrow.Author.Tests.{eqb-true, eq-eqb, not-false, not-true}
 use Rattle.words.proofs.Tests.{both}
 use Rattle.entry.specs.Entry.{rpnOf, wimgOf, ppOf}
-use Rattle.tables.specs.Matches.{Match}
+use Rattle.theory_tables.specs.Matches.{Match}
 use Rattle.matches.specs.Search.{agree, anyMatch, contradict}
 
 -- a word agrees with itself

@@ -1,6 +1,6 @@
 -- What rows compute with: where `matches-compute` unfolds, so does every definition of this crate and of those below.
 use Rattle.groups.proofs.Computes.{groups-compute}
-use Rattle.tables.proofs.Computes.{tables-compute}
+use Rattle.theory_tables.proofs.Computes.{tables-compute}
 use Rattle.matches.specs.Search.{groupMatches, pairMatches, agree, contradict, merged, foundOf, told, inPrimary, inBoth}
 
 unfoldable pub matches-compute : Unit {0}

@@ -7,7 +7,7 @@ use native.Mathlib.Omega.{arith}
 use lib.Dec.{eqb, leb}
 use borrow.Author.Tests.{ne-eqb, le-leb, lt-leb}
 use Rattle.entry.specs.Entry.{matches}
-use Rattle.tables.specs.Matches.{Match}
+use Rattle.theory_tables.specs.Matches.{Match}
 use Rattle.groups.specs.Group.{firstAt}
 use Rattle.matches.specs.Search.{hOf, matchesTo, anyMatch, disagrees, contradict, each, numberOf, withOthers, foundOf, firstSecond}
 use Rattle.matches.proofs.Agreement.{agree-self}

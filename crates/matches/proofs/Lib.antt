@@ -4,4 +4,4 @@ pub mod Merged
 pub mod Found
 pub mod Agreement
 pub mod Computes
-pub mod Tables
+pub mod Examples

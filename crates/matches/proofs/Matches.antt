@@ -14,7 +14,7 @@ use Rattle.entry.specs.Entry.{firstWord, matches, free, apiOf}
 use Rattle.entry.proofs.Packing.{FirstFields, first-lt}
 use Rattle.entry.proofs.Addresses.{api-lt}
 use Rattle.entry.proofs.Matches.{matched, match-whole, match-used}
-use Rattle.tables.specs.Matches.{Match, matchesBelow}
+use Rattle.theory_tables.specs.Matches.{Match, matchesBelow}
 use Rattle.groups.specs.Page.{Page, InRange}
 use Rattle.groups.specs.Hash.{groupNumber}
 use Rattle.groups.specs.Group.{firstAt, secondAt}

@@ -5,7 +5,7 @@ use mathlib.Core.List.{List, [], _∷_, _++_}
 use Prim.Native.Nat.{ℕ}
 use Rattle.entry.specs.Entry.{referenced, changed, withMarks}
 use Rattle.entry.proofs.Marks.{marks-referenced, marks-changed, marks-own, marks-again}
-use Rattle.tables.specs.Matches.{Match}
+use Rattle.theory_tables.specs.Matches.{Match}
 use Rattle.matches.specs.Search.{anyMatch, marksOf, merged, each}
 
 pub or-true : (b : Bool) → b || true ≡ true

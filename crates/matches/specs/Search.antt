@@ -7,7 +7,7 @@ use lib.Dec.{eqb}
 use Rattle.numbers.specs.Numbers.{groupEntries}
 use Rattle.words.specs.Words.{swapped}
 use Rattle.entry.specs.Entry.{firstWord, matches, rpnOf, wimgOf, ppOf, referenced, changed, withMarks}
-use Rattle.tables.specs.Matches.{Match, matchesBelow}
+use Rattle.theory_tables.specs.Matches.{Match, matchesBelow}
 use Rattle.groups.specs.Group.{firstAt, secondAt, freeAfter}
 use Rattle.matches.specs.declared.Told.{Told}
 

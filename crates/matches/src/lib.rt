@@ -5,7 +5,7 @@ ghost use mathlib.Core.List.{List, [], _∷_, _++_};
 ghost use Prim.Native.Nat.{ℕ, _+_, _*_, _%_, _<_, _≤_, _^_};
 ghost use lib.ListN.{length};
 ghost use Rattle.numbers.specs.Numbers.{groupSize, groupEntries};
-ghost use Rattle.tables.specs.Matches.{Match};
+ghost use Rattle.theory_tables.specs.Matches.{Match};
 ghost use Rattle.groups.specs.Group.{groupOf, freeAfter};
 ghost use Rattle.matches.specs.Search.{hOf, matchesTo, disagrees, contradict, withOthers, foundOf, told, inPrimary, inBoth};
 ghost use Rattle.matches.specs.Search.{WantedWord, groupMatches, agree, anyMatch, each};

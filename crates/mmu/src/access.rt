@@ -1,7 +1,7 @@
 // The exported access: the lengths of what is lent, and the answer.
 ghost use mathlib.Core.Path.{_≡_};
-ghost use Rattle.calls.specs.Request.{access};
-ghost use Rattle.calls.specs.OnBytes.{ended, onBytes};
+ghost use Rattle.theory_calls.specs.Request.{access};
+ghost use Rattle.theory_calls.specs.OnBytes.{ended, onBytes};
 
 // Translates one access and marks the entries that did it.
 #[no_mangle]

@@ -1,7 +1,7 @@
 // The exported access with a cache, and the exported invalidate of a page index.
 ghost use mathlib.Core.Path.{_≡_};
-ghost use Rattle.calls.specs.OnBytes.{ended};
-ghost use Rattle.cached_calls.specs.Cached.{onCached, invalidateCall};
+ghost use Rattle.theory_calls.specs.OnBytes.{ended};
+ghost use Rattle.theory_cache.specs.Cached.{onCached, invalidateCall};
 
 // Translates one access by the cache, and by the table where the cache has no hit; what went to the table is marked there and loaded.
 #[no_mangle]

@@ -19,7 +19,7 @@ ghost use lib.ListN.{length};
 ghost use Rattle.numbers.specs.Numbers.{entrySize};
 ghost use Rattle.words.specs.Words.{bytesOf};
 ghost use Rattle.entry.specs.Entry.{packed};
-ghost use Rattle.calls.specs.WithoutTable.{checkCall, setRegisterCall, packCall, unpackCall};
+ghost use Rattle.theory_calls.specs.WithoutTable.{checkCall, setRegisterCall, packCall, unpackCall};
 
 // Checks a register page.
 #[no_mangle]

@@ -3,9 +3,9 @@ ghost use mathlib.Core.Path.{_≡_};
 ghost use mathlib.Core.List.{[]};
 ghost use lib.ListN.{length};
 ghost use Rattle.numbers.specs.Numbers.{answerSize};
-ghost use Rattle.calls.specs.Request.{clear, mapPage, unmap, protect, look};
-ghost use Rattle.calls.specs.Answers.{wordAnswer};
-ghost use Rattle.calls.specs.OnBytes.{ended, onBytes};
+ghost use Rattle.theory_calls.specs.Request.{clear, mapPage, unmap, protect, look};
+ghost use Rattle.theory_calls.specs.Answers.{wordAnswer};
+ghost use Rattle.theory_calls.specs.OnBytes.{ended, onBytes};
 
 // Writes an answer: result, second entry word, 0, 0.
 fn write_answer(answer: &mut [u8], told: page_calls::WordAnswer)

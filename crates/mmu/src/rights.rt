@@ -4,7 +4,7 @@ ghost use mathlib.Core.Path.{_≡_};
 ghost use mathlib.Core.List.{[], _∷_, _++_};
 ghost use lib.ListN.{length};
 ghost use Rattle.words.specs.Words.{bytesOf};
-ghost use Rattle.calls.specs.Answers.{accessAnswer};
+ghost use Rattle.theory_calls.specs.Answers.{accessAnswer};
 ghost use Rattle.access_rights.specs.Rights.{rightsSize, rightsCall};
 
 // Writes three answers and the marks of each.

@@ -1,2 +1,2 @@
 -- The rows of the numbers.
-pub mod Tables
+pub mod Examples

@@ -18,15 +18,15 @@ use Rattle.groups.specs.declared.Place.{Place}
 use Rattle.groups.specs.declared.Place.the-variants.{Entry}
 use Rattle.groups.proofs.Free.{PlaceCase, in-primary, in-secondary, nowhere, place-case}
 use Rattle.groups.proofs.Hash.{group-lt, own-groups-differ, within-table}
-use Rattle.tables.specs.Matches.{Match}
+use Rattle.theory_tables.specs.Matches.{Match}
 use Rattle.matches.specs.Search.{hOf, WantedWord, pairMatches, anyMatch, each, marksOf, merged, contradict, told, inPrimary, inBoth}
 use Rattle.matches.specs.declared.Told.{Told}
 use Rattle.matches.proofs.Merged.{alone, merged-one}
-use Rattle.edits.specs.Edit.{editAt, editPair}
-use Rattle.edits.specs.declared.Edit.{Edit}
-use Rattle.edits.proofs.Alone.{entry-is, edit-alone}
-use Rattle.calls.specs.OnBytes.{entryWord}
-use Rattle.calls.proofs.PageCalls.{Kept, ownGroup, pageMatches, editedBoth, AllEdited}
+use Rattle.match_edits.specs.Edit.{editAt, editPair}
+use Rattle.match_edits.specs.declared.Edit.{Edit}
+use Rattle.match_edits.proofs.Alone.{entry-is, edit-alone}
+use Rattle.theory_calls.specs.OnBytes.{entryWord}
+use Rattle.theory_calls.proofs.PageCalls.{Kept, ownGroup, pageMatches, editedBoth, AllEdited}
 
 -- a free place is one of a group's eight entries
 pub place-lt : (p s : List ℕ) (b : Bool) (i : ℕ) → firstFreePlace p s ≡ Entry b i → i < 8

@@ -9,10 +9,10 @@ ghost use Rattle.registers.specs.Rules.{firstBroken};
 ghost use Rattle.register_words.specs.Sdr1.{maskOnes};
 ghost use Rattle.groups.specs.Page.{InRange};
 ghost use Rattle.groups.specs.Hash.{TableOf, SomeTable};
-ghost use Rattle.calls.specs.Request.{mapPage, unmap, protect, look};
-ghost use Rattle.calls.specs.Rules.{pageInRange, mapInRange, tableRules};
-ghost use Rattle.calls.specs.Answers.{wordAnswer};
-ghost use Rattle.calls.specs.OnBytes.{ended, bytesDo};
+ghost use Rattle.theory_calls.specs.Request.{mapPage, unmap, protect, look};
+ghost use Rattle.theory_calls.specs.Rules.{pageInRange, mapInRange, tableRules};
+ghost use Rattle.theory_calls.specs.Answers.{wordAnswer};
+ghost use Rattle.theory_calls.specs.OnBytes.{ended, bytesDo};
 
 // What unmap and look answer: the result number and the second entry word.
 pub struct WordAnswer {
@@ -102,11 +102,11 @@ pub fn unmap_page(vsid: u32, index: u32, table: &mut [u8]) -> WordAnswer
             word: 0,
         };
     }
-    let edit = edits::Edit::Clear;
+    let edit = match_edits::Edit::Clear;
     let word = if told.several() {
-        edits::edit_both(table, page, told.second, edit)
+        match_edits::edit_both(table, page, told.second, edit)
     } else {
-        edits::edit_entry(table, page.group(told.in_secondary()), told.entry(), edit)
+        match_edits::edit_entry(table, page.group(told.in_secondary()), told.entry(), edit)
     };
     WordAnswer {
         result: numbers::DONE,
@@ -126,11 +126,11 @@ pub fn protect_page(vsid: u32, index: u32, pp: u32, table: &mut [u8]) -> u32
     if !told.any() {
         return numbers::REFUSED_NO_MATCH;
     }
-    let edit = edits::Edit::Protect(pp);
+    let edit = match_edits::Edit::Protect(pp);
     if told.several() {
-        edits::edit_both(table, page, told.second, edit);
+        match_edits::edit_both(table, page, told.second, edit);
     } else {
-        edits::edit_entry(table, page.group(told.in_secondary()), told.entry(), edit);
+        match_edits::edit_entry(table, page.group(told.in_secondary()), told.entry(), edit);
     }
     numbers::DONE
 }

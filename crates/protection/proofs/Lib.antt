@@ -1,3 +1,3 @@
 -- What callers' proofs cite of protection and faults.
 pub mod Computes
-pub mod Tables
+pub mod Examples

@@ -2,4 +2,4 @@
 pub mod Access
 pub mod Protection
 pub mod Fault
-pub mod Tables
+pub mod Examples

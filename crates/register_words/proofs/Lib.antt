@@ -5,4 +5,4 @@ pub mod Asked
 pub mod Shape
 pub mod Order
 pub mod Computes
-pub mod Tables
+pub mod Examples

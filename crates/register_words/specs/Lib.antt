@@ -3,4 +3,4 @@ pub mod Sdr1
 pub mod Segment
 pub mod Block
 pub mod Asked
-pub mod Tables
+pub mod Examples

@@ -8,4 +8,4 @@ pub mod Placed
 pub mod Blocks
 pub mod Check
 pub mod Computes
-pub mod Tables
+pub mod Examples

@@ -3,4 +3,4 @@ pub mod Rules
 pub mod Set
 pub mod Blocks
 pub mod Check
-pub mod Tables
+pub mod Examples

@@ -15,7 +15,7 @@ use Rattle.register_words.specs.Block.{blWidth}
 use Rattle.registers.specs.Set.{isPage, isLong, blockPairs, sdr1Of, registerWords, setWords}
 use Rattle.groups.specs.Page.{Page}
 use Rattle.groups.specs.Hash.{TableOf}
-use Rattle.tables.specs.Layout.{matchesOf}
+use Rattle.theory_tables.specs.Layout.{matchesOf}
 use Rattle.protection.specs.Access.{storing, relocated}
 use Rattle.translation.specs.Steps.{beforeSearch, outcomeOf, refusedAnswer, answerOf}
 use Rattle.translation.specs.Decision.{decided, decisionOf}
@@ -29,15 +29,15 @@ use Rattle.translation.specs.declared.Wanted.{Wanted}
 use Rattle.translation.proofs.Steps.{before-real}
 use Rattle.cache.specs.Cache.{hit, loaded}
 use Rattle.cache.proofs.None.{no-bytes, never-hit, never-loaded}
-use Rattle.calls.specs.Request.{AccessCall, access, sdr1In, fed}
-use Rattle.calls.specs.Rules.{onLongPage, rules, refusal}
-use Rattle.calls.specs.Answers.{refusedBytes, accessAnswer, answerRefused}
-use Rattle.calls.specs.OnBytes.{Ended, ended, byMatches, layout, usedBy, wantedPage, searchIn, firstPlaceIn, markedBy, bytesDo, onBytes}
-use Rattle.calls.proofs.Access.{rulesThen, then-kept, access-wrong-length, access-refused, access-taken}
-use Rattle.calls.proofs.AnyEntries.{by-matches}
-use Rattle.calls.proofs.OnBytes.{refused}
-use Rattle.calls.proofs.Pages.{toldBy, each-part, sdr1-set, early-set}
-use Rattle.cached_calls.specs.Cached.{cachedSearch, cachedPlace, missed, loadedBy, taken, takenPart, cachedDoes, cachedRefusal, onCached}
+use Rattle.theory_calls.specs.Request.{AccessCall, access, sdr1In, fed}
+use Rattle.theory_calls.specs.Rules.{onLongPage, rules, refusal}
+use Rattle.theory_calls.specs.Answers.{refusedBytes, accessAnswer, answerRefused}
+use Rattle.theory_calls.specs.OnBytes.{Ended, ended, byMatches, layout, usedBy, wantedPage, searchIn, firstPlaceIn, markedBy, bytesDo, onBytes}
+use Rattle.theory_calls.proofs.Access.{rulesThen, then-kept, access-wrong-length, access-refused, access-taken}
+use Rattle.theory_calls.proofs.AnyEntries.{by-matches}
+use Rattle.theory_calls.proofs.OnBytes.{refused}
+use Rattle.theory_calls.proofs.Pages.{toldBy, each-part, sdr1-set, early-set}
+use Rattle.theory_cache.specs.Cached.{cachedSearch, cachedPlace, missed, loadedBy, taken, takenPart, cachedDoes, cachedRefusal, onCached}
 use Rattle.table_access.specs.Part.{callOf, partEarly, wholeTold, partTaken, leftAt, Comes, EndsAs}
 use Rattle.table_access.specs.declared.Access.{Access}
 use Rattle.table_access.proofs.Finds.{search-table, place-table}

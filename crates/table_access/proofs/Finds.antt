@@ -16,8 +16,8 @@ use Rattle.groups.specs.Group.{groupOf}
 use Rattle.groups.specs.declared.Located.{Located}
 use Rattle.matches.specs.Search.{WantedWord, told, inPrimary, inBoth}
 use Rattle.matches.specs.declared.Told.{Told}
-use Rattle.tables.specs.Matches.{Match}
-use Rattle.tables.specs.Layout.{matchesOf}
+use Rattle.theory_tables.specs.Matches.{Match}
+use Rattle.theory_tables.specs.Layout.{matchesOf}
 use Rattle.protection.specs.Access.{storing}
 use Rattle.translation.specs.Steps.{pageOutcome, afterSearch}
 use Rattle.translation.specs.Decision.{decisionOf}
@@ -29,10 +29,10 @@ use Rattle.translation.specs.declared.Wanted.{Wanted}
 use Rattle.translation.specs.declared.decision.Decision.{Decision}
 use Rattle.translation.proofs.Steps.{after-contradicting, after-nothing, after-at}
 use Rattle.cache.specs.Cache.{hit}
-use Rattle.calls.specs.OnBytes.{layout, usedBy, wantedPage, searched, searchIn, firstPlaceIn}
-use Rattle.calls.proofs.AnyEntries.{by-matches}
-use Rattle.cached_calls.specs.Cached.{cachedSearch, cachedPlace, missed}
-use Rattle.calls.proofs.OnBytes.{matches-by-groups}
+use Rattle.theory_calls.specs.OnBytes.{layout, usedBy, wantedPage, searched, searchIn, firstPlaceIn}
+use Rattle.theory_calls.proofs.AnyEntries.{by-matches}
+use Rattle.theory_cache.specs.Cached.{cachedSearch, cachedPlace, missed}
+use Rattle.theory_calls.proofs.OnBytes.{matches-by-groups}
 use Rattle.page_calls.proofs.Searched.{at-groups, pageFree, told-is}
 use Rattle.table_access.specs.Part.{SearchTold, nothingFound, tableFound, foundBy, searchedOf}
 use Rattle.table_access.specs.declared.Found.{Found}

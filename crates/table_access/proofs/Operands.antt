@@ -12,12 +12,12 @@ use Rattle.translation.specs.declared.operand.OperandAnswer.{OperandAnswer}
 use Rattle.translation.specs.declared.Early.{Early}
 use Rattle.translation.specs.declared.Early.the-variants.{Decided, Search}
 use Rattle.translation.proofs.Parts.{first-stops, one-done, second-stops, both-done}
-use Rattle.calls.specs.Answers.{accessAnswer}
-use Rattle.calls.specs.OnBytes.{markedBy}
-use Rattle.calls.specs.Represents.{GoodTable}
-use Rattle.calls.proofs.Access.{unmarked, unmarked-decided}
-use Rattle.calls.proofs.TwoMarks.{mark-good, second-kept}
-use Rattle.cached_calls.specs.Cached.{missed, loadedBy, taken}
+use Rattle.theory_calls.specs.Answers.{accessAnswer}
+use Rattle.theory_calls.specs.OnBytes.{markedBy}
+use Rattle.theory_calls.specs.Represents.{GoodTable}
+use Rattle.theory_calls.proofs.Access.{unmarked, unmarked-decided}
+use Rattle.theory_calls.proofs.TwoMarks.{mark-good, second-kept}
+use Rattle.theory_cache.specs.Cached.{missed, loadedBy, taken}
 use Rattle.register_words.specs.Sdr1.{maskOnes}
 use Rattle.groups.specs.Hash.{TableOf}
 use Rattle.table_access.specs.Part.{takenBy, partEarly, ownPart, partTold, partDecided, wholeTold, partTaken, leftAt, Comes, EndsAs}

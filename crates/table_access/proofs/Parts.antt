@@ -21,10 +21,10 @@ use Rattle.groups.specs.Hash.{groupNumber, TableOf}
 use Rattle.groups.specs.Group.{firstOf, putAt}
 use Rattle.groups.proofs.Stored.{words-fit}
 use Rattle.matches.specs.Search.{hOf}
-use Rattle.tables.specs.Matches.{Match}
-use Rattle.tables.specs.Layout.{matchesOf, overwrite}
-use Rattle.tables.proofs.Groups.{MatchOf, members-of}
-use Rattle.tables.proofs.Overwrites.{withWords, overwrite-first}
+use Rattle.theory_tables.specs.Matches.{Match}
+use Rattle.theory_tables.specs.Layout.{matchesOf, overwrite}
+use Rattle.theory_tables.proofs.Groups.{MatchOf, members-of}
+use Rattle.theory_tables.proofs.Overwrites.{withWords, overwrite-first}
 use Rattle.protection.specs.Access.{storing}
 use Rattle.protection.specs.Fault.{noMatch}
 use Rattle.translation.specs.Steps.{beforeSearch, afterSearch, outcomeOf, answerOf}
@@ -35,13 +35,13 @@ use Rattle.translation.specs.declared.Early.the-variants.{Decided, Search}
 use Rattle.translation.specs.declared.Wanted.{Wanted}
 use Rattle.translation.proofs.Steps.{searches, outcome-decided, outcome-searched}
 use Rattle.cache.specs.Cache.{hit, loaded}
-use Rattle.calls.specs.OnBytes.{layout, usedBy, wantedPage, markedBy}
-use Rattle.calls.specs.Represents.{GoodTable}
-use Rattle.calls.proofs.Access.{part-valid, fault-number}
-use Rattle.calls.proofs.AnyEntries.{by-matches}
-use Rattle.calls.proofs.TableLaws.{Word, layout-laws}
-use Rattle.calls.proofs.TwoMarks.{mark-first}
-use Rattle.cached_calls.specs.Cached.{cachedSearch, cachedPlace, missed, loadedBy, taken}
+use Rattle.theory_calls.specs.OnBytes.{layout, usedBy, wantedPage, markedBy}
+use Rattle.theory_calls.specs.Represents.{GoodTable}
+use Rattle.theory_calls.proofs.Access.{part-valid, fault-number}
+use Rattle.theory_calls.proofs.AnyEntries.{by-matches}
+use Rattle.theory_calls.proofs.TableLaws.{Word, layout-laws}
+use Rattle.theory_calls.proofs.TwoMarks.{mark-first}
+use Rattle.theory_cache.specs.Cached.{cachedSearch, cachedPlace, missed, loadedBy, taken}
 use Rattle.table_access.specs.Part.{nothingFound, tableFound, foundBy, byOutcome, byFound, begunBy, partBy, takenBy}
 use Rattle.table_access.specs.declared.Begun.the-variants.{Told, Wants}
 use Rattle.table_access.specs.declared.Found.{Found}

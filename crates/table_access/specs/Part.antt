@@ -17,7 +17,7 @@ use Rattle.groups.specs.Group.{firstOf, putAt}
 use Rattle.groups.specs.declared.Located.{Located}
 use Rattle.matches.specs.Search.{contradict, told}
 use Rattle.matches.specs.declared.Told as matches
-use Rattle.tables.specs.Layout.{matchesOf}
+use Rattle.theory_tables.specs.Layout.{matchesOf}
 use Rattle.protection.specs.Access.{storing}
 use Rattle.translation.specs.Steps.{beforeSearch, afterSearch, outcomeOf, answerOf}
 use Rattle.translation.specs.Decision.{decided, decisionOf}
@@ -33,10 +33,10 @@ use Rattle.translation.specs.declared.Searched.{Searched}
 use Rattle.translation.specs.declared.Searched.the-variants.{Nothing, At, Contradicting}
 use Rattle.translation.specs.declared.Wanted.{Wanted}
 use Rattle.cache.specs.Cache.{cacheSize, loaded}
-use Rattle.calls.specs.Request.{AccessCall}
-use Rattle.calls.specs.Answers.{accessAnswer}
-use Rattle.calls.specs.OnBytes.{byMatches, byOption, layout, usedBy, wantedPage}
-use Rattle.cached_calls.specs.Cached.{hitEntry, hitOf, cachedSearch, cachedPlace, missed, taken}
+use Rattle.theory_calls.specs.Request.{AccessCall}
+use Rattle.theory_calls.specs.Answers.{accessAnswer}
+use Rattle.theory_calls.specs.OnBytes.{byMatches, byOption, layout, usedBy, wantedPage}
+use Rattle.theory_cache.specs.Cached.{hitEntry, hitOf, cachedSearch, cachedPlace, missed, taken}
 use Rattle.table_access.specs.declared.Access.{Access}
 use Rattle.table_access.specs.declared.Found.{Found}
 use Rattle.table_access.specs.declared.Part.{Part}

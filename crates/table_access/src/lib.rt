@@ -21,11 +21,11 @@ ghost use Rattle.translation.specs.Operand.{partStart, operandAnswer};
 ghost use Rattle.translation.specs.declared.Outcome.the-variants.{Real};
 ghost use Rattle.translation.specs.declared.Wanted.{Wanted};
 ghost use Rattle.cache.specs.Cache.{cacheSize};
-ghost use Rattle.calls.specs.Request.{access};
-ghost use Rattle.calls.specs.Rules.{operandInRange};
-ghost use Rattle.calls.specs.Answers.{accessAnswer};
-ghost use Rattle.calls.specs.OnBytes.{ended, wantedPage, onBytes};
-ghost use Rattle.cached_calls.specs.Cached.{onCached};
+ghost use Rattle.theory_calls.specs.Request.{access};
+ghost use Rattle.theory_calls.specs.Rules.{operandInRange};
+ghost use Rattle.theory_calls.specs.Answers.{accessAnswer};
+ghost use Rattle.theory_calls.specs.OnBytes.{ended, wantedPage, onBytes};
+ghost use Rattle.theory_cache.specs.Cached.{onCached};
 ghost use Rattle.table_access.specs.Part.{callOf, SearchTold, PageAndTable, CacheOrNone, nothingFound, tableFound, foundBy, withoutPage, byOutcome, byFound, begunBy, partBy, takenBy, partEarly, EndsAs};
 
 // What an access asks for.

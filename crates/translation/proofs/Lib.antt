@@ -5,5 +5,5 @@ pub mod Answers
 pub mod Parts
 pub mod Covering
 pub mod Computes
-pub mod Tables
+pub mod Examples
 pub mod Stated

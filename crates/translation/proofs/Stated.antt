@@ -8,13 +8,13 @@ use native.Mathlib.Omega.{arith}
 use lib.Dec.{eqb, ltb}
 use borrow.Author.Tests.{eqb-true, eqb-false, eq-eqb, ne-eqb, lt-ltb, le-ltb, not-true}
 use Rattle.entry.specs.Entry.{rpnOf, ppOf, physicalAddress}
-use Rattle.numbers.proofs.Tables.{numbers-tables}
-use Rattle.words.proofs.Tables.{words-tables}
+use Rattle.numbers.proofs.Examples.{numbers-tables}
+use Rattle.words.proofs.Examples.{words-tables}
 use Rattle.entry.proofs.RoundTrip.{packing-agrees}
 use Rattle.entry.proofs.Matches.{match-agrees}
-use Rattle.entry.proofs.Tables.{entry-tables}
-use Rattle.register_words.proofs.Tables.{register-words-tables}
-use Rattle.registers.proofs.Tables.{registers-tables}
+use Rattle.entry.proofs.Examples.{entry-tables}
+use Rattle.register_words.proofs.Examples.{register-words-tables}
+use Rattle.registers.proofs.Examples.{registers-tables}
 use Rattle.register_words.specs.Block.{blWidth, blockAttributes}
 use Rattle.registers.specs.Set.{blockPairs, lowerOf, checkWords, pairCovers, coveringPair}
 use Rattle.registers.proofs.Blocks.{blocks-decide}
@@ -33,8 +33,8 @@ use Rattle.translation.proofs.Steps.{block-done, block-fault, before-re
 use Rattle.translation.proofs.Steps.{after-contradicting, after-nothing, after-at, page-guarded, page-protected, done-passes, passes-done, after-late, guarded-fetch, outcome-decided}
 use Rattle.translation.proofs.Answers.{answer-real, answer-block, answer-done, answer-refused, answer-effective, answer-page-same}
 use Rattle.translation.proofs.Covering.{covering-none, covering-one, block-offset}
-use Rattle.protection.proofs.Tables.{protection-tables}
-use Rattle.translation.proofs.Tables.{access-tables}
+use Rattle.protection.proofs.Examples.{protection-tables}
+use Rattle.translation.proofs.Examples.{access-tables}
 
 module _ (pairs width : ℕ) (wide : width ≤ 15) (words : List ℕ) (mode kind address : ℕ) where
   -- the pair that covers the address is the one that step 2 takes

@@ -2,5 +2,5 @@
 pub mod Steps
 pub mod Decision
 pub mod Operand
-pub mod Tables
+pub mod Examples
 pub mod Stated

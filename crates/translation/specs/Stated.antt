@@ -6,14 +6,14 @@ use mathlib.Core.Logic.{_↔_}
 use mathlib.Core.Path.{_≡_}
 use lib.Ieee.{size}
 use Rattle.numbers.specs.Numbers.{done, dataStorageFault, instructionStorageFault, refusedContradiction, fetch, store, attributesReal, pageSize}
-use Rattle.numbers.specs.Tables.{NumbersTables}
+use Rattle.numbers.specs.Examples.{NumbersTables}
 use Rattle.words.specs.Bits.{placed}
-use Rattle.words.specs.Tables.{WordsTables}
+use Rattle.words.specs.Examples.{WordsTables}
 use Rattle.entry.specs.Entry.{rpnOf, wimgOf, ppOf}
 use Rattle.entry.specs.RoundTrip.{PackingAgrees, MatchAgrees}
-use Rattle.entry.specs.Tables.{EntryTables}
-use Rattle.register_words.specs.Tables.{RegisterWordsTables}
-use Rattle.registers.specs.Tables.{RegistersTables}
+use Rattle.entry.specs.Examples.{EntryTables}
+use Rattle.register_words.specs.Examples.{RegisterWordsTables}
+use Rattle.registers.specs.Examples.{RegistersTables}
 use Rattle.register_words.specs.Segment.{noExecute}
 use Rattle.register_words.specs.Block.{blWidth, brpnOf, blOf, upperShape, lowerShape, blockAttributes, blockPP, blockPhysical}
 use Rattle.registers.specs.Blocks.{BlocksDecide}
@@ -24,8 +24,8 @@ use Rattle.protection.specs.Protection.{pageAllows, blockAllows, guarded}
 use Rattle.protection.specs.Fault.{faultOf}
 use Rattle.translation.specs.Steps.{segmentAt, wantedOf, beforeSearch, afterSearch, outcomeOf, doneAnswer, refusedAnswer, answerOf}
 use Rattle.translation.specs.Operand.{firstBytes, overEdge, partStart}
-use Rattle.protection.specs.Tables.{ProtectionTables}
-use Rattle.translation.specs.Tables.{AccessTables}
+use Rattle.protection.specs.Examples.{ProtectionTables}
+use Rattle.translation.specs.Examples.{AccessTables}
 use Rattle.translation.specs.declared.Outcome.{Outcome}
 use Rattle.translation.specs.declared.Outcome.the-variants.{Real, Block, BlockProtection, NoExecute, NoMatch, Guarded, Protection, Done, Refused}
 use Rattle.translation.specs.declared.Wanted.{Wanted}

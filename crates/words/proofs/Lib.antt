@@ -7,5 +7,5 @@ pub mod Ones
 pub mod Words
 pub mod Below
 pub mod Computes
-pub mod Tables
+pub mod Examples
 pub mod Zero

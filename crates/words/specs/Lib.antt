@@ -4,4 +4,4 @@ pub mod Ones
 pub mod Words
 pub mod Below
 pub mod Rows
-pub mod Tables
+pub mod Examples

@@ -15,7 +15,7 @@ use Rattle.protection.specs.Access.{userMode}
 use Rattle.translation.specs.Steps.{segmentAt, wantedOf}
 use Rattle.translation.specs.declared.Wanted.{Wanted}
 use Rattle.groups.specs.Page.{InRange}
-use Rattle.calls.specs.OnBytes.{wantedPage}
+use Rattle.theory_calls.specs.OnBytes.{wantedPage}
 use Rattle.page_calls.proofs.Searched.{locatable, primary-asked, secondary-asked}
 use Rattle.table_access.specs.Part.{SearchTold, tableFound}
 use Rattle.table_access.proofs.Finds.{search-told}

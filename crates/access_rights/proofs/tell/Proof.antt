@@ -4,8 +4,8 @@ use mathlib.Core.Path.{_≡_, sym, _∙_}
 use Prim.Native.Nat.{ℕ}
 use lib.ListN.{length}
 use Rattle.registers.specs.Rules.{firstBroken}
-use Rattle.calls.specs.Request.{access, fed}
-use Rattle.calls.specs.Rules.{refusal}
+use Rattle.theory_calls.specs.Request.{access, fed}
+use Rattle.theory_calls.specs.Rules.{refusal}
 use Rattle.access_rights.specs.Rights.{RightsCall, asking}
 use Rattle.access_rights.specs.Held.{StandsIn}
 use Rattle.access_rights.proofs.Shared.{ownRules, own-rules, refused-tells, set-fits}

@@ -5,7 +5,7 @@ use mathlib.Core.Bool.{Bool, not, _&&_, _||_}
 use mathlib.Core.List.{[]}
 use native.Mathlib.Omega.{arith}
 use Rattle.entry.specs.Entry.{matches}
-use Rattle.tables.specs.Matches.{matchesBelow}
+use Rattle.theory_tables.specs.Matches.{matchesBelow}
 use Rattle.groups.specs.Group.{firstAt, secondAt}
 use Rattle.matches.specs.Search.{hOf, agree, anyMatch, disagrees, matchesTo}
 use Rattle.matches.proofs.Matches.{entryAt, wanted-matches}

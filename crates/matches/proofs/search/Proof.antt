@@ -7,7 +7,7 @@ use mathlib.Core.List.{List, [], _∷_, _++_, append-nil, append-assoc}
 use mathlib.Core.Logic.{⊎-elim}
 use native.Mathlib.Omega.{arith}
 use Rattle.entry.specs.Entry.{matches}
-use Rattle.tables.specs.Matches.{Match, matchesBelow}
+use Rattle.theory_tables.specs.Matches.{Match, matchesBelow}
 use Rattle.groups.specs.Group.{firstAt, secondAt, freeAfter}
 use Rattle.matches.specs.Search.{hOf, WantedWord, matchesTo, groupMatches, numberOf, withOthers, foundOf, firstSecond, told}
 use Rattle.matches.specs.declared.Told.{Told}

@@ -4,7 +4,7 @@ use mathlib.Core.Path.{_≡_, sym, _∙_}
 use mathlib.Core.Bool.{true}
 use lib.ListN.{length}
 use Rattle.registers.specs.Set.{isPage}
-use Rattle.calls.specs.WithoutTable.{checkCall}
+use Rattle.theory_calls.specs.WithoutTable.{checkCall}
 use borrow.Author.Needs.{needs}
 use Rattle.mmu.proofs.mmu_check.Statement.{statement}
 use Rattle.mmu.proofs.mmu_check.Tie as tie

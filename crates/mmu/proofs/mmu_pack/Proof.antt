@@ -3,8 +3,8 @@ use mathlib.Core.Path.{_≡_, sym, ap₂, _∙_}
 use mathlib.Core.List.{List}
 use Prim.Native.Nat.{ℕ}
 use lib.ListN.{length}
-use Rattle.calls.specs.WithoutTable.{packCall}
-use Rattle.calls.proofs.Lent.{right-length, wrong-length}
+use Rattle.theory_calls.specs.WithoutTable.{packCall}
+use Rattle.theory_calls.proofs.Lent.{right-length, wrong-length}
 use borrow.Author.Needs.{needs}
 use Rattle.mmu.proofs.mmu_pack.Statement.{statement}
 use Rattle.mmu.proofs.mmu_pack.Tie as tie

@@ -5,7 +5,7 @@ use mathlib.Core.Bool.{true}
 use lib.ListN.{length}
 use Rattle.registers.specs.Set.{isPage}
 use Rattle.register_pages.specs.Replace.{pageReplaced}
-use Rattle.calls.specs.WithoutTable.{setRegisterCall}
+use Rattle.theory_calls.specs.WithoutTable.{setRegisterCall}
 use borrow.Author.Needs.{needs}
 use Rattle.mmu.proofs.mmu_set_register.Statement.{statement}
 use Rattle.mmu.proofs.mmu_set_register.Tie as tie

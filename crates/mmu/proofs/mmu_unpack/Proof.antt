@@ -1,8 +1,8 @@
 -- `mmu::mmu_unpack` meets its contract: nine words fill thirty-six bytes.
 use mathlib.Core.Path.{_≡_, sym}
 use lib.ListN.{length}
-use Rattle.calls.specs.WithoutTable.{unpackCall}
-use Rattle.calls.proofs.Lent.{right-length, wrong-length, beside}
+use Rattle.theory_calls.specs.WithoutTable.{unpackCall}
+use Rattle.theory_calls.proofs.Lent.{right-length, wrong-length, beside}
 use borrow.Author.Needs.{needs}
 use Rattle.mmu.proofs.mmu_unpack.Statement.{statement}
 use Rattle.mmu.proofs.mmu_unpack.Tie as tie

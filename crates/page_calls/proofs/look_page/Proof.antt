@@ -3,9 +3,9 @@ use mathlib.Core.Path.{sym, ap, _∙_}
 use Prim.Native.Nat.{ℕ}
 use lib.ListN.{length}
 use Rattle.groups.specs.Hash.{TableOf}
-use Rattle.calls.specs.Answers.{wordAnswer}
-use Rattle.calls.specs.OnBytes.{ended}
-use Rattle.calls.proofs.PageCalls.{look-missing, look-contradicted, look-done}
+use Rattle.theory_calls.specs.Answers.{wordAnswer}
+use Rattle.theory_calls.specs.OnBytes.{ended}
+use Rattle.theory_calls.proofs.PageCalls.{look-missing, look-contradicted, look-done}
 use Rattle.page_calls.proofs.Searched.{locatable, primary-asked, secondary-asked, KnownOf, known, First, differs-is}
 use borrow.Author.Needs.{needs}
 use Rattle.page_calls.proofs.look_page.Statement.{statement}

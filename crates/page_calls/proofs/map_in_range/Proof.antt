@@ -5,7 +5,7 @@ use mathlib.Core.Bool.{Bool, true, false, not, _&&_}
 use native.Mathlib.Omega.{arith}
 use lib.Dec.{ltb}
 use borrow.Author.Tests.{ltb-true, ltb-false, eq-eqb, ne-eqb}
-use Rattle.calls.specs.Rules.{pageInRange, writeThroughInhibited}
+use Rattle.theory_calls.specs.Rules.{pageInRange, writeThroughInhibited}
 use borrow.Author.Needs.{needs}
 use Rattle.page_calls.proofs.map_in_range.Statement.{statement}
 use Rattle.page_calls.proofs.map_in_range.Tie as tie

@@ -6,8 +6,8 @@ use lib.ListN.{length}
 use Rattle.register_words.specs.Sdr1.{maskOnes}
 use Rattle.groups.specs.Hash.{TableOf}
 use Rattle.entry.specs.Entry.{secondWord}
-use Rattle.calls.specs.OnBytes.{ended}
-use Rattle.calls.proofs.PageCalls.{pageMatches, map-matched, map-full, map-placed}
+use Rattle.theory_calls.specs.OnBytes.{ended}
+use Rattle.theory_calls.proofs.PageCalls.{pageMatches, map-matched, map-full, map-placed}
 use Rattle.page_calls.proofs.Searched.{locatable, primary-asked, secondary-asked, KnownOf, known, group-inside, free-is, place-lt, placed-is}
 use borrow.Author.Needs.{needs}
 use Rattle.page_calls.proofs.map_page.Statement.{statement}

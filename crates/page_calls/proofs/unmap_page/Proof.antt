@@ -4,7 +4,7 @@ use lib.ListN.{length}
 use mathlib.Core.Path.{sym}
 use borrow.Author.Tests.{not-true, not-false}
 use Rattle.groups.specs.Hash.{TableOf}
-use Rattle.calls.proofs.PageCalls.{unmap-missing, unmap-done}
+use Rattle.theory_calls.proofs.PageCalls.{unmap-missing, unmap-done}
 use Rattle.page_calls.proofs.Searched.{locatable, primary-asked, secondary-asked, KnownOf, known, First, entry-asked, all-edited, alone-edited}
 use borrow.Author.Needs.{needs}
 use Rattle.page_calls.proofs.unmap_page.Statement.{statement}

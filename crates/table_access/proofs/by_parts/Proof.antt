@@ -19,7 +19,7 @@ use Rattle.translation.specs.declared.decision.Decision.{Decision}
 use Rattle.translation.specs.declared.operand.OperandAnswer.{OperandAnswer}
 use Rattle.translation.specs.declared.Early.{Early}
 use Rattle.translation.proofs.Parts.{start-first, start-second}
-use Rattle.calls.specs.Represents.{GoodTable}
+use Rattle.theory_calls.specs.Represents.{GoodTable}
 use Rattle.table_access.specs.Part.{CacheOrNone, foundBy, partBy, takenBy, partEarly, ownPart, Comes}
 use Rattle.table_access.specs.declared.Access.{Access}
 use Rattle.table_access.specs.declared.Found.{Found}

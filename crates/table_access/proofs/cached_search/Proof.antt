@@ -15,7 +15,7 @@ use Rattle.groups.specs.Hash.{groupNumber, TableOf}
 use Rattle.protection.specs.Access.{storing}
 use Rattle.cache.specs.Cache.{hit}
 use Rattle.cache.proofs.None.{no-bytes, never-hit}
-use Rattle.calls.specs.OnBytes.{wantedPage}
+use Rattle.theory_calls.specs.OnBytes.{wantedPage}
 use Rattle.page_calls.proofs.Searched.{locatable, primary-asked, secondary-asked, AtGroups, at-groups, group-is, group-inside}
 use Rattle.table_access.specs.Part.{SearchTold}
 use Rattle.table_access.specs.declared.Found.{Found}

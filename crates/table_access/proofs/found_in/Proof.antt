@@ -13,12 +13,12 @@ use Rattle.groups.specs.Hash.{groupNumber, located}
 use Rattle.groups.specs.declared.Located.{Located}
 use Rattle.matches.specs.Search.{contradict, anyMatch, each, firstSecond, told}
 use Rattle.matches.specs.declared.Told as matches
-use Rattle.tables.specs.Matches.{Match}
-use Rattle.tables.specs.Layout.{matchesOf}
-use Rattle.tables.proofs.Groups.{members-of}
+use Rattle.theory_tables.specs.Matches.{Match}
+use Rattle.theory_tables.specs.Layout.{matchesOf}
+use Rattle.theory_tables.proofs.Groups.{members-of}
 use Rattle.translation.specs.declared.Wanted.{Wanted}
-use Rattle.calls.specs.OnBytes.{layout, wantedPage}
-use Rattle.calls.proofs.AnyEntries.{by-matches}
+use Rattle.theory_calls.specs.OnBytes.{layout, wantedPage}
+use Rattle.theory_calls.proofs.AnyEntries.{by-matches}
 use Rattle.table_access.specs.Part.{SearchTold, nothingFound, tableFound}
 use Rattle.table_access.specs.declared.Found.{Found}
 use Rattle.table_access.proofs.Finds.{matched, in-none, inside}

@@ -10,7 +10,7 @@ use Rattle.translation.specs.Steps.{beforeSearch}
 use Rattle.translation.specs.declared.Early.{Early}
 use Rattle.translation.specs.declared.Early.the-variants.{Decided, Search}
 use Rattle.translation.specs.declared.Wanted.{Wanted}
-use Rattle.calls.proofs.Access.{part-valid}
+use Rattle.theory_calls.proofs.Access.{part-valid}
 use Rattle.table_access.specs.Part.{byFound, foundBy, begunBy, partBy}
 use Rattle.table_access.specs.declared.Begun.{Begun}
 use Rattle.table_access.specs.declared.Begun.the-variants.{Told, Wants}

@@ -8,8 +8,8 @@ use lib.ListN.{length}
 use Rattle.register_words.specs.Sdr1.{tableLength}
 use Rattle.register_words.specs.Block.{blWidth}
 use Rattle.registers.specs.Set.{isLong, blockPairs, sdr1Of, registerWords}
-use Rattle.calls.proofs.Access as rules
-use Rattle.calls.proofs.Pages.{sdr1-set}
+use Rattle.theory_calls.proofs.Access as rules
+use Rattle.theory_calls.proofs.Pages.{sdr1-set}
 use Rattle.table_access.proofs.refusal.Statement.{statement}
 use Rattle.table_access.proofs.refusal.Tie as tie
 

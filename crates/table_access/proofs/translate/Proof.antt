@@ -16,11 +16,11 @@ use Rattle.translation.specs.Operand.{stopped}
 use Rattle.translation.specs.declared.Answer.{Answer}
 use Rattle.translation.specs.declared.decision.Decision.{Decision}
 use Rattle.translation.specs.declared.operand.OperandAnswer.{OperandAnswer}
-use Rattle.calls.specs.Request.{access}
-use Rattle.calls.specs.Answers.{accessAnswer}
-use Rattle.calls.specs.OnBytes.{ended, onBytes}
-use Rattle.calls.proofs.Access.{access-refused}
-use Rattle.cached_calls.specs.Cached.{onCached}
+use Rattle.theory_calls.specs.Request.{access}
+use Rattle.theory_calls.specs.Answers.{accessAnswer}
+use Rattle.theory_calls.specs.OnBytes.{ended, onBytes}
+use Rattle.theory_calls.proofs.Access.{access-refused}
+use Rattle.theory_cache.specs.Cached.{onCached}
 use Rattle.table_access.specs.Part.{callOf, partEarly, EndsAs}
 use Rattle.table_access.proofs.Operands.{tells}
 use Rattle.table_access.proofs.Calls.{ownRules, cached-refused, real-comes, right-table, cached-ends, uncached-ends}

@@ -7,7 +7,7 @@ use lib.Dec.{eqb}
 use lib.ListN.{length}
 use Rattle.registers.specs.Set.{isPage}
 use Rattle.words.proofs.Tests.{both}
-use Rattle.calls.proofs.Access.{access-wrong-length}
+use Rattle.theory_calls.proofs.Access.{access-wrong-length}
 use Rattle.mmu.proofs.access.mmu_access.Statement.{statement}
 use Rattle.mmu.proofs.access.mmu_access.Tie as tie
 

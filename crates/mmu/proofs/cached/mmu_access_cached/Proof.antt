@@ -9,9 +9,9 @@ use lib.Dec.{eqb}
 use lib.ListN.{length}
 use Rattle.registers.specs.Set.{isPage}
 use Rattle.words.proofs.Tests.{both}
-use Rattle.calls.specs.Request.{AccessCall}
-use Rattle.calls.specs.OnBytes.{ended}
-use Rattle.cached_calls.specs.Cached.{onCached}
+use Rattle.theory_calls.specs.Request.{AccessCall}
+use Rattle.theory_calls.specs.OnBytes.{ended}
+use Rattle.theory_cache.specs.Cached.{onCached}
 use Rattle.table_access.proofs.Calls.{cache-wrong-length, wrong-length}
 use Rattle.mmu.proofs.cached.mmu_access_cached.Statement.{statement}
 use Rattle.mmu.proofs.cached.mmu_access_cached.Tie as tie

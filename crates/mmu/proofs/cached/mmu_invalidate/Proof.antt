@@ -5,7 +5,7 @@ use mathlib.Core.Path.{ap}
 use mathlib.Core.List.{List}
 use Prim.Native.Nat.{ℕ}
 use lib.ListN.{length}
-use Rattle.cached_calls.specs.Cached.{invalidateRefusal, invalidateCall}
+use Rattle.theory_cache.specs.Cached.{invalidateRefusal, invalidateCall}
 use Rattle.mmu.proofs.cached.mmu_invalidate.Statement.{statement}
 use Rattle.mmu.proofs.cached.mmu_invalidate.Tie as tie
 

@@ -4,8 +4,8 @@ use mathlib.Core.Bool.{_&&_}
 use Prim.Native.Nat.{_^_}
 use lib.Dec.{ltb}
 use lib.ListN.{length}
-use Rattle.calls.specs.Request.{ProtectCall}
-use Rattle.calls.proofs.PageCalls.{Kept, kept, page-ranges, protect-refused, protect-taken}
+use Rattle.theory_calls.specs.Request.{ProtectCall}
+use Rattle.theory_calls.proofs.PageCalls.{Kept, kept, page-ranges, protect-refused, protect-taken}
 use borrow.Author.Tests.{ltb-true}
 use Rattle.words.proofs.Tests.{both}
 use Rattle.page_calls.proofs.Searched.{table-of}

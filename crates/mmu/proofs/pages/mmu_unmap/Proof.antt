@@ -5,11 +5,11 @@ use Prim.Native.Nat.{ℕ}
 use lib.ListN.{length}
 use Rattle.registers.specs.Rules.{firstBroken}
 use Rattle.page_calls.specs.declared.WordAnswer.{WordAnswer}
-use Rattle.calls.specs.Request.{AnsweredCall}
-use Rattle.calls.specs.Rules.{pageInRange}
-use Rattle.calls.specs.Answers.{wordAnswer}
-use Rattle.calls.specs.OnBytes.{ended}
-use Rattle.calls.proofs.PageCalls.{pageRules, Kept, kept, page-ranges, unmap-11, unmap-refused, unmap-taken}
+use Rattle.theory_calls.specs.Request.{AnsweredCall}
+use Rattle.theory_calls.specs.Rules.{pageInRange}
+use Rattle.theory_calls.specs.Answers.{wordAnswer}
+use Rattle.theory_calls.specs.OnBytes.{ended}
+use Rattle.theory_calls.proofs.PageCalls.{pageRules, Kept, kept, page-ranges, unmap-11, unmap-refused, unmap-taken}
 use Rattle.page_calls.proofs.Searched.{table-of}
 use borrow.Author.Needs.{needs}
 use Rattle.mmu.proofs.pages.mmu_unmap.Statement.{statement}

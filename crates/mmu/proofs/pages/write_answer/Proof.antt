@@ -1,5 +1,5 @@
 -- `mmu::pages::write_answer` meets its contract: four words fill 16 bytes.
-use Rattle.calls.specs.Answers.{wordAnswer}
+use Rattle.theory_calls.specs.Answers.{wordAnswer}
 use borrow.Author.Needs.{needs}
 use Rattle.mmu.proofs.pages.write_answer.Statement.{statement}
 use Rattle.mmu.proofs.pages.write_answer.Tie as tie

@@ -9,7 +9,7 @@ use lib.ListN.{length, drop, length-append, length-drop, drop-of-length-le}
 use lib.Seq.{take-at, drop-at}
 use Rattle.words.specs.Words.{wordBytes, bytesOf}
 use Rattle.translation.specs.declared.operand.OperandAnswer.{OperandAnswer}
-use Rattle.calls.specs.Answers.{accessAnswer}
+use Rattle.theory_calls.specs.Answers.{accessAnswer}
 use Rattle.mmu.proofs.rights.write_rights.Statement.{statement}
 use Rattle.mmu.proofs.rights.write_rights.Tie as tie
 

@@ -1,3 +1,0 @@
--- Edits of every match of a page.
-pub mod Edit
-pub mod Tables

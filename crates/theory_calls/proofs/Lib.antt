@@ -1,0 +1,24 @@
+-- What the exported functions' proofs cite of the calls, and the laws of one call.
+pub mod Lent
+pub mod OnBytes
+pub mod TableLaws
+pub mod Rules
+pub mod Fields
+pub mod Step
+pub mod FirstClear
+pub mod Histories
+pub mod TakenCalls
+pub mod Compared
+pub mod AnyEntries
+pub mod TwoMarks
+pub mod AnyRule
+pub mod AnyAccess
+pub mod AnyTable
+pub mod Refusals
+pub mod Arguments
+pub mod PageCalls
+pub mod Access
+pub mod Pages
+pub mod WidenedPages
+pub mod Computes
+pub mod Examples

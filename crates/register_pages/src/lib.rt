@@ -275,19 +275,22 @@ fn side_at(size: usize, side: bool) -> usize
     if side { size / 2 + 34 } else { 68 }
 }
 
-// The first pair of a side that covers the address for the user or the supervisor, or 8 where none does.
+// The first pair of a side that covers the address for the user or the supervisor, or 8 where none does. Four pairs at a time, so that the compiler
+// writes the inner loop out.
 pub fn covering_pair(page: &[u8], side: bool, user: bool, address: u32) -> usize
     requires { ⌜ isPage (length (now page)) ≡ true ⌝ }
     ensures { λ r. ⌜ r ≡ coveringPair (blockPairs true) (blWidth true) (setWords (now (page .entry))) side user address ⌝ }
 {
     let start = side_at(page.len(), side);
     let pairs = (page.len() - 68) / 16;
-    let mut i: usize = 0;
-    while i < pairs {
-        if register_words::block_covers(user, words::read_word(page, start + 8 * i), address) {
-            return i;
+    let mut first: usize = 0;
+    while first < pairs {
+        for i in first..first + 4 {
+            if register_words::block_covers(user, words::read_word(page, start + 8 * i), address) {
+                return i;
+            }
         }
-        i += 1;
+        first += 4;
     }
     registers::BLOCK_PAIRS
 }

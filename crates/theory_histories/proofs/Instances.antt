@@ -43,7 +43,7 @@ abbrev TestedKept : List Call → Type 0
 TestedKept calls = keptTest 0 sizes calls [] (λ set. true) ≡ true
 
 -- the finite map after a list of calls, and what it tells of a call that follows
-abbrev mapBehind : Slices ℕ → List Call → Map
+abbrev pub mapBehind : Slices ℕ → List Call → Map
 mapBehind lengths calls = after mapStep (map (fedOf lengths) calls) []
 
 abbrev numberBehind : Slices ℕ → List Call → Call → ℕ
@@ -119,8 +119,11 @@ module _ (s : State) (long : lengthsOf s ≡ sizes) where
 
   -- ---- the instances
 
+  met : (calls : List Call) (e : TestedUnder calls) (Holds : History → Type 0) → Holds (historyOf calls e) → Met calls Holds s
+  met calls e Holds holds = record { history = historyOf calls e; its-sdr1 = refl; its-start = refl; its-calls = refl; holds = holds }
+
   kept-list : (calls : List Call) → TestedUnder calls → TestedKept calls → Met calls CacheKept s
-  kept-list calls e test = record { history = historyOf calls e; its-sdr1 = refl; its-start = refl; its-calls = refl; holds = kept calls e calls e test }
+  kept-list calls e test = met calls e CacheKept (kept calls e calls e test)
 
   -- a map of the page 16 of case 11
   in-range : (calls : List Call) (e : TestedUnder calls) → MapInRange (historyOf calls e) (mapOf 16)
@@ -143,27 +146,15 @@ module _ (s : State) (long : lengthsOf s ≡ sizes) where
   full =
       let page = mapOf 16 .page in
       let calls = mapsBelow 16 in
-      record {
-        history = historyOf calls refl;
-        its-sdr1 = refl;
-        its-start = refl;
-        its-calls = refl;
-        holds = (
-          in-range calls refl,
-          by-sizes (λ (m : Map). fieldsAt samePage page m ≡ none) calls refl,
-          by-sizes (λ (m : Map). Arranged 0 (page ∷ mappedPages m) → ⊥) calls (not-arranged (arranged? 0 (page ∷ mappedPages (mapBehind sizes calls))) refl),
-        );
-      }
+      met calls refl _ (
+        in-range calls refl,
+        by-sizes (λ (m : Map). fieldsAt samePage page m ≡ none) calls refl,
+        by-sizes (λ (m : Map). Arranged 0 (page ∷ mappedPages m) → ⊥) calls (not-arranged (arranged? 0 (page ∷ mappedPages (mapBehind sizes calls))) refl),
+      )
 
   room : Met [] (λ h. MapInRange h (mapOf 16) × (mappedTo h (mapOf 16 .page) ≡ none) × ArrangedWith h (mapOf 16 .page)) s
   unfolding histories-compute arrangement?
-  room = record {
-    history = historyOf [] refl;
-    its-sdr1 = refl;
-    its-start = refl;
-    its-calls = refl;
-    holds = (in-range [] refl, refl, is-arranged (arranged? 0 (mapOf 16 .page ∷ [])) refl);
-  }
+  room = met [] refl _ (in-range [] refl, refl, is-arranged (arranged? 0 (mapOf 16 .page ∷ [])) refl)
 
   -- an access with the cache reaches the page
   reached : (calls : List Call) (e : TestedUnder calls) → TestedUnder (calls ++ ownCall (cached (load 0)) ∷ []) → TestedKept (calls ++ ownCall (cached (load 0)) ∷ [])
@@ -187,26 +178,20 @@ module _ (s : State) (long : lengthsOf s ≡ sizes) where
       let before = invalidatesBelow 64 ++ (on (mapsAt 0) ∷ on (mapsAt 1) ∷ []) in
       let behind = on (unmapsAt 1) ∷ invalidateSetOf 0 ∷ invalidateSetOf 1 ∷ [] in
       let calls = before ++ on (unmapsAt 0) ∷ behind in
-      record {
-        history = historyOf calls refl;
-        its-sdr1 = refl;
-        its-start = refl;
-        its-calls = refl;
-        holds = (
-          record {
-            before = before;
-            call = on (unmapsAt 0);
-            behind = behind;
-            parts = refl;
-            request = unmapsAt 0;
-            asks = refl;
-            one-of-these = by-unmap (record { sdr1 = 0; page = pageAt 0; answer = replicate 16 0 }) refl;
-            was-done = was-done calls refl before (on (unmapsAt 0)) behind refl refl refl refl refl;
-            none-of-those = (unmap-maps-none, (invalidate-asks-none 0, (invalidate-asks-none 1, tt)));
-          },
-          reached calls refl refl refl,
-        );
-      }
+      met calls refl _ (
+        record {
+          before = before;
+          call = on (unmapsAt 0);
+          behind = behind;
+          parts = refl;
+          request = unmapsAt 0;
+          asks = refl;
+          one-of-these = by-unmap (record { sdr1 = 0; page = pageAt 0; answer = replicate 16 0 }) refl;
+          was-done = was-done calls refl before (on (unmapsAt 0)) behind refl refl refl refl refl;
+          none-of-those = (unmap-maps-none, (invalidate-asks-none 0, (invalidate-asks-none 1, tt)));
+        },
+        reached calls refl refl refl,
+      )
 
   mapped : Met (invalidatesBelow 64 ++ (on (mapsAt 0) ∷ []))
       (λ h. DoneSince h (λ request. request ≡ mapsAt 0) (TakesOut (pageAt 0)) × Reaches h (cached (load 0)) (load 0) false (pageAt 0)) s
@@ -214,26 +199,20 @@ module _ (s : State) (long : lengthsOf s ≡ sizes) where
   mapped =
       let before = invalidatesBelow 64 in
       let calls = before ++ on (mapsAt 0) ∷ [] in
-      record {
-        history = historyOf calls refl;
-        its-sdr1 = refl;
-        its-start = refl;
-        its-calls = refl;
-        holds = (
-          record {
-            before = before;
-            call = on (mapsAt 0);
-            behind = [];
-            parts = refl;
-            request = mapsAt 0;
-            asks = refl;
-            one-of-these = refl;
-            was-done = was-done calls refl before (on (mapsAt 0)) [] refl refl refl refl refl;
-            none-of-those = tt;
-          },
-          reached calls refl refl refl,
-        );
-      }
+      met calls refl _ (
+        record {
+          before = before;
+          call = on (mapsAt 0);
+          behind = [];
+          parts = refl;
+          request = mapsAt 0;
+          asks = refl;
+          one-of-these = refl;
+          was-done = was-done calls refl before (on (mapsAt 0)) [] refl refl refl refl refl;
+          none-of-those = tt;
+        },
+        reached calls refl refl refl,
+      )
 
 pub instance-rows : InstanceRows
 instance-rows = record {

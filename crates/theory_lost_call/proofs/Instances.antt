@@ -1,24 +1,19 @@
 -- A lost map and a lost unmap that matter: the finite maps with and without the call compute.
 use Prim.Native.Nat.{ℕ}
 use mathlib.Core.Path.{_≡_, refl, sym, subst, _∙_}
-use mathlib.Core.List.{List, [], _∷_, _++_, map}
+use mathlib.Core.List.{List, [], _∷_, _++_}
 use mathlib.Core.Option.{Option, none, some, Option·some-ne-none}
 use Rattle.theory_placement.proofs.Decision.{arrangement?}
-use Rattle.theory_tables.specs.Runs.{after}
 use Rattle.theory_calls.specs.OnMap.{PageFields, Map}
 use Rattle.theory_calls.specs.Request.{Request}
 use Rattle.theory_histories.specs.Calls.{plain, Slices, State, Call, lengthsOf}
-use Rattle.theory_histories.specs.Fed.{fedOf, mapStep}
 use Rattle.theory_histories.proofs.Computes.{histories-compute}
-use Rattle.theory_histories.proofs.Instances.{sizes, TestedUnder, historyOf}
+use Rattle.theory_histories.proofs.Instances.{sizes, TestedUnder, mapBehind, historyOf}
 use Rattle.theory_lost_call.specs.Lost.{MapOrUnmap, a-map, an-unmap, LostCall}
 use Rattle.theory_lost_call.specs.Rows.{pageNumber, mapTo, unmapIt}
 use Rattle.theory_lost_call.specs.Instances.{Lost, OnlyInFirst, LostInstances}
 
--- the finite map after a list of calls
-abbrev mapBehind : Slices ℕ → List Call → Map
-mapBehind lengths calls = after mapStep (map (fedOf lengths) calls) []
-
+-- a page that a map lacks
 missing : {o : Option PageFields} → o ≡ none → ((f : PageFields) × (o ≡ some f)) → ⊥
 missing none-there there = Option·some-ne-none (there .0) (sym (there .1) ∙ none-there)
 

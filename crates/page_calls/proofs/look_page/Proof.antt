@@ -32,12 +32,16 @@ leader : (c : tie.After-differs) (sdr1 : ℕ) (right : TableOf sdr1 (length (beg
 leader c sdr1 right = told-of (c .before .before) sdr1 right .matched (not-false _ (c .before .if1 .left))
 
 returns : tie.Need-returns
-returns c sdr1 right = sym (look-missing _ _ _ (told-of (c .before) sdr1 right .unmatched (not-true _ (c .if1 .taken))) _ _)
+returns c sdr1 right =
+    let none = c .before in
+    rw (c .refused .ensures) (sym (look-missing _ _ _ (told-of (none .before) sdr1 right .unmatched (not-true _ (none .if1 .taken))) _ _))
 
 returns-2 : tie.Need-returns-2
 returns-2 c sdr1 right =
-    let f = leader (c .before) sdr1 right in
-    sym (look-contradicted _ _ _ _ _ (f .are) _ _ (differs-is _ _ _ _ _ _ _ f _ (c .before .differs .ensures) ∙ c .if2 .taken))
+    let contradicting = c .before in
+    let f = leader (contradicting .before) sdr1 right in
+    rw (c .refused2 .ensures)
+    (sym (look-contradicted _ _ _ _ _ (f .are) _ _ (differs-is _ _ _ _ _ _ _ f _ (contradicting .before .differs .ensures) ∙ contradicting .if2 .taken)))
 
 returns-3 : tie.Need-returns-3
 returns-3 c sdr1 right =
@@ -54,7 +58,9 @@ look-page-spec =
     (λ c κs. let start = c .before .before in primary-asked _ (start .args .table .now) _ (start .pre .0) (start .pre .1) (c .locate .ensures))
     (λ c κs. let located = c .before in let start = located .before .before in secondary-asked _ (start .args .table .now) _ (start .pre .0) (start .pre .1) (located .locate .ensures))
     (λ c κs. search needs)
+    (λ c κs. search needs)
     returns
+    (λ c κs. search needs)
     (λ c κs. search needs)
     returns-2
     returns-3)

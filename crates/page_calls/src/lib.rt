@@ -20,6 +20,13 @@ pub struct WordAnswer {
     pub word: u32,
 }
 
+// The answer where there is no word to tell: the number and a zero word.
+fn refused(result: u32) -> WordAnswer
+    ensures { λ r. ⌜ r ≡ record { result = result; word = 0 } ⌝ }
+{
+    WordAnswer { result, word: 0 }
+}
+
 // Whether a VSID and a page index are in their ranges.
 pub fn page_in_range(vsid: u32, index: u32) -> bool
     ensures { λ r. ⌜ r ≡ pageInRange (record { vsid = vsid; index = index }) ⌝ }
@@ -57,10 +64,7 @@ pub fn word_refusal(sdr1: u32, vsid: u32, index: u32, lent: usize) -> WordAnswer
       word = 0;
     } ⌝ }
 {
-    WordAnswer {
-        result: page_refusal(page_in_range(vsid, index), sdr1, lent),
-        word: 0,
-    }
+    refused(page_refusal(page_in_range(vsid, index), sdr1, lent))
 }
 
 // Maps a page that has no match: its entry goes into the first free place of its two groups.
@@ -97,10 +101,7 @@ pub fn unmap_page(vsid: u32, index: u32, table: &mut [u8]) -> WordAnswer
     let primary = matches::in_primary(table, page);
     let told = matches::in_secondary(table, page, primary);
     if !told.any() {
-        return WordAnswer {
-            result: numbers::REFUSED_NO_MATCH,
-            word: 0,
-        };
+        return refused(numbers::REFUSED_NO_MATCH);
     }
     let edit = match_edits::Edit::Clear;
     let word = if told.several() {
@@ -144,20 +145,14 @@ pub fn look_page(vsid: u32, index: u32, table: &[u8]) -> WordAnswer
     let page = groups::locate(table.len(), vsid, index);
     let primary = matches::in_primary(table, page);
     let told = matches::in_secondary(table, page, primary);
-    if told.any() {
-        if told.differs() {
-            return WordAnswer {
-                result: numbers::REFUSED_CONTRADICTION,
-                word: 0,
-            };
-        }
-        return WordAnswer {
-            result: numbers::DONE,
-            word: told.second,
-        };
+    if !told.any() {
+        return refused(numbers::REFUSED_NO_MATCH);
+    }
+    if told.differs() {
+        return refused(numbers::REFUSED_CONTRADICTION);
     }
     WordAnswer {
-        result: numbers::REFUSED_NO_MATCH,
-        word: 0,
+        result: numbers::DONE,
+        word: told.second,
     }
 }

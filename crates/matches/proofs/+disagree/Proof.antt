@@ -32,7 +32,9 @@ abbrev disagree-below : ℕ → In 1 disagree-kinds.ps
 disagree-below t =
     and 1 disagree-kinds.ps (falls 1 disagree-kinds.ps _<_ μ-disagree t) disagree.Pre
 
-disagree-returns : (t : ℕ) → disagree-lts.Need-returns (
+-- what is claimed of the calls, that of itself for fewer entries
+abbrev claims : ℕ → disagree-lts.Claims
+claims t = (
   disagree-below t,
   disagree.Post,
   read-word-reads.Asked,
@@ -41,46 +43,21 @@ disagree-returns : (t : ℕ) → disagree-lts.Need-returns (
   is-word-reads.Learnt,
   words-agree-reads.Asked,
   words-agree-reads.Learnt,
-) (disagree-at t) disagree.Post
+)
+
+disagree-returns : (t : ℕ) → disagree-lts.Need-returns (claims t) (disagree-at t) disagree.Post
 unfolding matchesBelow
 disagree-returns t c secondary vsid api wants =
     let a = c .before .before .args in
     sym (ap (λ (n : ℕ). anyMatch (disagrees (a .second)) (matchesTo secondary vsid api (a .group .now) n)) (c .if1 .taken))
 
-disagree-sub-last : (t : ℕ) → disagree-lts.Need-sub-last (
-  disagree-below t,
-  disagree.Post,
-  read-word-reads.Asked,
-  read-word-reads.Learnt,
-  is-word-reads.Asked,
-  is-word-reads.Learnt,
-  words-agree-reads.Asked,
-  words-agree-reads.Learnt,
-) (disagree-at t) disagree.Post
+disagree-sub-last : (t : ℕ) → disagree-lts.Need-sub-last (claims t) (disagree-at t) disagree.Post
 disagree-sub-last t c = omega arith
 
-disagree-disagree-requires : (t : ℕ) → disagree-lts.Need-disagree-requires (
-  disagree-below t,
-  disagree.Post,
-  read-word-reads.Asked,
-  read-word-reads.Learnt,
-  is-word-reads.Asked,
-  is-word-reads.Learnt,
-  words-agree-reads.Asked,
-  words-agree-reads.Learnt,
-) (disagree-at t) disagree.Post
+disagree-disagree-requires : (t : ℕ) → disagree-lts.Need-disagree-requires (claims t) (disagree-at t) disagree.Post
 disagree-disagree-requires t c κs = (omega arith, (omega arith, omega arith))
 
-disagree-returns-2 : (t : ℕ) → disagree-lts.Need-returns-2 (
-  disagree-below t,
-  disagree.Post,
-  read-word-reads.Asked,
-  read-word-reads.Learnt,
-  is-word-reads.Asked,
-  is-word-reads.Learnt,
-  words-agree-reads.Asked,
-  words-agree-reads.Learnt,
-) (disagree-at t) disagree.Post
+disagree-returns-2 : (t : ℕ) → disagree-lts.Need-returns-2 (claims t) (disagree-at t) disagree.Post
 disagree-returns-2 t c secondary vsid api wants =
     let more = c .before .before in
     let a = more .before .before .args in
@@ -90,88 +67,25 @@ disagree-returns-2 t c secondary vsid api wants =
     ∙ ap (λ (b : Bool). b || (matches vsid (hOf secondary) api (firstAt (a .group .now) last) && test (entryAt secondary (a .group .now) last)))
     (sym (c .before .disagree .ensures secondary vsid api wants) ∙ c .if2 .taken))
 
-disagree-mul-read-word : (t : ℕ) → disagree-lts.Need-mul-read-word (
-  disagree-below t,
-  disagree.Post,
-  read-word-reads.Asked,
-  read-word-reads.Learnt,
-  is-word-reads.Asked,
-  is-word-reads.Learnt,
-  words-agree-reads.Asked,
-  words-agree-reads.Learnt,
-) (disagree-at t) disagree.Post
+disagree-mul-read-word : (t : ℕ) → disagree-lts.Need-mul-read-word (claims t) (disagree-at t) disagree.Post
 disagree-mul-read-word t c = omega arith
 
-disagree-add-read-word : (t : ℕ) → disagree-lts.Need-add-read-word (
-  disagree-below t,
-  disagree.Post,
-  read-word-reads.Asked,
-  read-word-reads.Learnt,
-  is-word-reads.Asked,
-  is-word-reads.Learnt,
-  words-agree-reads.Asked,
-  words-agree-reads.Learnt,
-) (disagree-at t) disagree.Post
+disagree-add-read-word : (t : ℕ) → disagree-lts.Need-add-read-word (claims t) (disagree-at t) disagree.Post
 disagree-add-read-word t c = omega arith
 
-disagree-read-word-requires : (t : ℕ) → disagree-lts.Need-read-word-requires (
-  disagree-below t,
-  disagree.Post,
-  read-word-reads.Asked,
-  read-word-reads.Learnt,
-  is-word-reads.Asked,
-  is-word-reads.Learnt,
-  words-agree-reads.Asked,
-  words-agree-reads.Learnt,
-) (disagree-at t) disagree.Post
+disagree-read-word-requires : (t : ℕ) → disagree-lts.Need-read-word-requires (claims t) (disagree-at t) disagree.Post
 disagree-read-word-requires t c κs = omega arith
 
-disagree-mul-is-word : (t : ℕ) → disagree-lts.Need-mul-is-word (
-  disagree-below t,
-  disagree.Post,
-  read-word-reads.Asked,
-  read-word-reads.Learnt,
-  is-word-reads.Asked,
-  is-word-reads.Learnt,
-  words-agree-reads.Asked,
-  words-agree-reads.Learnt,
-) (disagree-at t) disagree.Post
+disagree-mul-is-word : (t : ℕ) → disagree-lts.Need-mul-is-word (claims t) (disagree-at t) disagree.Post
 disagree-mul-is-word t c = omega arith
 
-disagree-is-word-requires : (t : ℕ) → disagree-lts.Need-is-word-requires (
-  disagree-below t,
-  disagree.Post,
-  read-word-reads.Asked,
-  read-word-reads.Learnt,
-  is-word-reads.Asked,
-  is-word-reads.Learnt,
-  words-agree-reads.Asked,
-  words-agree-reads.Learnt,
-) (disagree-at t) disagree.Post
+disagree-is-word-requires : (t : ℕ) → disagree-lts.Need-is-word-requires (claims t) (disagree-at t) disagree.Post
 disagree-is-word-requires t c κs = omega arith
 
-disagree-words-agree-requires : (t : ℕ) → disagree-lts.Need-words-agree-requires (
-  disagree-below t,
-  disagree.Post,
-  read-word-reads.Asked,
-  read-word-reads.Learnt,
-  is-word-reads.Asked,
-  is-word-reads.Learnt,
-  words-agree-reads.Asked,
-  words-agree-reads.Learnt,
-) (disagree-at t) disagree.Post
+disagree-words-agree-requires : (t : ℕ) → disagree-lts.Need-words-agree-requires (claims t) (disagree-at t) disagree.Post
 disagree-words-agree-requires t c κs = tt
 
-disagree-returns-3 : (t : ℕ) → disagree-lts.Need-returns-3 (
-  disagree-below t,
-  disagree.Post,
-  read-word-reads.Asked,
-  read-word-reads.Learnt,
-  is-word-reads.Asked,
-  is-word-reads.Learnt,
-  words-agree-reads.Asked,
-  words-agree-reads.Learnt,
-) (disagree-at t) disagree.Post
+disagree-returns-3 : (t : ℕ) → disagree-lts.Need-returns-3 (claims t) (disagree-at t) disagree.Post
 unfolding firstAt secondAt
 disagree-returns-3 t c secondary vsid api wants =
     let same = c .before in
@@ -189,16 +103,7 @@ disagree-returns-3 t c secondary vsid api wants =
     (sym (none .disagree .ensures secondary vsid api wants) ∙ other .before .if2 .left))
 
 pub +disagree-spec : {M : Type 1} → statement M
-+disagree-spec = close μ-disagree λ t. disagree-lts.spec (
-  disagree-below t,
-  disagree.Post,
-  read-word-reads.Asked,
-  read-word-reads.Learnt,
-  is-word-reads.Asked,
-  is-word-reads.Learnt,
-  words-agree-reads.Asked,
-  words-agree-reads.Learnt,
-)
++disagree-spec = close μ-disagree λ t. disagree-lts.spec (claims t)
     (disagree-at t)
     disagree.Post
     (disagree-returns t)

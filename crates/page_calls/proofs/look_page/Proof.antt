@@ -2,6 +2,7 @@
 use mathlib.Core.Path.{sym, ap, _∙_}
 use Prim.Native.Nat.{ℕ}
 use lib.ListN.{length}
+use borrow.Author.Tests.{not-true, not-false}
 use Rattle.groups.specs.Hash.{TableOf}
 use Rattle.theory_calls.specs.Answers.{wordAnswer}
 use Rattle.theory_calls.specs.OnBytes.{ended}
@@ -28,22 +29,26 @@ module _ (c : tie.After-any) where
 -- there is a match
 leader : (c : tie.After-differs) (sdr1 : ℕ) (right : TableOf sdr1 (length (begin (c .before .before) .args .table .now)))
     → First _ _ _ _ (told-of (c .before .before) sdr1 right .at) _ (told-of (c .before .before) sdr1 right .is)
-leader c sdr1 right = told-of (c .before .before) sdr1 right .matched (c .before .if1 .taken)
+leader c sdr1 right = told-of (c .before .before) sdr1 right .matched (not-false _ (c .before .if1 .left))
 
 returns : tie.Need-returns
 returns c sdr1 right =
-    let f = leader (c .before) sdr1 right in
-    sym (look-contradicted _ _ _ _ _ (f .are) _ _ (differs-is _ _ _ _ _ _ _ f _ (c .before .differs .ensures) ∙ c .if2 .taken))
+    let none = c .before in
+    rw (c .refused .ensures) (sym (look-missing _ _ _ (told-of (none .before) sdr1 right .unmatched (not-true _ (none .if1 .taken))) _ _))
 
 returns-2 : tie.Need-returns-2
 returns-2 c sdr1 right =
+    let contradicting = c .before in
+    let f = leader (contradicting .before) sdr1 right in
+    rw (c .refused2 .ensures)
+    (sym (look-contradicted _ _ _ _ _ (f .are) _ _ (differs-is _ _ _ _ _ _ _ f _ (contradicting .before .differs .ensures) ∙ contradicting .if2 .taken)))
+
+returns-3 : tie.Need-returns-3
+returns-3 c sdr1 right =
     let f = leader (c .before) sdr1 right in
     let asked = c .before .before .before in
     ap (λ (word : ℕ). ended 0 (begin asked .args .table .now) (wordAnswer 0 word)) (f .word)
     ∙ sym (look-done _ _ _ _ _ (f .are) _ _ (differs-is _ _ _ _ _ _ _ f _ (c .before .differs .ensures) ∙ c .if2 .left))
-
-returns-3 : tie.Need-returns-3
-returns-3 c sdr1 right = sym (look-missing _ _ _ (told-of (c .before) sdr1 right .unmatched (c .if1 .left)) _ _)
 
 pub look-page-spec : {M : Type 1} → statement M
 look-page-spec =
@@ -55,5 +60,7 @@ look-page-spec =
     (λ c κs. search needs)
     (λ c κs. search needs)
     returns
+    (λ c κs. search needs)
+    (λ c κs. search needs)
     returns-2
     returns-3)

@@ -25,7 +25,9 @@ module _ (c : tie.After-any) where
   told-of = known _ _ _ _ _ _ (begin .pre .1) (at .locate .ensures) (searched .in-primary .ensures) (c .before .in-secondary .ensures) (c .any .ensures)
 
 returns : tie.Need-returns
-returns c sdr1 right = sym (unmap-missing _ _ _ (told-of (c .before) sdr1 right .unmatched (not-true _ (c .if1 .taken))) _ _)
+returns c sdr1 right =
+    let none = c .before in
+    rw (c .refused .ensures) (sym (unmap-missing _ _ _ (told-of (none .before) sdr1 right .unmatched (not-true _ (none .if1 .taken))) _ _))
 
 -- there is a match
 leader : (c : tie.After-several) (sdr1 : ℕ) (right : TableOf sdr1 (length (begin (c .before .before) .args .table .now)))
@@ -73,6 +75,7 @@ unmap-page-spec =
     (λ c κs. locatable _ _ (c .before .pre .0) (c .before .pre .1))
     (λ c κs. let start = c .before .before .before in primary-asked _ (start .args .table .now) _ (start .pre .0) (start .pre .1) (c .before .locate .ensures))
     (λ c κs. let located = c .before .before .before in let start = located .before .before in secondary-asked _ (start .args .table .now) _ (start .pre .0) (start .pre .1) (located .locate .ensures))
+    (λ c κs. search needs)
     (λ c κs. search needs)
     (λ c. search needs)
     returns

@@ -3,14 +3,10 @@ use borrow.Author.Needs.{needs}
 use Rattle.page_calls.proofs.word_refusal.Statement.{statement}
 use Rattle.page_calls.proofs.word_refusal.Tie as tie
 
-page-in-range-requires : tie.Need-page-in-range-requires
-page-in-range-requires c κs = search needs
-
-page-refusal-requires : tie.Need-page-refusal-requires
-page-refusal-requires c κs = search needs
-
 returns : tie.Need-returns
-returns c = rw (c .page-refusal .ensures, c .before .page-in-range .ensures)
+returns c =
+    let number = c .before in
+    rw (c .refused .ensures, number .page-refusal .ensures, number .before .page-in-range .ensures)
 
 pub word-refusal-spec : {M : Type 1} → statement M
-word-refusal-spec = tie.close (tie.spec page-in-range-requires page-refusal-requires returns)
+word-refusal-spec = tie.close (tie.spec (λ c κs. search needs) (λ c κs. search needs) (λ c κs. search needs) returns)

@@ -32,7 +32,7 @@ START = [
     ("histories", "Demands", ["Demands"]),
     ("lost_call", "Lost", ["OneLostCall"]),
 ]
-ROWS = {"Tables", "PageRows", "OperandRows", "FourGroups", "Rows", "Cases"}
+ROWS = {"Tables", "PageRows", "OperandRows", "FourGroups", "Rows", "Instances", "Cases"}
 STATEMENTS = "Statements"
 ORDER = [
     ("Numbers", ["numbers/Numbers"]),

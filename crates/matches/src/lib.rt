@@ -1,4 +1,4 @@
-// The matches of a page in its two groups: the search of one group, which tells all that a call asks of it, and what two of them come to.
+// The one search of a group of a page: its first match, whether a further one disagrees, and which entries have V = 0.
 ghost use mathlib.Core.Path.{_≡_};
 ghost use mathlib.Core.Bool.{Bool, false};
 ghost use mathlib.Core.List.{List, [], _∷_, _++_};

@@ -1,4 +1,5 @@
-// The exported calls. Each contract gives the result number and every lent byte by a definition of the crate `calls`, for all inputs.
+// The thirteen exported calls. Each contract gives the result number and every lent byte, for all inputs, by a definition of `theory_calls`,
+// `theory_cache` or `access_rights`.
 mod access;
 mod cached;
 mod pages;

@@ -92,15 +92,16 @@ pub fn blocks_clash(first: u32, second: u32) -> bool
 pub fn in_block(upper: u32, address: u32) -> bool
     ensures { λ r. ⌜ r ≡ inBlock (blWidth true) upper address ⌝ }
 {
-    (address >> 17) & (0x7FFF - ((upper >> 2) & 0x7FFF)) == upper >> 17
+    // The address's complement with ones under BL is the complement of what must be BEPI: the two differ in all of bits 0 to 14.
+    ((address ^ 0xFFFFFFFF) | (upper << 15)) ^ upper >= 0xFFFE0000
 }
 
 // Whether a block is valid for the user or the supervisor and holds the address.
 pub fn block_covers(user: bool, upper: u32, address: u32) -> bool
     ensures { λ r. ⌜ r ≡ covers (blWidth true) user upper address ⌝ }
 {
-    let valid = if user { upper & 1 } else { (upper >> 1) & 1 };
-    (valid == 1) & in_block(upper, address)
+    let valid = if user { 1 } else { 2 };
+    (upper & valid != 0) & in_block(upper, address)
 }
 
 // The physical address of an address in a block.

@@ -1,5 +1,19 @@
 -- Laws of the cache: where its sets and places lie; what a place holds after a load and after a set was zeroed; which place a hit is of. All this
 -- depends on the bytes of a page's set alone.
+--   set-lt, place-0, place-1: there are 64 sets, and where the two places of a set begin
+--   place-in, place-le: a place lies in its set's 32 bytes, and in the cache's 2,048; numberOf: its number
+--   hit-0, hit-1, hit-none: what the cache answers where place 0 holds the page, where only place 1 does, where neither does
+--   load-0, load-1, load-older: the place of a load in these cases
+--   hit-place: a hit has the words of a place that holds the page, and to a store C is set there
+--   holds-same: whether a place holds a page depends on its first word and its index
+--   same-first, same-second, same-index, same-newer, same-holds: caches with the same bytes in a page's set have the same there
+--   same-hit, same-load: they hit the page alike, and load it into the same place
+--   holds-zeros: zero bytes hold no page
+--   length-put, put-newer: a place written leaves the length, and its fourth word is read back
+--   length-loaded, kept: a load leaves the length, and the first three words of every other place
+--   loaded-first, loaded-second, loaded-index, loaded-holds: the words of the place loaded; a page held then was loaded, or held before
+--   length-zeroed, zeroed-in, zeroed-out: a set zeroed leaves the length, its bytes are zero and those of other sets as before
+--   zeroed-out-of, zeroed-same, zeroed-holds: it holds no page then; another set has its bytes; a page held then was held before
 use mathlib.Core.Bool.{Bool, true, false, not, cond, _&&_, false≢true}
 use mathlib.Core.List.{List}
 use mathlib.Core.Logic.{_⊎_, inl, inr, ⊎-elim}

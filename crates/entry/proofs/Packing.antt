@@ -1,4 +1,10 @@
 -- The fields of packed words: a packed word has the fields that it was made of, and it is the only word with these fields and no ignored bit.
+--   FirstFields, SecondFields: a first word, and a second word, has these fields
+--   first-own, second-own: every word has its own fields
+--   first-lt, second-lt: a packed word fits 32 bits
+--   first-packed, second-packed: a packed word has the fields that it was made of
+--   second-ignored: the ignored bits of a packed second word are zero
+--   first-is, second-is: a word is the packed one of its fields; a second word where its ignored bits are zero
 use mathlib.Core.List.{[], _∷_}
 use mathlib.Core.Path.{_≡_, refl, sym, _∙_}
 use Prim.Native.Nat.{ℕ, _+_, _^_, _<_}

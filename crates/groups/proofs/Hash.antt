@@ -1,4 +1,12 @@
 -- Laws of the hash and of a page's two groups, over n: their range, that they mirror one another, and that a group, H, VSID and API name one page.
+--   xor-ones: exclusive or with n ones is the complement in n bits
+--   primary-lt, secondary-lt, group-lt: the groups of a hash, and those of a page, are below 2 ^ n
+--   own-groups-differ: a page's two groups are two
+--   group-mirror: a page's two group numbers add up to one less than the number of groups, for a mask of k ones
+--   samePage-refl, samePage-eq: the test of two pages holds of a page and itself, and only of equal pages
+--   one-page: group, H, VSID and API name one page
+--   within-bytes, within-table: a group lies in a table of 65,536 × 2 ^ k bytes, and in the table of an SDR1
+--   address-bits: the address of a group is the origin's bits or the group's
 use mathlib.Core.Path.{_≡_, refl, sym, ap, ap₂, _∙_}
 use mathlib.Core.Logic.{_≢_}
 use mathlib.Core.Bool.{Bool, true, false, _&&_}

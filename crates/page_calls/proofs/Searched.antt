@@ -1,5 +1,17 @@
 -- What a call on one page knows once the page's groups are located and searched: where they lie, what the search told of the page's matches and free
 -- entries, and that an edit or an entry made there is the page's own.
+--   table-of: the table of a call that its rules do not refuse has the length that its SDR1 tells
+--   locatable: what `locate` asks holds
+--   primary-asked, secondary-asked: what the search of each group asks holds
+--   AtGroups, at-groups: the groups located are the page's own, two, and lie in the table
+--   group-is, group-inside: the group of an entry found or free is the page's, and lies in the table
+--   told-is: the two searches tell of the page's matches and free entries; pageFree: which entries are free
+--   First: the page's first match and the others, as the search told; differs-is: whether these contradict
+--   KnownOf, known: all this together, for any SDR1 that the table's length is right for
+--   free-is, place-lt: the free place told is the page's first free one, and one of eight entries
+--   placed-is: an entry written at the group located is the page's
+--   entry-asked: what an edit of the entry found asks holds
+--   all-edited, alone-edited: an edit of all matches, or of the only one, is the edit of the page's groups
 use mathlib.Core.Path.{_≡_, refl, sym, ap, ap₂, _∙_}
 use mathlib.Core.Bool.{Bool, true, false, cond, true≢false}
 use mathlib.Core.List.{List, [], _∷_}

@@ -1,5 +1,13 @@
 -- A register page as the set of 49 words, by the words at its bytes: each word of the set is the page's own, at the byte where the page has it, and
 -- pairs 4 to 7 of a short page's set are zero.
+--   PageSize, short-size, long-size: a page is short, of 132 bytes, or long, of 196; page-size: which it is, by its length
+--   page-least: every page has at least 132 bytes
+--   own-pairs, pairs-most: how many pairs a side has, by the page's length, and that they are at most 8
+--   pair-fits: the bytes of a pair lie on the page; pair-byte: the numbers of its words, and its byte
+--   own-at, own-sdr1, own-segment: the page's own words are those at its bytes
+--   sdr1-at, segment-at, upper-at, lower-at: the words of the set of 49 are those at the page's bytes
+--   covering-own: a pair of the set that covers an address is one of the page's own
+--   none-covers: where none of the page's own pairs covers an address, none of the set does
 use mathlib.Core.Path.{_≡_, refl, sym, ap, _∙_}
 use mathlib.Core.Bool.{Bool, true, false, cond, true≢false}
 use mathlib.Core.List.{List}

@@ -1,4 +1,15 @@
 -- What the tests of blocks decide: a shared address is found bit by bit, and two blocks that cover one address clash.
+--   bl-same: where bits 15 to 18 of the upper word are zero, BL of 11 bits is BL of 15 bits
+--   high-masked: bits 15 to 18 by one mask
+--   wideUpper, shape-wide: the shape of a block on a short or a long page, tested with BL of 15 bits
+--   shape-narrow: a block of a short page's shape is off or has bits 15 to 18 zero
+--   shape-same, clash-same, covers-same, physical-same: for such blocks every test is the same with BL of 11 and of 15 bits
+--   off-shape, off-clash, off-covers: a pair that is off has its shape, clashes with none and covers nothing
+--   bl-ones, bl-few: BL of a block of right shape is a field of ones, at most 15
+--   start-clear: its start has no bit under BL
+--   holds-range: an address is in it exactly where it agrees with the start above the block's bits
+--   covered-share, share-witness: the test for a shared address holds where an address is in both blocks, and gives such an address
+--   covers-clash: two blocks that cover one address for one privilege clash
 use Prim.Native.Nat.{ℕ, _+_, _-_, _*_, _/_, _%_, _^_, _≤_, _<_}
 use mathlib.Core.Bool.{Bool, true, false, cond, not, _&&_, _||_, true≢false}
 use mathlib.Core.Logic.{_↔_}

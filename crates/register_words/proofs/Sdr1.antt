@@ -1,4 +1,8 @@
 -- What the shape of SDR1 says of its mask, and that every SDR1 made of an origin and k ones has the shape.
+--   mask-is, ones-at-most-9: where SDR1 has its shape its mask is k ones, and k is at most 9
+--   length-is: its table has 65,536 × 2 ^ k bytes
+--   made-shape: an SDR1 made of an origin that 2 ^ k divides and of k ones has the shape
+--   made-ones, made-length: its k, and the length of its table
 use mathlib.Core.Path.{_≡_, refl, ap, _∙_}
 use mathlib.Core.Bool.{true}
 use Prim.Native.Nat.{ℕ, _+_, _-_, _*_, _/_, _%_, _^_, _≤_}

@@ -1,5 +1,10 @@
 -- What the invariant says of one place of the cache: the words that it holds for a page are backed by the page's first match in the table. A mark, and
 -- any edit of another page, keeps this; and where a hit is backed, the search finds an entry that agrees with it and the mark of step 7 changes nothing.
+--   Backed: the page's first match stands for the cached words: same first word, a second word that agrees, R set, C set where cached
+--   backed-kept: a table with the same matches of the page backs the words too
+--   backed-marked: a mark of any page keeps them backed
+--   contradict-marks: marks of the first match do not count where matches are compared
+--   marks-idle: marks that a word has already change nothing
 use Prim.Native.Nat.{ℕ, _+_, _^_, _<_}
 use mathlib.Core.Path.{_≡_, refl, sym, ap, ap₂, _∙_, subst}
 use mathlib.Core.Bool.{Bool, true, false, not, cond, _||_}

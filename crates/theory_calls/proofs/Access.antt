@@ -1,4 +1,15 @@
 -- The cases of an access on bytes: its rules after 11, when it leaves no mark, and what the call leaves.
+--   rulesThen: the list of an access's rules after 11
+--   then-range, then-operand, then-check, then-length, then-none: the number that they give, rule by rule (6, 12, the check's, 1, 0)
+--   then-not-11: they never give 11; then-kept: what holds of an access that none of them refuses
+--   by-early: a proof by the cases of the steps before the search: decided, or a search with its wanted page
+--   part-valid, wanted-valid: a page that is searched for is in range, by the register words or by the call
+--   fault-number: a fault's number is not 0
+--   refused-words: an outcome neither done nor a fault answers its number, zero words and no rule
+--   late-done: after a search only a done access answers 0
+--   unmarked, parts-unmarked: an access that is not done marks nothing, by one part and by all parts
+--   unmarked-decided: nor does a part decided before the search
+--   access-wrong-length, access-refused, access-taken: what the call leaves after rule 11, after another rule, and where none is broken
 use mathlib.Core.Path.{_≡_, refl, sym, ap, _∙_}
 use mathlib.Core.Bool.{Bool, true, false, cond, not, _&&_, true≢false}
 use mathlib.Core.List.{List, [], _∷_, _++_}

@@ -1,5 +1,17 @@
 -- Entries of any table, by group and number: a match is a member of the list of a page's matches, the first match is its head, the first free entry is
 -- the one that map takes, and what an edit of all matches or of one entry leaves.
+--   by-matches: a proof by the cases of a list of matches, none or a first one
+--   own: the list of a page's matches in the table
+--   asMatch: the entry at a group and number as a member; matching-member: it is in the list where it matches
+--   member-matching, member-second: a member is an entry that matches, and its second word is the entry's
+--   some-match, no-match: the list is empty exactly where no entry matches
+--   first-of, head-is: the head of the list is the page's first match, and the first match is the head
+--   disagree, contradicts: the list contradicts itself exactly where two matching entries disagree
+--   disagreeing-some: two that disagree are matches
+--   place-free, free-is: the place that the search for a free entry names is the first free one, and the only such
+--   none-free: where it names none, no entry of the page's groups is free
+--   match-edited, others-kept: after an edit of all matches each has its new words, and every other entry is as before
+--   entry-put, all-but-kept: an entry written has its new words, and every other entry is as before
 use Prim.Native.Nat.{ℕ, suc, _+_, _*_, _^_, _≤_, _<_}
 use mathlib.Core.Path.{_≡_, refl, sym, ap, ap₂, _∙_, subst}
 use mathlib.Core.Bool.{Bool, true, false, true≢false}

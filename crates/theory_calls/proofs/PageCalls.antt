@@ -1,5 +1,17 @@
 -- The cases of the calls on one page, as the code meets them: what their three common rules refuse, what one search of a page's two groups
 -- says of the table's matches, and what its edit and its free entry are in the table.
+--   pageRules: the rules that every call on a page has (6, 2, 1); Kept, kept: what holds where none of them is broken
+--   page-ranges, map-ranges: the ranges that a test of them gives, of a page and of the arguments of map
+--   clear-refused, map-refused, protect-refused, unmap-refused, look-refused: what a refused call leaves
+--   clear-done, map-taken, protect-taken, unmap-taken, look-taken: a call that is not refused leaves what its work does
+--   unmap-11, look-11: with an answer of another length than 16 all stays
+--   ownGroup, pageMatches: the bytes of a page's group, and the matches in its two groups
+--   editedBoth: the table with every match of both groups edited; AllEdited: what such an edit leaves, with a word of all marks
+--   map-full, map-placed: map of a page with no match, where no entry is free and where one is
+--   map-matched: map of a page that has a match
+--   unmap-missing, protect-missing, look-missing: these calls on a page with no match
+--   look-contradicted, look-done: look at a page whose matches contradict, and at one whose matches do not
+--   unmap-done, protect-done: the work of unmap and of protect is the edit of all matches
 use mathlib.Core.Path.{_≡_, refl, sym, ap, _∙_}
 use mathlib.Core.Bool.{Bool, true, false, cond, not, _&&_}
 use mathlib.Core.List.{List, [], _∷_}

@@ -1,5 +1,17 @@
 -- The marks of an operand's parts on any table. The pages of the two parts are two, so the mark of one leaves the matches of the other, and either
 -- mark may be made first.
+--   wanted-index: a part wants the page at the page index of its start
+--   pages-apart: the two parts over a page edge want two pages; apart-sym: two pages are two in either order
+--   own-match: the head of a page's matches is an entry of the table that matches
+--   mark-first, mark-none: the mark of a done access overwrites the first match, or nothing where there is none
+--   fits: the words that a mark writes fit 32 bits
+--   mark-good: a mark leaves a good table
+--   mark-leaves: a mark leaves the matches of every other page
+--   mark-reads, mark-others: after a mark the first match has its marks, and every other entry is as before
+--   second-kept: the mark of the first part leaves the matches of the second part's page
+--   match-kept, first-kept: where two tables have the same matches of a page, a match and the first match of one are those of the other
+--   no-common: no entry matches two pages
+--   marks-commute: the marks of two pages may be made in either order
 use Prim.Native.Nat.{ℕ, _+_, _^_, _<_}
 use mathlib.Core.Path.{_≡_, refl, sym, ap, ap₂, _∙_, subst}
 use mathlib.Core.Bool.{Bool, true, false, cond, true≢false}

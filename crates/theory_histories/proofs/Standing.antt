@@ -1,5 +1,12 @@
 -- Which pages are mapped goes by the calls' arguments alone: a call does to the list of mapped pages one of four acts, on the finite map and on a table that
 -- represents some map with these pages. Marks do not count, so nothing is asked of the cache.
+--   does: what a request does to the mapped pages: empty, insert, delete or leave
+--   actIn, actOf: what a call of a list does to them, refused or not, by the lengths of what it is lent
+--   pagesBy: the mapped pages after a list of calls
+--   has-page: a page is among the mapped pages exactly where the map has fields for it
+--   runs-pages: the finite map has the pages of pagesBy after the calls
+--   Standing: the table represents some map with these pages; size-of: such a table has the length of the history's own
+--   runs-stand: after the calls the table represents some map with the pages of pagesBy
 use Prim.Native.Nat.{ℕ, _+_}
 use mathlib.Core.Path.{_≡_, refl, sym, ap, _∙_}
 use mathlib.Core.Bool.{Bool, true, false, not, cond, _||_, true≢false}

@@ -1,4 +1,15 @@
 -- A page's two groups, what matches in them, and which entries are among a page's matches, for any table.
+--   MatchOf: x is an entry of the table that matches the page, with its own words
+--   entryOf: an entry of the page's primary or secondary group as a match
+--   member-of, match-member: an entry that matches is among the page's matches
+--   members-in, members-of: what is among the matches of a group, and of a page, is such an entry
+--   matchesIn-none, none-matchesIn: a group has no match exactly where none of its entries matches
+--   matchesOf-none, none-matchesOf: a page has no match exactly where neither group has one
+--   matchesIn-same, matchesOf-same: a group whose entries read alike in two tables has the same matches, and so has the page
+--   group-in-range, group-mirror: a page's two groups are groups of the table, and each is the mirror of the other
+--   groups-differ: they are two
+--   free-fails: a free entry matches no page
+--   other-fails: a word that matches one page matches no other page of its group
 use mathlib.Core.Path.{_≡_, refl, sym, ap, ap₂, _∙_, subst}
 use mathlib.Core.Logic.{_≢_, ⊎-elim}
 use mathlib.Core.Bool.{Bool, true, false, not, true≢false}

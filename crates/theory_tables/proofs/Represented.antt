@@ -1,5 +1,8 @@
 -- What follows from "this table represents this finite map": the matches of a mapped page and of any other, used entries and mapped pages of a
 -- pair, and that a free entry is left for a page exactly when an arrangement with it exists.
+--   unmapped-matches: a page that is not mapped has no match
+--   OneMatch, mapped-match: a mapped page has one match, with the second word of its fields
+--   full-branch, free-branch: a decision on an arrangement with the page is no where no entry is free for it, and yes where one is
 use mathlib.Core.Path.{_≡_, refl, sym, ap, _∙_, subst}
 use mathlib.Core.Logic.{_↔_, ite, if-pos, if-neg}
 use mathlib.Core.Bool.{Bool, true, false, decide}

@@ -1,4 +1,16 @@
 -- The cases of an operand: how its answer follows from the answers of its parts, the bytes in each page, and where the second part starts.
+--   one-part, two-parts: an operand lies in one page or goes over its end, by the address and length
+--   first-bytes-are: how many bytes the first of two parts has
+--   start-first, start-second: where each part starts
+--   operand-stated: how an operand lies in pages, all in one record
+--   next-low, next-page: the page index of the second part differs from the first's, already in its low six bits
+--   first-stops, second-stops: a part that is not done answers for the operand
+--   one-done, both-done: the answer where the only part is done, and where both are
+--   one-answers: within one page the answer is that part's, done or not
+--   not-done-stops, parts-done: an operand that is not done is stopped by a part, and one that is done has all its parts done
+--   operand-same, operand-related: operands whose parts answer alike answer alike, also up to a relation of what decided them
+--   result-of: what holds of the results of both parts holds of the operand's
+--   SameButPlace, decisions-agree: what decided an outcome is the same for two searches but for the place of the entry
 use mathlib.Core.Path.{_≡_, refl, sym, ap, _∙_}
 use mathlib.Core.Bool.{Bool, true, false, cond}
 use Prim.Native.Nat.{ℕ, _+_, _-_, _*_, _/_, _%_, _^_, _≤_, _<_}

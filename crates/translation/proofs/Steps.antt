@@ -1,4 +1,15 @@
 -- The case laws of the steps of an access: what each test on the way decides, and what follows where the outcome is known.
+--   fetch-is: a test that asks for a fetch holds only of a fetch
+--   block-done, block-fault, block-by: what a covering block comes to, where it allows the access, where not, and in both cases
+--   before-real, before-block, before-no-execute, before-search: what the steps before the search come to, test by test
+--   searches: an access that searches is past every earlier step and wants its own page
+--   wanted-in-range: the VSID and page index of the wanted page are in range
+--   no-execute-fetch, guarded-fetch: only a fetch ends with these faults
+--   decided-early, after-late: the outcomes before the search are those of steps 1 to 3, and those after it are not
+--   after-contradicting, after-nothing, after-at: what each answer of the search comes to
+--   page-guarded, page-protected, page-done, page-by: what an entry that was found comes to, test by test, and in all three cases
+--   done-passes, passes-done: an access is done exactly where an entry was found that passes steps 5 and 6
+--   outcome-decided, outcome-searched: the outcome of all steps, decided before the search or by it
 use mathlib.Core.Bool.{Bool, true, false, _&&_, true≢false}
 use mathlib.Core.List.{List}
 use mathlib.Core.Path.{_≡_, refl, sym, ap, _∙_}

@@ -1,4 +1,14 @@
 -- Laws of tests of the numbers below a bound: every number passes, or the first that does.
+--   every-next, every-more: the test of every number below n + 1, by those below n and n itself
+--   every-at: where every number below n passes, each does; every-all: and back
+--   every-not: where one number below n fails, not every one passes
+--   every-same, first-same: tests that are the same below n come to the same
+--   every-further: further numbers that all pass leave the test of every number as it was
+--   first-found: the first below n that passes, where it passes and those before it fail
+--   first-none: where none passes the first is n
+--   first-passes, first-before: the first that passes does pass, and those before it fail
+--   FirstOf, same-first, none-first: the first below n and the first below m are the same number, or both are none
+--   first-further: they are so where the further numbers, from n to m, fail
 use mathlib.Core.Path.{_≡_, refl, sym, ap, ap₂, _∙_}
 use mathlib.Core.Bool.{Bool, true, false, cond, _&&_}
 use mathlib.Core.Logic.{⊎-elim}

@@ -1,4 +1,9 @@
 -- Laws of shifts and masks of words, over the width: what `|`, `&` and `!` do, as quotients and remainders by powers of two.
+--   or-sum: `x | y` is x + y, where y is below 2 ^ k and the k low bits of x are zero
+--   or-bit: `a | 2 ^ k` sets that bit and keeps the others
+--   or-full: k ones or any k bits are k ones
+--   and-top: in 32 bits `a & (2 ^ 32 - 2 ^ k)` clears the k low bits
+--   and-not-in: in w bits `a & !(2 ^ k - 1)` clears the k low bits
 use mathlib.Core.Path.{_≡_, sym, ap, ap₂, _∙_}
 use Prim.Native.Nat.{ℕ, suc, _+_, _-_, _*_, _/_, _%_, _^_, _≤_, _<_, max}
 use native.Mathlib.Nat.{add-zero, one-mul, add-mul, mul-assoc, mod-lt, mod-mod, pow-suc}

@@ -1,4 +1,11 @@
 -- Laws of Bool tests that every crate's proofs use: conjunctions taken apart, equal tests, a case by a test, the order of two numbers.
+--   both: a conjunction that holds gives both its parts
+--   by-test: a proof by the two cases of a test, each with its equation
+--   cond-by: what holds of both cases of a test holds of the case that it picks
+--   same-test: two tests are equal where each that holds gives the other
+--   eqb-same: two tests of equality are equal where each equation gives the other
+--   both-zero: the test of a number for zero is the tests of two others, where it is zero exactly where they are
+--   three: of two numbers one is less, or they are equal
 use mathlib.Core.Bool.{Bool, true, false, cond, _&&_}
 use mathlib.Core.Logic.{_⊎_, inl, inr}
 use mathlib.Core.Path.{_≡_, refl, sym}

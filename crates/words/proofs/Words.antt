@@ -1,4 +1,17 @@
 -- The laws of words in a list of bytes: what was written is read back, and a write leaves every other byte and word as it was.
+--   Bytes: every element of a list is below 2 ^ 8
+--   word-lt: a word of such a list fits 32 bits
+--   byte-0, byte-1, byte-2, byte-3: the bytes of a word made of four bytes; own-bytes: a word is made of its own four
+--   swapped-of, swapped-twice: a word with its bytes in reverse order, and that reversed twice it is itself
+--   turned-0, turned-1, turned-2, turned-3: each byte of the reversed word
+--   reverse-same: four bytes reversed equal a word reversed exactly where the four bytes equal the word
+--   sets-before, sets-behind, sets-in: a run of stores leaves what is before it and behind it, and puts in what it stores
+--   sets-comm: two runs of stores that do not meet may be made in either order
+--   length-wordBytes, length-withWord: a word has four bytes, and a write of a word leaves the length
+--   byte-before, byte-behind, word-before, word-behind: a write of a word leaves the bytes and words before it and behind it
+--   word-same: the word written is read back; withWord-bytes: after the write every element is still a byte
+--   written, written-more, written-all: words written one after the other; one word more; words that fill a list leave their own bytes
+--   length-wordsAt, getD-wordsAt: how many words a list of bytes is read as, and which word each is
 use mathlib.Core.Path.{_≡_, refl, sym, ap, ap₂, _∙_}
 use mathlib.Core.Logic.{⊎-elim, _⊎_, inl, inr}
 use mathlib.Core.List.{List, [], _∷_, _++_, append-assoc, append-nil}

@@ -52,4 +52,6 @@ four-groups-tables = record {
   uses = record { equal = refl };
   free-places = record { equal = refl };
   overwritten = record { equal = refl };
+  runs = record { equal = refl };
+  afterwards = record { equal = refl };
 }

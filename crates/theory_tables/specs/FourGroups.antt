@@ -8,6 +8,7 @@ use lib.Dec.{eqb}
 use Rattle.words.specs.Rows.{Hold}
 use Rattle.theory_placement.specs.Lists.{oneIf}
 use Rattle.theory_tables.specs.Matches.{Match}
+use Rattle.theory_tables.specs.Runs.{run, after}
 use Rattle.theory_tables.specs.Layout.{Layout, matchesOf, used, freePlace, overwriteEach}
 
 -- the first word of page p in its primary or secondary group
@@ -81,3 +82,6 @@ pub record FourGroupsTables : Type 0 where
       )
       ∷ []
       )
+  -- a machine that adds what it is called with and answers the sum: each call is made in the state that the one before left
+  pub runs : Hold ((run (λ c sum. (sum + c, sum + c)) (1 ∷ 2 ∷ 4 ∷ []) 0, 1 ∷ 3 ∷ 7 ∷ []) ∷ [])
+  pub afterwards : Hold ((after (λ c sum. (sum, sum * 2 + c)) (1 ∷ 2 ∷ 4 ∷ []) 0, 12) ∷ [])

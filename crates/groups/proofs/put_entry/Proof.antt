@@ -29,8 +29,9 @@ same-length c = search needs
 returns : tie.Need-returns
 unfolding putAt
 returns c =
-    let a = c .before .before .before .before .before .args in
-    back-on _ (a .group) (λ group. putEntry group (a .entry) (a .first) (a .second)) _ (c .before .before .write-entry .ensures)
+    let written = c .before .before in
+    let a = written .before .before .before .args in
+    back-on _ (a .group) (λ group. putEntry group (a .entry) (a .first) (a .second)) _ (written .write-entry .ensures)
 
 pub put-entry-spec : {M : Type 1} → statement M
 put-entry-spec =

@@ -33,8 +33,8 @@ api-of-requires c κs = search needs
 
 match-word-requires : tie.Need-match-word-requires
 match-word-requires c κs =
-    let own = c .before .before .before in
-    let page = own .before .before .pre .2 in
+    let g = c .before .before .before in
+    let page = g .before .before .pre .2 in
     (page .vsid-lt, omega arith, rw (c .api-of .ensures) (api-lt _ (page .index-lt)))
 
 returns : tie.Need-returns

@@ -14,9 +14,9 @@ use Prim.Native.Nat.{ℕ, zero, suc, _+_, _-_, _*_, _/_, _%_, _^_, _≤_, _<_}
 use native.Mathlib.Nat.{add-zero, mul-assoc, mod-lt, pow-suc}
 use native.Mathlib.Omega.{arith}
 use lib.Arith.{bin-ind}
-use lib.Bits.{bitXor, bitOr, bitAnd, differ, xor-step, xor-mod, xor-lt, or-lt, and-mask}
+use lib.Bits.{bitXor, bitOr, bitAnd, differ, xor-step, xor-mod, and-mask}
 use lib.Dec.{eqb}
-use lib.Pow.{pow-pos, pow-mono, pow-add, split, low, mod-mod-pow}
+use lib.Pow.{pow-pos, pow-add, split, low, mod-mod-pow}
 use borrow.Author.Tests.{eqb-true, eq-eqb}
 use Rattle.words.specs.Bits.{bits, placed}
 use Rattle.words.specs.Ones.{lowOnes}
@@ -24,7 +24,7 @@ use Rattle.words.proofs.Masks.{or-sum}
 use Rattle.words.proofs.Tests.{both}
 use Rattle.entry.specs.Entry.{apiOf}
 use Rattle.register_words.specs.Sdr1.{originOf, maskOf, sdr1Shape, tableLength, maskOnes, hashBits}
-use Rattle.register_words.proofs.Sdr1.{mask-is, ones-at-most-9, length-is}
+use Rattle.register_words.proofs.Sdr1.{mask-is, length-is}
 use Rattle.groups.specs.Page.{Page, samePage}
 use Rattle.groups.specs.Hash.{hashOf, primaryGroup, secondaryGroup, groupsOf, groupNumber, groupAddress}
 
@@ -74,10 +74,6 @@ xor-ones (suc n) x l =
     ∙ ap₂ (λ (h d : ℕ). bitXor (x / 2) h * 2 + differ (x % 2) d) half odd
     ∙ ap (λ (h : ℕ). h * 2 + differ (x % 2) 1) high
     ∙ omega (arith, flipped, l, twice)
-
-pub hash-lt : (vsid index : ℕ) → index < 2 ^ 16 → hashOf vsid index < 2 ^ 19
-unfolding hashOf
-hash-lt vsid index h = xor-lt 19 (vsid % 2 ^ 19) index (omega arith) (omega arith)
 
 -- ---- the two groups of a hash
 
@@ -188,9 +184,3 @@ module _ (sdr1 g : ℕ) (shape : sdr1Shape sdr1 ≡ true) (h : g < 2 ^ hashBits 
       let moved : o * 2 ^ 16 ≡ q * 2 ^ (k + 16) + 0 = ap (λ (x : ℕ). x * 2 ^ 16) parts ∙ mul-assoc q (2 ^ k) (2 ^ 16) ∙ ap (λ (x : ℕ). q * x) (sym (pow-add 2 k 16)) ∙ sym (add-zero (q * 2 ^ (k + 16))) in
       let high : o * 2 ^ 16 % 2 ^ (k + 16) ≡ 0 = ap (λ (x : ℕ). x % 2 ^ (k + 16)) moved ∙ low q (k + 16) (pow-pos (k + 16)) in
       or-sum (k + 16) (o * 2 ^ 16) (64 * g) high (omega (arith, pow-add 2 10 k, pow-add 2 k 16))
-
-  pub address-lt : groupAddress sdr1 g < 2 ^ 32
-  unfolding hashBits
-  address-lt =
-      let small : 64 * g < 2 ^ 32 = omega (arith, pow-add 2 10 (maskOnes sdr1), pow-mono (ones-at-most-9 sdr1 shape)) in
-      rw (← address-bits) (or-lt 32 (placed 15 (originOf sdr1)) (64 * g) (omega arith) small)

@@ -6,7 +6,6 @@ use mathlib.Core.List.{List, [], _∷_, _++_, foldl-append, List·Memᴰ, List·
 use Prim.Native.Nat.{ℕ, _+_, _*_, _^_, _≤_, _<_}
 use native.Mathlib.Omega.{arith}
 use lib.ListN.{length}
-use Rattle.words.proofs.Words.{Bytes}
 use Rattle.entry.proofs.Marks.{withPP-lt}
 use Rattle.theory_tables.specs.Matches.{Match}
 use Rattle.groups.specs.Group.{groupOf, onGroup, firstAt, secondAt, putEntry, putAt}
@@ -15,7 +14,7 @@ use Rattle.match_edits.specs.Edit.{EditFits, edited, editEach, editMatch
 use Rattle.match_edits.specs.declared.Edit.{Edit}
 use Rattle.match_edits.specs.declared.Edit.the-variants.{Clear, Protect}
 use Rattle.groups.proofs.Group.{length-group, put-same, group-other, length-on, on-on}
-use Rattle.groups.proofs.Entries.{length-entry, bytes-entry, first-other, second-other}
+use Rattle.groups.proofs.Entries.{length-entry, first-other, second-other}
 use Rattle.groups.proofs.Stored.{stored-length}
 use Rattle.matches.proofs.Matches.{match-is, match-in}
 
@@ -36,12 +35,6 @@ module _ (edit : Edit) where
   unfolding editEach
   length-edit [] group = refl
   length-edit (m ∷ ms) group = length-edit ms (putEntry group (m .entry) (edited edit m .0) (edited edit m .1)) ∙ length-entry group (m .entry) (edited edit m .0) (edited edit m .1)
-
-  pub bytes-edit : (ms : List Match) (group : List ℕ) → Bytes group → Bytes (editEach edit ms group)
-  unfolding editEach
-  bytes-edit [] group h = h
-  bytes-edit (m ∷ ms) group h =
-      bytes-edit ms (putEntry group (m .entry) (edited edit m .0) (edited edit m .1)) (bytes-entry group (m .entry) (edited edit m .0) (edited edit m .1) h)
 
   -- an entry that no match of the list is stays
   pub edit-other : (ms : List Match) (group : List ℕ) (j : ℕ) → ((m : Match) → List·Memᴰ m ms → j ≢ m .entry)
@@ -77,10 +70,6 @@ module _ (edit : Edit) where
   pub length-edit-matches : (b : Bool) (vsid api : ℕ) (group : List ℕ) → length (editMatches edit b vsid api group) ≡ length group
   unfolding editMatches
   length-edit-matches b vsid api group = length-edit _ group
-
-  pub bytes-edit-matches : (b : Bool) (vsid api : ℕ) (group : List ℕ) → Bytes group → Bytes (editMatches edit b vsid api group)
-  unfolding editMatches
-  bytes-edit-matches b vsid api group = bytes-edit _ group
 
 module _ (edit : Edit) (vsid api : ℕ) (group : Bool → ℕ) where
   edit-one : (b : Bool) (t : List ℕ) → 64 * group b + 64 ≤ length t

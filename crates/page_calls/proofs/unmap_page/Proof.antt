@@ -36,7 +36,8 @@ leader c sdr1 right = told-of (c .before .before) sdr1 right .matched (not-false
 
 edit-both-requires : tie.Need-edit-both-requires
 edit-both-requires c κs =
-    let asked = c .before .before .before .before in
+    let several = c .before .before in
+    let asked = several .before .before in
     let pre = begin asked .pre in
     let g = told-of asked (pre .0 .0) (pre .0 .1) .at in
     (tt, g .primary-in, g .secondary-in, g .apart)

@@ -19,7 +19,7 @@ mkdir -p "$work/tree/crates"
 cp -R .ci .gitignore Makefile crates.txt examples include tools "$work/tree"
 cd "$work/tree"
 rm -f .ci/times .ci/times.last
-unset MMU_LOCKED MAKEFLAGS ARCHIVE RT GATE_JOURNAL
+unset MMU_LOCKED MAKEFLAGS MAKELEVEL MFLAGS ARCHIVE RT GATE_JOURNAL
 
 # A stand-in for rt: it says when it begins and ends, and fails where a file says so. `rt ci` removes target/, and
 # `rt check` of everything ends well only where a test runs meanwhile.

@@ -7,7 +7,7 @@ LIBDIR ?= $(PREFIX)/lib
 INCLUDEDIR ?= $(PREFIX)/include
 BINDIR ?= $(PREFIX)/bin
 MANDIR ?= $(PREFIX)/share/man
-VERSION := 0.13.0
+VERSION := 0.12.0
 ARCHIVE ?= target/staticlib/libmmu.a
 OUT := target/c
 C_FLAGS := -std=c99 -Wall -Wextra -pedantic -O2 -Iinclude

@@ -11,13 +11,12 @@
 #include <stdlib.h>
 #include <string.h>
 
-enum { CHECK, SET_REGISTER, CLEAR, MAP, UNMAP, PROTECT, LOOK, ACCESS, ACCESS_CACHED, RIGHTS, INVALIDATE, SWEEP, PACK,
-       UNPACK, CALLS };
+enum { CHECK, SET_REGISTER, CLEAR, MAP, UNMAP, PROTECT, LOOK, ACCESS, ACCESS_CACHED, RIGHTS, INVALIDATE, PACK, UNPACK,
+       CALLS };
 enum { LARGEST_TABLE = 1 << 19, ROUND = 400, VSIDS = 8, PAGES = 6 };
 
 static const char *const names[CALLS] = { "check", "set_register", "clear", "map", "unmap", "protect", "look",
-                                          "access", "access_cached", "rights", "invalidate", "sweep", "pack",
-                                          "unpack" };
+                                          "access", "access_cached", "rights", "invalidate", "pack", "unpack" };
 
 /* The results that each call can give; a 255 ends a list. */
 static const uint8_t possible[CALLS][13] = {
@@ -32,7 +31,6 @@ static const uint8_t possible[CALLS][13] = {
     { 0, 1, 2, 3, 4, 5, 6, 10, 11, 12, 64, 65, 255 },
     { 0, 1, 2, 3, 4, 5, 6, 11, 255 },
     { 0, 6, 11, 255 },
-    { 0, 1, 2, 11, 13, 255 },
     { 0, 6, 11, 255 },
     { 0, 11, 255 },
 };
@@ -47,7 +45,7 @@ struct lent {
 
 struct request {
     int call;
-    uint32_t sdr1, vsid, page_index, rpn, wimg, pp, mode, kind, address, length, number, word, group;
+    uint32_t sdr1, vsid, page_index, rpn, wimg, pp, mode, kind, address, length, number, word;
     uint32_t v, h, api, r, c;
     size_t registers_len, table_len, cache_len, answer_len;
 };
@@ -75,9 +73,6 @@ static unsigned long hits[MMU_RULE_DONE + 1], misses;
 
 /* Accesses that rights told, by the marks that they would newly set: none, C, R, both. */
 static unsigned long told[4];
-
-/* Steps of sweeps that were done, by the pages listed. */
-static unsigned long listed[9];
 
 /*
  * Checks and accesses that were done on register pages where two blocks of a side begin in the same 256 MB, by whether
@@ -398,8 +393,6 @@ static size_t answer_size(int call)
         return MMU_ACCESS_ANSWER_SIZE;
     case RIGHTS:
         return MMU_RIGHTS_SIZE;
-    case SWEEP:
-        return MMU_SWEPT_SIZE;
     case PACK:
         return MMU_ENTRY_SIZE;
     case UNPACK:
@@ -443,15 +436,6 @@ static int random_call(void)
     return call < CALLS ? call : call % 2 ? ACCESS : ACCESS_CACHED;
 }
 
-/* Either group of a page, seldom another or one past the last. */
-static uint32_t random_group(uint32_t sdr1)
-{
-    uint32_t last = MMU_GROUP_COUNT(sdr1) - 1, primary = (random_vsid() ^ random_page()) & last;
-    if (rarely())
-        return argument(last + 1);
-    return below(2) ? primary : primary ^ last;
-}
-
 static struct request random_request(uint32_t sdr1)
 {
     struct request q;
@@ -468,7 +452,6 @@ static struct request random_request(uint32_t sdr1)
     choose_operand(&q);
     q.number = argument((uint32_t)page_len / 4);
     q.word = any();
-    q.group = random_group(sdr1);
     q.v = argument(2);
     q.h = argument(2);
     q.api = argument(64);
@@ -496,7 +479,7 @@ static uint8_t *slice(uint8_t *bytes, size_t len)
     return len == 0 ? NULL : bytes;
 }
 
-static uint64_t perform(const struct calls *calls, struct lent *l, const struct request *q)
+static uint32_t perform(const struct calls *calls, struct lent *l, const struct request *q)
 {
     uint8_t *registers = slice(l->registers, q->registers_len);
     uint8_t *table = slice(l->table, q->table_len);
@@ -528,8 +511,6 @@ static uint64_t perform(const struct calls *calls, struct lent *l, const struct 
                              q->answer_len);
     case INVALIDATE:
         return calls->invalidate(q->page_index, cache, q->cache_len);
-    case SWEEP:
-        return calls->sweep(q->sdr1, q->group, table, q->table_len, cache, q->cache_len, answer, q->answer_len);
     case PACK:
         return calls->pack(q->v, q->vsid, q->h, q->api, q->rpn, q->r, q->c, q->wimg, q->pp, answer, q->answer_len);
     default:
@@ -583,20 +564,17 @@ static void note_rights(void)
 static void step(uint32_t sdr1)
 {
     struct request q = random_request(sdr1);
-    uint64_t returned[2];
     uint32_t numbers[2];
     choose_word(&q);
     if (q.call == ACCESS_CACHED && below(2)) {
         plant_place(q.address);
         plant_place(q.address + 0x80);
     }
-    returned[0] = perform(&library, &lent[0], &q);
-    returned[1] = perform(&contender, &lent[1], &q);
-    numbers[0] = mmu_result_of(returned[0]);
-    numbers[1] = mmu_result_of(returned[1]);
-    if (returned[0] != returned[1] || !same_bytes(MMU_TABLE_SIZE(sdr1))) {
+    numbers[0] = perform(&library, &lent[0], &q);
+    numbers[1] = perform(&contender, &lent[1], &q);
+    if (numbers[0] != numbers[1] || !same_bytes(MMU_TABLE_SIZE(sdr1))) {
         fprintf(stderr, "agree: %s: the library gives %u, the plain C %u%s\n", names[q.call], (unsigned)numbers[0],
-                (unsigned)numbers[1], numbers[0] == numbers[1] ? ", and counts or lent bytes differ" : "");
+                (unsigned)numbers[1], numbers[0] == numbers[1] ? ", and the lent bytes differ" : "");
         exit(1);
     }
     seen[q.call][numbers[0] < 66 ? numbers[0] : 0]++;
@@ -610,8 +588,6 @@ static void step(uint32_t sdr1)
         note_hit(numbers[0]);
     if (q.call == RIGHTS && numbers[0] == MMU_DONE)
         note_rights();
-    if (q.call == SWEEP && numbers[0] == MMU_DONE)
-        listed[mmu_count_of(returned[0])]++;
     if (q.call == LOOK && numbers[0] == MMU_DONE)
         unequal_done += unequal(q.sdr1, q.vsid, q.page_index);
     if (q.call == LOOK && numbers[0] == MMU_REFUSED_CONTRADICTION)
@@ -676,12 +652,6 @@ static int report(int small)
     missed += (hits[4] == 0) + (hits[5] == 0) + (hits[6] == 0) + (misses == 0);
     printf("told by rights, by new marks: none %lu, C %lu, R %lu, both %lu\n", told[0], told[1], told[2], told[3]);
     missed += (told[0] == 0) + (told[1] == 0) + (told[2] == 0) + (told[3] == 0);
-    printf("sweeps by pages listed:");
-    for (i = 0; i < 9; i++) {
-        printf(" %d:%lu", i, listed[i]);
-        missed += listed[i] == 0;
-    }
-    printf("\n");
     printf("done with blocks close together: rising %lu, others %lu; W and I in different blocks: %lu; junk in an off "
            "pair: %lu\n", on_rising, on_others, on_w_and_i, on_junk);
     missed += (on_rising == 0) + (on_others == 0) + (on_w_and_i == 0) + (on_junk == 0);

@@ -1,5 +1,5 @@
 /*
- * The fourteen calls of docs/RULES.md in portable C, written for speed: the contender of the benchmarks.
+ * The thirteen calls of docs/RULES.md in portable C, written for speed: the contender of the benchmarks.
  * It makes the library's checks in the library's order and shares no code with it.
  */
 #include "plain.h"
@@ -22,8 +22,7 @@
 
 enum { FETCH, LOAD, STORE };
 enum { RULE_REAL, RULE_BLOCK, RULE_NO_EXECUTE, RULE_NO_MATCH, RULE_GUARDED, RULE_PROTECTION, RULE_DONE };
-enum { SHORT_PAGE = 132, LONG_PAGE = 196, SEGMENTS = 4, PAIRS = 68, RECORD = 32, CACHE = 2048, HIT_ENTRY = 8,
-       SWEPT = 128 };
+enum { SHORT_PAGE = 132, LONG_PAGE = 196, SEGMENTS = 4, PAIRS = 68, RECORD = 32, CACHE = 2048, HIT_ENTRY = 8 };
 
 #define NO_MATCH 0x40000000u
 #define NO_EXECUTE 0x10000000u
@@ -1049,56 +1048,6 @@ uint32_t PLAIN(invalidate)(uint32_t page_index, uint8_t *cache, size_t cache_len
         return 6;
     memset(cache + (page_index & 63) * 32, 0, 32);
     return 0;
-}
-
-/* ---- Sweep ------------------------------------------------------------------------------------ */
-
-/* Whether an entry is the first of its page's matches, and these do not contradict: it is the only one, mostly. */
-INLINE int is_found(const uint8_t *entry, uint32_t vsid, uint32_t page_index, uint8_t *table, size_t table_len)
-{
-    struct groups groups = groups_of(vsid, page_index, table, table_len);
-    struct match match;
-    if (find(&match, groups) == SEVERAL)
-        return first_of_several(groups.primary, groups.secondary, groups.primary_word) == entry;
-    return 1;
-}
-
-/*
- * The low ten bits of the page index follow from the group, in its complement where H is set. The bits of the group's
- * number above them have to be those of the page's hash, else the entry belongs to another group.
- */
-uint64_t PLAIN(sweep)(uint32_t sdr1, uint32_t group, uint8_t *table, size_t table_len, uint8_t *cache,
-                      size_t cache_len, uint8_t *pages, size_t pages_len)
-{
-    uint32_t last, count = 0, i;
-    uint8_t *entries;
-    if (cache_len != CACHE || pages_len != SWEPT)
-        return 11;
-    if (sdr1_bad(sdr1))
-        return 2;
-    if (table_len != table_size(sdr1))
-        return 1;
-    last = (uint32_t)(table_len - 64) >> 6;
-    if (group > last)
-        return 13;
-    entries = table + 64 * (size_t)group;
-    for (i = 0; i < 8; i++) {
-        uint8_t *entry = entries + 8 * i;
-        uint32_t first = word_at(entry), second, vsid, hash, page_index;
-        if ((first & 0x80000000u) == 0)
-            continue;
-        vsid = first >> 7 & 0xFFFFFF;
-        hash = (first & 0x40 ? ~group : group) ^ vsid;
-        page_index = (first & 0x3F) << 10 | (hash & 0x3FF);
-        if (((hash ^ page_index) & last) != 0 || !is_found(entry, vsid, page_index, table, table_len))
-            continue;
-        second = word_at(entry + 4);
-        answer_words(pages + 16 * count++, vsid, page_index, second >> 8 & 1, second >> 7 & 1);
-        entry[6] &= 0xFE;
-        memset(cache + (page_index & 63) * 32, 0, 32);
-    }
-    memset(pages + 16 * count, 0, SWEPT - 16 * count);
-    return (uint64_t)count << 32;
 }
 
 /* ---- Packing ---------------------------------------------------------------------------------- */

@@ -204,7 +204,7 @@ def document(directory, rows):
     parts = [
         "# Benchmarks",
         "Made by `bench/run.sh --write`; `make bench` prints the same table.",
-        "The contender is `bench/plain.c`: the fourteen calls in portable C with the same checks, written for speed. Before the "
+        "The contender is `bench/plain.c`: the thirteen calls in portable C with the same checks, written for speed. Before the "
         f"timing both are held against each other: {agreed}.",
         "Instructions are those of one call, counted by callgrind inside the call alone; they repeat exactly. Nanoseconds are "
         f"the least of 200 rounds in which the two take turns. The column {EARLIER['version']} has the instructions of that "

@@ -43,13 +43,12 @@ struct bench {
     uint8_t fields[MMU_FIELDS_SIZE];
     uint8_t packed[MMU_ENTRY_SIZE];
     uint8_t cache[MMU_CACHE_SIZE];
-    uint8_t swept[MMU_SWEPT_SIZE];
     uint8_t *table;
     size_t table_len;
     uint8_t *entries[2];
     uint8_t unmarked[2][MMU_ENTRY_SIZE];
     uint32_t pages;
-    uint32_t sdr1, vsid, mode, kind, address, length, group;
+    uint32_t sdr1, vsid, mode, kind, address, length;
     uint32_t addresses[ACCESSES];
 };
 
@@ -343,49 +342,6 @@ static void load_cache(struct bench *bench)
     require(mmu_get_word(bench->access_answer, MMU_ANSWER_ENTRY) == MMU_HIT_ENTRY, "the cache is not hit");
 }
 
-/* An empty table; the group is that of the row's page. */
-static void swept_empty(struct bench *bench)
-{
-    start(bench, SMALL_SDR1);
-    bench->group = (VSID ^ PAGE_INDEX) & (MMU_GROUP_COUNT(SMALL_SDR1) - 1);
-}
-
-static void put_swept(struct bench *bench, uint32_t group, uint32_t entry, uint32_t vsid, uint32_t low, uint32_t second)
-{
-    uint8_t *at = bench->table + MMU_ENTRY_OFFSET(group, entry);
-    mmu_put_word(at, MMU_ENTRY_FIRST, MMU_FIRST_V | vsid << MMU_FIRST_VSID_SHIFT | low);
-    mmu_put_word(at, MMU_ENTRY_SECOND, second);
-}
-
-/* Eight pages, as map puts them. */
-static void swept_eight(struct bench *bench)
-{
-    uint32_t i;
-    swept_empty(bench);
-    for (i = 0; i < 8; i++)
-        put_swept(bench, bench->group, i, VSID ^ i << 16, PAGE_INDEX >> 10, 0x12345112u);
-}
-
-/* The same, each once more in the secondary group with another PP: eight contradictions. */
-static void swept_none(struct bench *bench)
-{
-    uint32_t i;
-    swept_eight(bench);
-    for (i = 0; i < 8; i++)
-        put_swept(bench, ~bench->group & (MMU_GROUP_COUNT(SMALL_SDR1) - 1), i, VSID ^ i << 16,
-                  PAGE_INDEX >> 10 | MMU_FIRST_H, 0x12345111u);
-}
-
-/* Eight entries of a table of 512 KB that no page of this group has, by the bits of its number above the low ten. */
-static void swept_others(struct bench *bench)
-{
-    uint32_t i;
-    start(bench, LARGE_SDR1);
-    bench->group = (VSID ^ PAGE_INDEX) & (MMU_GROUP_COUNT(LARGE_SDR1) - 1);
-    for (i = 0; i < 8; i++)
-        put_swept(bench, bench->group, i, VSID ^ i << 16, (PAGE_INDEX >> 10) ^ 1, 0x12345112u);
-}
-
 static void cache_hit(struct bench *bench)
 {
     page_at(bench, 0);
@@ -650,18 +606,6 @@ static uint32_t run_invalidate(struct bench *bench, const struct calls *calls, u
     return sum;
 }
 
-/* A step of the row's group; its count is added to its result. */
-static uint32_t run_sweep(struct bench *bench, const struct calls *calls, uint32_t count)
-{
-    uint32_t sum = 0;
-    while (count-- > 0) {
-        uint64_t returned = calls->sweep(bench->sdr1, bench->group, bench->table, bench->table_len, bench->cache,
-                                         MMU_CACHE_SIZE, bench->swept, MMU_SWEPT_SIZE);
-        sum += mmu_result_of(returned) + mmu_count_of(returned);
-    }
-    return sum;
-}
-
 static uint32_t run_working_set(struct bench *bench, const struct calls *calls, uint32_t count)
 {
     uint32_t sum = 0;
@@ -774,10 +718,6 @@ static const struct row rows[] = {
     { "rights, page hit, primary entry 0", rights_page, run_rights, MMU_DONE, 16 },
     { "rights, block hit in the fourth pairs", rights_block, run_rights, MMU_DONE, 16 },
     { "invalidate", cache_hit, run_invalidate, MMU_DONE, 16 },
-    { "sweep, empty group", swept_empty, run_sweep, 0, 16 },
-    { "sweep, eight pages listed", swept_eight, run_sweep, 8, 16 },
-    { "sweep, eight entries of which none is listed", swept_none, run_sweep, 0, 16 },
-    { "sweep, eight entries of other groups", swept_others, run_sweep, 0, 16 },
     { "map and unmap, empty groups", empty_groups, run_map_unmap, MMU_DONE, 16 },
     { "map and unmap, only secondary entry 7 free", last_place_free, run_map_unmap, MMU_DONE, 16 },
     { "protect", primary_0, run_protect, MMU_DONE, 16 },

@@ -16,7 +16,7 @@ archive=${1:-target/staticlib/libmmu.a}
 out=target/c/bench
 cc=${CC:-gcc}
 flags=${PLAIN_FLAGS:--O3}
-calls="check set_register clear map unmap protect look access access_cached rights invalidate sweep pack unpack"
+calls="check set_register clear map unmap protect look access access_cached rights invalidate pack unpack"
 
 if [ ! -f "$archive" ]; then
     echo "bench/run.sh: no archive $archive; run make first" >&2

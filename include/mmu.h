@@ -1,14 +1,13 @@
 /*
  * mmu.h - address translation of a 32-bit PowerPC: register set (SDR1, segment registers, BATs), hashed page
  * table, access check, translation cache. A core calls mmu_access or mmu_access_cached for each load, store and fetch
- * and takes the DSI or ISI it tells. mmu_rights tells what an access would come to and marks nothing. mmu_sweep tells
- * group by group which pages were used.
+ * and takes the DSI or ISI it tells. mmu_rights tells what an access would come to and marks nothing.
  *
  * Link with libmmu.a. docs/C-GUIDE.md tells how to use the calls; README.md has the manual's words beside ours.
  *
  * A slice is lent as a pointer and its length in bytes, the parameter with _len. NULL with length 0 is a slice of
  * length 0. The slices lent to one call must not overlap. All words are stored big-endian. Bit 0 is the most
- * significant bit of a word. Every call returns its result number; mmu_sweep returns its count beside it.
+ * significant bit of a word. Every call returns its result number.
  */
 #ifndef MMU_H
 #define MMU_H
@@ -22,7 +21,7 @@ extern "C" {
 
 /* The version; CHANGELOG.md says what a caller must change from one to the next. */
 #define MMU_VERSION_MAJOR 0
-#define MMU_VERSION_MINOR 13
+#define MMU_VERSION_MINOR 12
 
 /* ---- Results ---------------------------------------------------------------------------------- */
 
@@ -41,9 +40,8 @@ extern "C" {
 #define MMU_REFUSED_NO_MATCH 8u       /* The page has no match (unmap, protect, look). */
 #define MMU_REFUSED_FULL 9u           /* Map: all 16 entries of the page's two groups have V = 1. */
 #define MMU_REFUSED_CONTRADICTION 10u /* Contradicting matches: RPN, WIMG or PP differs (access, look). */
-#define MMU_REFUSED_LENT_LENGTH 11u /* Registers, cache, answer or the like of another length; none is written. */
+#define MMU_REFUSED_LENT_LENGTH 11u /* Registers, cache, answer, entry or fields of another length; none is written. */
 #define MMU_REFUSED_OPERAND_LENGTH 12u /* Access: an operand of 0 or over MMU_LONGEST_OPERAND bytes. */
-#define MMU_REFUSED_GROUP 13u          /* Sweep: the table has no group of this number. */
 
 /* ---- An access -------------------------------------------------------------------------------- */
 
@@ -182,7 +180,6 @@ extern "C" {
 #define MMU_TABLE_SIZE(sdr1) ((size_t)65536u * (((sdr1) & MMU_SDR1_MASK) + 1u)) /* Length of the table in bytes. */
 #define MMU_GROUP_SIZE 64u    /* Length of a group in bytes; group g starts at byte 64 * g of the table. */
 #define MMU_GROUP_ENTRIES 8u  /* Entries of a group. */
-#define MMU_GROUP_COUNT(sdr1) (1024u * (((sdr1) & MMU_SDR1_MASK) + 1u)) /* Groups of the table, numbered from 0. */
 #define MMU_ENTRY_SIZE 8u     /* Length of an entry in bytes. */
 #define MMU_ENTRY_FIRST 0u    /* Byte offset of an entry's first word. */
 #define MMU_ENTRY_SECOND 4u   /* Byte offset of an entry's second word. */
@@ -214,10 +211,10 @@ extern "C" {
 /* ---- Translation cache (TLB): 64 sets of two places --------------------------------------------- */
 
 /*
- * The cache of mmu_access_cached, mmu_invalidate and mmu_sweep. Set s, of page indexes that end in the six bits s, has
- * the bytes from 32 * s on: place 0, then place 1, four words each, an entry's two words, the page index, and 1 for the
- * newer load, else 0. Zeros are an empty cache. Any bytes are taken, but only a cache that began as zeros, and that
- * these three calls alone wrote, keeps the promise of mmu_access_cached.
+ * The cache of mmu_access_cached and mmu_invalidate. Set s, of page indexes that end in the six bits s, has the bytes
+ * from 32 * s on: place 0, then place 1, four words each, an entry's two words, the page index, and 1 for the newer
+ * load, else 0. Zeros are an empty cache. Any bytes are taken, but only a cache that began as zeros, and that these two
+ * calls alone wrote, keeps the promise of mmu_access_cached.
  */
 #define MMU_CACHE_SIZE 2048u    /* Length of the cache in bytes. */
 #define MMU_CACHE_SETS 64u      /* Sets of the cache: invalidates of 0 to 63 meet them all. */
@@ -236,21 +233,9 @@ extern "C" {
 #define MMU_RIGHTS_ANSWER(kind) (48u * (kind))      /* Byte offset of a kind's answer; mmu_read_answer reads it. */
 #define MMU_RIGHTS_MARKS(kind) (144u + 4u * (kind)) /* Byte offset of the marks that this kind would newly set. */
 
-/* ---- Pages that a sweep lists: four words each ---------------------------------------------------- */
+/* ---- The thirteen calls ----------------------------------------------------------------------- */
 
-/*
- * The bytes that mmu_sweep fills: for each page listed, in the order of their entries and without a gap, VSID, page
- * index, R and C, each mark as 0 or 1; zeros behind the last. mmu_read_swept reads them.
- */
-#define MMU_SWEPT_SIZE 128u     /* Length of the bytes in which a sweep tells pages: those of eight. */
-#define MMU_SWEPT_PAGE_SIZE 16u /* Length of one page in them. */
-
-/* ---- The fourteen calls ----------------------------------------------------------------------- */
-
-/*
- * Each returns MMU_DONE, a refusal or, an access alone, a fault; mmu_sweep with a count above it. Of several refusals
- * that hold, the first is told.
- */
+/* Each returns MMU_DONE, a refusal or, an access alone, a fault. Of several refusals that hold, the first is told. */
 
 /*
  * Check: whether a register page breaks a rule.
@@ -394,28 +379,6 @@ uint32_t mmu_access_cached(const uint8_t *registers, size_t registers_len, uint3
 uint32_t mmu_invalidate(uint32_t page_index, uint8_t *cache, size_t cache_len);
 
 /*
- * Sweep: one step, of one group. Lists each page whose search is not refused and whose first match is an entry of this
- * group, with R and C as that entry has them; then clears R in it, and zeroes the page's set in the cache, so that the
- * next access goes to the table and sets R again. C, other matches of the page, and entries that are not listed stay:
- * those of contradicting matches, later ones of duplicates, and under a long mask those that are in the wrong group.
- *   sdr1    the word of SDR1
- *   group   the number of the group, below MMU_GROUP_COUNT(sdr1)
- *   table   the table, MMU_TABLE_SIZE(sdr1) bytes
- *   cache   the cache in use, MMU_CACHE_SIZE bytes; who keeps none lends zeros, which stay zeros
- *   pages   MMU_SWEPT_SIZE bytes, written where the step is done; mmu_read_swept reads them
- * Returns the count of the pages listed in the upper 32 bits (mmu_count_of), the result number in the lower
- * (mmu_result_of). A refusal leaves the pages too, and its count is 0.
- * The promise: in a table that began with a done mmu_clear, under one SDR1, with no other writer, take calls of any
- * kind but mmu_clear, among them exactly one done step of each group (of each of the page's two groups is enough). A
- * page that was mapped before the first of them and that none of them unmapped is listed exactly once in all. In every
- * such table a done step lists exactly the mapped pages whose entry then stands in its group.
- * A sweep is no invalidate: an unmap or a protect needs its own.
- * Refusals: MMU_REFUSED_LENT_LENGTH (cache, pages), MMU_REFUSED_SDR1, MMU_REFUSED_TABLE_LENGTH, MMU_REFUSED_GROUP.
- */
-uint64_t mmu_sweep(uint32_t sdr1, uint32_t group, uint8_t *table, size_t table_len, uint8_t *cache, size_t cache_len,
-                   uint8_t *pages, size_t pages_len);
-
-/*
  * Packs nine fields into the two words of an entry; two zero words after MMU_REFUSED_ARGUMENT.
  *   v, h, r, c       0 or 1
  *   vsid, rpn        below 2^24, below 2^20
@@ -497,37 +460,6 @@ static inline struct mmu_answer mmu_read_answer(const uint8_t *answer)
     return read;
 }
 
-/* The result number in what mmu_sweep returns. */
-static inline uint32_t mmu_result_of(uint64_t returned)
-{
-    return (uint32_t)(returned & 0xFFFFFFFFu);
-}
-
-/* The count in what mmu_sweep returns. */
-static inline uint32_t mmu_count_of(uint64_t returned)
-{
-    return (uint32_t)(returned >> 32);
-}
-
-/* A page that a sweep listed. */
-struct mmu_swept {
-    uint32_t vsid;       /* VSID, below 2^24. */
-    uint32_t page_index; /* Page index, below 2^16. */
-    uint32_t referenced; /* R as it was found: 1 where the page was used since R was cleared last. */
-    uint32_t changed;    /* C, which a sweep leaves. */
-};
-
-/* Reads page i, from 0 and below the count, of the MMU_SWEPT_SIZE bytes that a done sweep wrote. */
-static inline struct mmu_swept mmu_read_swept(const uint8_t *pages, size_t i)
-{
-    struct mmu_swept read;
-    read.vsid = mmu_get_word(pages, MMU_SWEPT_PAGE_SIZE * i);
-    read.page_index = mmu_get_word(pages, MMU_SWEPT_PAGE_SIZE * i + 4u);
-    read.referenced = mmu_get_word(pages, MMU_SWEPT_PAGE_SIZE * i + 8u);
-    read.changed = mmu_get_word(pages, MMU_SWEPT_PAGE_SIZE * i + 12u);
-    return read;
-}
-
 /* The key in the detail of MMU_RULE_PROTECTION and MMU_RULE_DONE: Ks for the supervisor, Kp for the user. */
 static inline uint32_t mmu_detail_key(uint32_t detail)
 {
@@ -559,7 +491,6 @@ static inline const char *mmu_result_name(uint32_t result)
     case MMU_REFUSED_CONTRADICTION: return "refused: contradicting matches";
     case MMU_REFUSED_LENT_LENGTH: return "refused: lent length wrong";
     case MMU_REFUSED_OPERAND_LENGTH: return "refused: operand of 0 or over 128 bytes";
-    case MMU_REFUSED_GROUP: return "refused: no group of this number";
     default: return "unknown result";
     }
 }

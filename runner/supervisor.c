@@ -1,5 +1,5 @@
 /*
- * supervisor.c - map on no match, a clock by sweeps and unmap, write back where C, copy on write by protection.
+ * supervisor.c - map on no match, a clock by look and unmap, write back where C, copy on write by protection.
  */
 #include "supervisor.h"
 
@@ -32,18 +32,12 @@ static void *zeroed(size_t size)
     return bytes;
 }
 
-/* ---- Table: VSIDs, groups, and the calls on pages ------------------------------------------------ */
+/* ---- Table: VSIDs, groups, and the four calls on pages ------------------------------------------- */
 
 static uint32_t vsid_of(const struct supervisor *sv, unsigned program, uint32_t segment)
 {
     /* An odd factor spreads neighbouring numbers over the groups, and no two of them get the same VSID. */
     return sv->plain_vsids ? program << 12 | segment : (program * 16u + segment) * 0x897u & MMU_SEGMENT_VSID;
-}
-
-/* What vsid_of made a VSID of: program * 16 + segment. The two factors are each other's inverse in 24 bits. */
-static uint32_t number_of(const struct supervisor *sv, uint32_t vsid)
-{
-    return sv->plain_vsids ? vsid >> 12 << 4 | (vsid & 15u) : vsid * 0x93F727u & MMU_SEGMENT_VSID;
 }
 
 static uint32_t vsid_of_page(const struct supervisor *sv, const struct sv_program *program, uint32_t page)
@@ -63,6 +57,16 @@ static uint32_t used_entries(const uint8_t *group)
     for (uint32_t i = 0; i < MMU_GROUP_ENTRIES; i++)
         used += mmu_get_word(group, MMU_ENTRY_SIZE * i) >> 31;
     return used;
+}
+
+static uint32_t look(struct supervisor *sv, const struct sv_program *program, uint32_t page)
+{
+    uint8_t answer[MMU_ANSWER_SIZE];
+    uint32_t vsid = vsid_of_page(sv, program, page);
+    uint32_t result = mmu_look(sv->sdr1, vsid, page & 0xFFFFu, TABLE(sv), answer, sizeof answer);
+    sv->count[SV_looks]++;
+    must(result, "look", program->number, page);
+    return mmu_get_word(answer, MMU_ANSWER_SECOND);
 }
 
 /* Takes a page out of the table; its last second word has R and C. */
@@ -103,7 +107,6 @@ static void map(struct supervisor *sv, const struct sv_program *program, uint32_
     }
     must(result, "map", program->number, page);
     p->frame = frame;
-    sv->frames[frame].used = sv->frames[frame].users != 0;
     sv->frames[frame].users |= UINT64_C(1) << program->number;
     sv->frames[frame].page = page;
     sv->count[SV_maps]++;
@@ -125,7 +128,7 @@ static void take(struct supervisor *sv, const struct sv_program *program, uint32
 {
     struct sv_page *p = &program->pages[page];
     uint32_t second = unmap(sv, program, page), frame = p->frame;
-    if (second & MMU_SECOND_C) {
+    if (second & MMU_SECOND_C || p->changed) {
         memcpy(own_store(p)->bytes, sv->memory + frame * PAGE, PAGE);
         sv->count[SV_written_back]++;
     }
@@ -133,6 +136,7 @@ static void take(struct supervisor *sv, const struct sv_program *program, uint32
     if (!sv->frames[frame].users && p->store && p->store->shared)
         p->store->frame = 0;
     p->frame = 0;
+    p->changed = false;
 }
 
 /* Both groups of a page are full: the next of their sixteen pages in turn goes. */
@@ -153,58 +157,35 @@ static void make_room(struct supervisor *sv, uint32_t vsid, uint32_t page)
     sv_fail("sixteen entries that nobody mapped", MMU_REFUSED_FULL, 0, page);
 }
 
-/* A page that a sweep listed with R, which is clear now: the core forgets it, so that its next access sets R again. */
-static void note_used(struct supervisor *sv, struct mmu_swept swept)
+/* A page that was accessed stays for another round, with R clear. A map begins with R and C zero, so C is kept. */
+static void second_chance(struct supervisor *sv, uint32_t frame)
 {
-    uint32_t number = number_of(sv, swept.vsid), page = (number & 15u) << 16 | swept.page_index;
-    const struct sv_program *program = number / 16u < SV_PROGRAMS ? sv->programs[number / 16u] : NULL;
-    if (!program)
-        return;
-    sv->frames[program->pages[page].frame].used = true;
-    if (program == sv->running && sv->lift)
-        sv->lift(page);
-}
-
-static void sweep(struct supervisor *sv, uint32_t group)
-{
-    uint8_t pages[MMU_SWEPT_SIZE];
-    uint64_t returned = mmu_sweep(sv->sdr1, group, TABLE(sv), sv->no_cache, sizeof sv->no_cache, pages, sizeof pages);
-    sv->count[SV_sweeps]++;
-    must(mmu_result_of(returned), "sweep", 0, group);
-    sv->count[SV_pages_listed] += mmu_count_of(returned);
-    for (uint32_t i = 0; i < mmu_count_of(returned); i++) {
-        struct mmu_swept swept = mmu_read_swept(pages, i);
-        if (swept.referenced)
-            note_used(sv, swept);
+    uint32_t page = sv->frames[frame].page;
+    sv->count[SV_second_chances]++;
+    FOR_USERS(sv, i, frame) {
+        if (unmap(sv, sv->programs[i], page) & MMU_SECOND_C)
+            sv->programs[i]->pages[page].changed = true;
+        map(sv, sv->programs[i], page, frame);
     }
 }
 
-/* Moves the clock's hand over a frame. In a round of the hand each group is swept once, so each page is listed once. */
-static uint32_t pass_frame(struct supervisor *sv)
-{
-    uint32_t frame = sv->hand, frames = sv->last_frame - sv->first_frame + 1u, passed = frame - sv->first_frame;
-    uint64_t groups = MMU_GROUP_COUNT(sv->sdr1);
-    sv->hand = frame == sv->last_frame ? sv->first_frame : frame + 1u;
-    for (uint64_t group = groups * passed / frames; group < groups * (passed + 1u) / frames; group++)
-        sweep(sv, (uint32_t)group);
-    return frame;
-}
-
-/* The clock: the next frame that is free, or whose page no sweep listed with R since the hand was there. */
+/* The clock: the next frame that is free, or whose page was not accessed since the hand was there. */
 static uint32_t next_frame(struct supervisor *sv)
 {
     for (;;) {
-        uint32_t frame = pass_frame(sv);
-        bool used = sv->frames[frame].used;
-        sv->frames[frame].used = false;
+        uint32_t frame = sv->hand, marks = 0;
+        sv->hand = frame == sv->last_frame ? sv->first_frame : frame + 1u;
         if (!sv->frames[frame].users)
             return frame;
-        if (!used) {
+        FOR_USERS(sv, i, frame)
+            marks |= look(sv, sv->programs[i], sv->frames[frame].page);
+        if (!(marks & MMU_SECOND_R)) {
             FOR_USERS(sv, i, frame)
                 take(sv, sv->programs[i], sv->frames[frame].page);
             sv->count[SV_frames_taken_away]++;
             return frame;
         }
+        second_chance(sv, frame);
     }
 }
 

@@ -3,8 +3,7 @@
  *
  * A core asks sv_access for each load, store and fetch of the running program. A page that is not mapped gets a frame,
  * a store to a shared page gets a copy; what cannot be mended is handed back with the library's record. Frames are
- * taken away by a clock that goes by the lists of mmu_sweep, and written back where C says so. docs/RUNNER.md explains
- * it.
+ * taken away by a clock that goes by R, and written back where C says so. docs/RUNNER.md explains it.
  */
 #ifndef SUPERVISOR_H
 #define SUPERVISOR_H
@@ -33,6 +32,7 @@ struct sv_page {
     uint32_t frame;         /* the frame while the page is mapped, else 0 */
     uint8_t rights;         /* what the program may do: a sum of SV_READ .. */
     bool used;              /* the page is the program's */
+    bool changed;           /* C stood in an entry that was taken out while the frame stayed */
 };
 
 struct sv_program {
@@ -45,14 +45,13 @@ struct sv_program {
 struct sv_frame {
     uint64_t users;
     uint32_t page;
-    bool used; /* since the clock's hand was there another program joined, or a sweep listed a page of it with R */
 };
 
 /* What is counted. The first three are in the order of MMU_FETCH .., the faults in that of MMU_RULE_NO_EXECUTE .. */
 #define SV_COUNTS(X)                                                                                                   \
     X(fetches_asked) X(loads_asked) X(stores_asked) X(faults_no_execute) X(faults_no_match) X(faults_guarded)          \
-    X(faults_protection) X(maps) X(maps_into_secondary) X(maps_full) X(unmaps) X(protects) X(sweeps)                   \
-    X(pages_listed) X(frames_taken_away) X(written_back) X(shared_again) X(copies_on_write) X(turns)
+    X(faults_protection) X(maps) X(maps_into_secondary) X(maps_full) X(unmaps) X(protects) X(looks)                    \
+    X(frames_taken_away) X(written_back) X(second_chances) X(shared_again) X(copies_on_write) X(turns)
 #define SV_COUNT(name) SV_##name,
 enum { SV_COUNTS(SV_COUNT) SV_COUNT_END };
 #undef SV_COUNT
@@ -60,7 +59,6 @@ enum { SV_COUNTS(SV_COUNT) SV_COUNT_END };
 struct supervisor {
     uint8_t registers[MMU_REGISTERS_SIZE_SHORT];
     uint8_t *memory; /* physical memory: the page table, then the frames */
-    uint8_t no_cache[MMU_CACHE_SIZE]; /* zeros, lent to mmu_sweep: the core keeps a TLB of its own */
     uint32_t sdr1, first_frame, last_frame, hand, victim;
     struct sv_frame *frames; /* by frame number */
     struct sv_program *programs[SV_PROGRAMS], *running;

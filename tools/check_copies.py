@@ -16,7 +16,7 @@ from pathlib import Path
 
 ROOT = Path(__file__).resolve().parent.parent
 RUN = 8
-PASSED_OVER = re.compile(r"//|--|(unfoldable )?(pub )?use |ghost use |(pub )?mod ")
+PASSED_OVER = re.compile(r"//|--|(pub )?use |ghost use |(pub )?mod ")
 BRACKETS = "{}();]),"
 HEAD = re.compile(r"^(pub )?fn \w+")
 

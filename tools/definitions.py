@@ -29,10 +29,8 @@ START = [
     ("theory_calls", "WithoutTable", ["checkCall", "setRegisterCall", "packCall", "unpackCall"]),
     ("access_rights", "Rights", ["rightsCall"]),
     ("theory_cache", "Cached", ["onCached", "invalidateCall"]),
-    ("theory_sweep", "Sweep", ["onSweep"]),
     ("theory_histories", "Demands", ["Demands"]),
     ("theory_lost_call", "Lost", ["OneLostCall"]),
-    ("theory_swept_once", "Swept", ["SweptOnce"]),
 ]
 ROWS = {"Examples", "Instances", "PageRows", "OperandRows", "FourGroups", "Rows", "Cases"}
 STATEMENTS = "Statements"
@@ -44,11 +42,11 @@ ORDER = [
     ("Access", ["protection/Access", "protection/Protection", "protection/Fault", "translation/Steps", "translation/Decision", "translation/Operand"]),
     ("Groups and matches", ["groups/Page", "groups/Hash", "groups/Group", "theory_tables/Matches", "theory_tables/Layout", "matches/Search"]),
     ("Calls on bytes", ["theory_calls/Request", "theory_calls/Made", "theory_calls/Rules", "theory_calls/Answers", "theory_calls/OnBytes", "theory_calls/Lent", "theory_calls/WithoutTable", "access_rights/Rights"]),
-    ("Calls with a cache", ["cache/Cache", "theory_cache/Cached", "theory_sweep/Sweep"]),
-    ("The finite map", ["theory_placement/Lists", "theory_placement/FiniteMap", "theory_placement/Placement", "theory_calls/OnMap", "theory_sweep/OnMap"]),
+    ("Calls with a cache", ["cache/Cache", "theory_cache/Cached"]),
+    ("The finite map", ["theory_placement/Lists", "theory_placement/FiniteMap", "theory_placement/Placement", "theory_calls/OnMap"]),
     ("The list", ["theory_tables/Runs", "theory_histories/Calls", "theory_histories/Fed", "theory_histories/Discipline"]),
     (STATEMENTS, ["entry/RoundTrip", "registers/Blocks", "registers/Check", "translation/Stated", "theory_calls/AnyTable", "theory_calls/Refusals", "theory_calls/Arguments", "theory_calls/Widened", "theory_calls/Represents", "access_rights/Stated", "cache/Placed",
-        "theory_cache/Shown", "theory_cache/AnyCache", "theory_sweep/AnyTable", "theory_calls/FirstClear", "theory_histories/Histories", "theory_histories/Theorem", "theory_histories/Invisible", "theory_histories/Demands", "theory_lost_call/Lost", "theory_swept_once/Swept"]),
+        "theory_cache/Shown", "theory_cache/AnyCache", "theory_calls/FirstClear", "theory_histories/Histories", "theory_histories/Theorem", "theory_histories/Invisible", "theory_histories/Demands", "theory_lost_call/Lost"]),
 ]
 
 WORD = re.compile(r"[^\s(){},;.]+")
@@ -61,7 +59,7 @@ Definition = collections.namedtuple("Definition", "lines sections words")
 
 
 def is_text(line):
-    return bool(line.strip()) and not re.match(r"--|(?:unfoldable )?(?:pub )?use |unfolding |module _ ", line.strip())
+    return bool(line.strip()) and not line.strip().startswith(("--", "use ", "unfolding ", "module _ "))
 
 
 def count(lines):
@@ -134,8 +132,6 @@ def cited(files, types):
         if name in definitions:
             seen.add((crate, module, name))
             queue += [(*imported[word], word) if word in imported else (crate, module, word) for word in definitions[name].words]
-        elif name in imported:
-            queue.append((*imported[name], name))
     return seen
 
 

@@ -6,7 +6,7 @@
 
 A statement is a type without parameters that some crate's specs/ declares and that a public declaration of proofs/ has as its own type: a record of
 rows, a law over all tables, a theorem. A text names what it cites, so the tool reads texts alone: a declaration cites another where it names it, and its file brings that
-name by a `use` line or declares it. A module that hands a name on by `pub use` is followed to the one that declares it.
+name by a `use` line or declares it.
 """
 import re
 import sys
@@ -16,7 +16,7 @@ from pathlib import Path
 ROOT = Path(__file__).resolve().parent.parent
 DECLARATION = re.compile(r"^( *)((?:pub |abbrev |unfoldable )*)(record )?([^\s:(){}]+)((?: [({][^:]*:.*?[)}])*) : (.*)$")
 MODULE = re.compile(r"^( *)module\b")
-USE = re.compile(r"^ *(?:unfoldable )?(?:pub )?use Rattle·(\w+?)(?:·(?:specs|proofs))?\.(specs|proofs)\.([^\s{]+?)(?:\.\{(.*)\}| as (\S+))?$")
+USE = re.compile(r"^ *(?:pub )?use Rattle·(\w+?)(?:·(?:specs|proofs))?\.(specs|proofs)\.([^\s{]+?)(?:\.\{(.*)\}| as (\S+))?$")
 TOKEN = re.compile(r"[^\s(){}\[\],;]+")
 
 
@@ -64,15 +64,6 @@ def read_file(place, text):
     return found, brought
 
 
-def follow(files, declared):
-    """A name that a module hands on comes from the module that declares it."""
-    for _, brought in files.values():
-        for name, place in brought.items():
-            while place not in declared and place[3] in files.get(place[:3], ([], {}))[1]:
-                place = files[place[:3]][1][place[3]]
-            brought[name] = place
-
-
 def read_tree(root):
     """Every declaration by its key, and by key what cites it."""
     files = {}
@@ -80,7 +71,6 @@ def read_tree(root):
         crate, area, *rest = path.relative_to(root / "crates").with_suffix("").parts
         files[(crate, area, ".".join(rest))] = read_file((crate, area, ".".join(rest)), path.read_text(encoding="utf-8"))
     declared = {one.key: one for found, _ in files.values() for one in found}
-    follow(files, declared)
     cited_by = {}
     for place, (found, brought) in files.items():
         own = {one.name for one in found}
@@ -133,8 +123,6 @@ SAMPLE = {
     "crates/low/specs/Sum.antt": "pub sum : ℕ → ℕ\nsum n = n\n\npub record SumRows : Type 0 where\n  pub one : sum 1 ≡ 1\n",
     "crates/low/proofs/Sum.antt": "use Rattle·low·specs.specs.Sum.{sum, SumRows}\n-- unused names law\nmodule _ (n : ℕ) where\n  pub law : sum n ≡ n\n  law = refl\n\n"
                                   "pub sum-rows : SumRows\nsum-rows = record { one = refl }\n",
-    "crates/low/proofs/Handed.antt": "pub use Rattle·low·proofs.proofs.Sum.{law}\nunfoldable pub use Rattle·low·specs.specs.Sum.{sum, SumRows}\n",
-    "crates/other/proofs/Sum.antt": "use Rattle·low.proofs.Handed.{law, SumRows}\n\npub other-rows : SumRows\nother-rows = record { one = law 1 }\n",
     "crates/high/specs/All.antt": "pub record All : Type 0 where\n  pub every : Unit\n",
     "crates/high/proofs/All.antt": "use Rattle·low.proofs.Sum as low\nuse Rattle·high·specs.specs.All.{All}\n\nstep : ℕ → Unit\nstep n = low.law n\n\npub all : All\nall = record { every = step 0 }\n",
 }
@@ -149,14 +137,14 @@ def self_test():
             path.write_text(text, encoding="utf-8")
         tree = Tree(Path(folder))
         wanted = [
-            (("low", "proofs", "Sum", "law"), {"All": ("law", "step", "all"), "SumRows": ("law", "other-rows")}),
+            (("low", "proofs", "Sum", "law"), {"All": ("law", "step", "all")}),
             (("low", "proofs", "Sum", "sum-rows"), {"SumRows": ("sum-rows",)}),
             (("low", "proofs", "Sum", "no-such-law"), {}),
         ]
         for key, statements in wanted:
             if tree.above([key]) != statements:
                 sys.exit(f"told wrongly of {key}: {tree.above([key])}")
-    print("self test: a statement is found from a law below it, through another crate, another name of a module and a module that hands on")
+    print("self test: a statement is found from a law below it, through another crate and another name of a module")
 
 
 if __name__ == "__main__":

@@ -75,12 +75,12 @@ static void give_back(struct slice *slice)
 }
 
 /*
- * Register page, table, cache and four answers, one of unmap and look, one of an access, one of rights, one for a
- * sweep's pages; all but the cache and the last two of the given lengths: SDR1 and segment 0 are those of the twelve
- * cases, all blocks off, the cache empty.
+ * Register page, table, cache and three answers, one of unmap and look, one of an access and one of rights; all but the
+ * cache and the last of the given lengths: SDR1 and segment 0 are those of the twelve cases, all blocks off, the cache
+ * empty.
  */
 struct lent {
-    struct slice registers, table, cache, answer, access_answer, rights, swept;
+    struct slice registers, table, cache, answer, access_answer, rights;
 };
 
 /* The two lengths of a register page. */
@@ -100,7 +100,6 @@ static struct lent lend_all(size_t registers_len, size_t table_len, size_t answe
     lent.answer = lend(answer_len, 0xA5);
     lent.access_answer = lend(access_answer_len, 0xA5);
     lent.rights = lend(MMU_RIGHTS_SIZE, 0xA5);
-    lent.swept = lend(MMU_SWEPT_SIZE, 0xA5);
     if (is_page(registers_len)) {
         mmu_put_word(lent.registers.bytes, MMU_REGISTER_OFFSET(MMU_REGISTER_SDR1), SDR1);
         mmu_put_word(lent.registers.bytes, MMU_REGISTER_OFFSET(MMU_REGISTER_SEGMENT(0)), VSID);
@@ -127,7 +126,6 @@ static void give_back_all(struct lent *lent)
     give_back(&lent->answer);
     give_back(&lent->access_answer);
     give_back(&lent->rights);
-    give_back(&lent->swept);
 }
 
 static int answer_is(const struct slice *answer, uint32_t first, uint32_t second, uint32_t third, uint32_t fourth)
@@ -197,12 +195,6 @@ static int rights_refused(const struct lent *lent, uint32_t got, uint32_t number
     return left(lent, got, number);
 }
 
-/* The same of a sweep: count 0, and the bytes for pages as they were. */
-static int sweep_refused(const struct lent *lent, uint64_t got, uint32_t number)
-{
-    return got == number && left(lent, mmu_result_of(got), number) && unchanged(&lent->swept);
-}
-
 /* ---- The calls on what is lent ----------------------------------------------------------------- */
 
 static uint32_t unmap(struct lent *l, uint32_t sdr1, uint32_t vsid, uint32_t page)
@@ -256,12 +248,6 @@ static uint32_t rights_at(struct lent *l, uint32_t mode, uint32_t address)
 {
     return mmu_rights(l->registers.bytes, l->registers.len, mode, address, l->table.bytes, l->table.len,
                       l->rights.bytes, l->rights.len);
-}
-
-static uint64_t sweep(struct lent *l, uint32_t sdr1, uint32_t group)
-{
-    return mmu_sweep(sdr1, group, l->table.bytes, l->table.len, l->cache.bytes, l->cache.len, l->swept.bytes,
-                     l->swept.len);
 }
 
 /* ---- Lengths ---------------------------------------------------------------------------------- */
@@ -518,75 +504,6 @@ static void test_guarded_rights(void)
     munmap(answer_end - GUARD, 2 * GUARD);
 }
 
-/* Every length of the slices of a sweep, 0 as NULL: 11 before 2, 1 and 13, another table length 1 before 13. */
-static void test_sweep_lengths(void)
-{
-    static const size_t lengths[] = { 0, 1, 64, 65472, 65535, 65537, 131072 };
-    size_t len;
-    for (len = 0; len <= 2 * MMU_SWEPT_SIZE; len++) {
-        struct lent l = lend_right();
-        give_back(&l.swept);
-        l.swept = lend(len, 0xA5);
-        if (len != MMU_SWEPT_SIZE) {
-            expect(sweep_refused(&l, sweep(&l, SDR1, 0x3E6), 11), "sweep by the pages' length", (uint32_t)len);
-            expect(sweep_refused(&l, sweep(&l, SDR1 | 5, 0x400), 11), "sweep, 11 before 2 and 13", (uint32_t)len);
-        } else {
-            expect(sweep(&l, SDR1, 0x3E6) == 0, "sweep of an empty group", 0);
-        }
-        give_back_all(&l);
-    }
-    for (len = 0; len <= MMU_CACHE_SIZE + 33; len += len < 80 || len >= MMU_CACHE_SIZE - 33 ? 1 : 31) {
-        struct lent l = lend_right();
-        give_back(&l.cache);
-        l.cache = lend(len, 0x5A);
-        if (len != MMU_CACHE_SIZE) {
-            expect(sweep_refused(&l, sweep(&l, SDR1, 0x3E6), 11), "sweep by the cache's length", (uint32_t)len);
-            expect(sweep_refused(&l, sweep(&l, SDR1 | 5, 0x400), 11), "sweep, 11 before 2 and 13", (uint32_t)len);
-        } else {
-            expect(sweep(&l, SDR1, 0x3E6) == 0 && unchanged(&l.cache), "sweep of an empty group", 0);
-        }
-        give_back_all(&l);
-    }
-    for (len = 0; len < sizeof lengths / sizeof lengths[0]; len++) {
-        struct lent l = lend_all(pages[0], lengths[len], MMU_ANSWER_SIZE, MMU_ACCESS_ANSWER_SIZE);
-        expect(sweep_refused(&l, sweep(&l, SDR1, 0), 1), "sweep with another table length", (uint32_t)len);
-        expect(sweep_refused(&l, sweep(&l, SDR1, 0x400), 1), "sweep, 1 before 13", (uint32_t)len);
-        expect(sweep_refused(&l, sweep(&l, SDR1 | 5, 0x400), 2), "sweep, 2 before 1 and 13", (uint32_t)len);
-        give_back_all(&l);
-    }
-}
-
-/* Steps of every group, each slice in front of an unreadable page; then shorter slices there. */
-static void test_guarded_sweep(void)
-{
-    uint8_t *cache_end = guarded(), *pages_end = guarded(), *end = pages_end - MMU_SWEPT_SIZE;
-    uint8_t *cache = cache_end - MMU_CACHE_SIZE;
-    uint8_t *table = mmap(NULL, TABLE + GUARD, PROT_READ | PROT_WRITE, MAP_PRIVATE | MAP_ANONYMOUS, -1, 0);
-    uint32_t i, listed = 0;
-    size_t len;
-    expect(table != MAP_FAILED && mprotect(table + TABLE, GUARD, PROT_NONE) == 0, "memory for a table", 0);
-    for (i = 0; i < 1024; i++)
-        expect(mmu_map(SDR1, VSID, i, i, 2, 2, table, TABLE) == 0, "map", i);
-    for (i = 0; i < MMU_GROUP_COUNT(SDR1); i++) {
-        uint64_t got = mmu_sweep(SDR1, i, table, TABLE, cache, MMU_CACHE_SIZE, end, MMU_SWEPT_SIZE);
-        expect(mmu_result_of(got) == 0, "sweep before unreadable pages", i);
-        listed += mmu_count_of(got);
-    }
-    expect(listed == 1024, "each page is listed once", listed);
-    for (i = 0; i < 32; i++)
-        expect(mmu_sweep(SDR1, 1u << i | 0x400, table, TABLE, cache, MMU_CACHE_SIZE, end, MMU_SWEPT_SIZE) == 13,
-               "a group past the last", i);
-    for (len = 0; len < MMU_CACHE_SIZE; len++)
-        expect(mmu_sweep(SDR1, 0x3FF, table, TABLE, cache_end - len, len, end, MMU_SWEPT_SIZE) == 11,
-               "a shorter cache before an unreadable page", (uint32_t)len);
-    for (len = 0; len < MMU_SWEPT_SIZE; len++)
-        expect(mmu_sweep(SDR1, 0x3FF, table, TABLE, cache, MMU_CACHE_SIZE, pages_end - len, len) == 11,
-               "fewer bytes for pages before an unreadable page", (uint32_t)len);
-    munmap(table, TABLE + GUARD);
-    munmap(cache_end - GUARD, 2 * GUARD);
-    munmap(pages_end - GUARD, 2 * GUARD);
-}
-
 static void test_wrong_entry_lengths(void)
 {
     static const size_t lengths[] = { 0, 1, 7, 9, 16, 35, 37, 72 };
@@ -644,23 +561,6 @@ static void test_invalidate_numbers(void)
         memset(l.cache.before + MMU_CACHE_SET_SIZE * (page % 64), 0, MMU_CACHE_SET_SIZE);
         expect(left(&l, invalidate(&l, page), 0), "invalidate empties one set", page);
     }
-    give_back_all(&l);
-}
-
-/* Group numbers: the last is taken, one past it and any with a higher bit set are 13; SDR1 comes before. */
-static void test_group_numbers(void)
-{
-    struct lent l = lend_right();
-    uint32_t bit;
-    expect(sweep(&l, SDR1, 0) == 0 && sweep(&l, SDR1, 0x3FF) == 0, "the first and the last group", 0);
-    remember(&l.swept);
-    for (bit = 10; bit < 32; bit++) {
-        expect(sweep_refused(&l, sweep(&l, SDR1, 1u << bit), 13), "a group of a high bit alone", bit);
-        expect(sweep_refused(&l, sweep(&l, SDR1, 1u << bit | 0x3FF), 13), "a high bit and the last group", bit);
-        expect(sweep_refused(&l, sweep(&l, SDR1 | 5, 1u << bit), 2), "2 before 13", bit);
-        expect(sweep_refused(&l, sweep(&l, SDR1 | 1, 0x400), 1), "1 where SDR1 asks for a longer table", bit);
-    }
-    expect(sweep_refused(&l, sweep(&l, SDR1, 0xFFFFFFFFu), 13), "the highest number", 13);
     give_back_all(&l);
 }
 
@@ -1449,70 +1349,6 @@ static void test_packing(void)
     give_back(&fields);
 }
 
-/* ---- Sweeps ----------------------------------------------------------------------------------- */
-
-static int told_page(const struct lent *l, uint32_t i, uint32_t vsid, uint32_t page, uint32_t r, uint32_t c)
-{
-    struct mmu_swept told = mmu_read_swept(l->swept.bytes, i);
-    return told.vsid == vsid && told.page_index == page && told.referenced == r && told.changed == c;
-}
-
-static int zeros_from(const struct lent *l, size_t at)
-{
-    for (; at < MMU_SWEPT_SIZE; at++)
-        if (l->swept.bytes[at] != 0)
-            return 0;
-    return 1;
-}
-
-/* A load, its step, a load again: R is told, cleared and set again, though a cache is in use. */
-static void test_sweep_story(void)
-{
-    struct lent l = lend_right();
-    expect(map(&l, SDR1, VSID, PAGE, 0x12345, 2, 2) == 0, "map", 0);
-    expect(cached_at(&l, 3, MMU_STORE, ADDRESS) == 0 && cached_at(&l, 3, MMU_STORE, ADDRESS) == 0, "stores", 0);
-    expect(sweep(&l, SDR1, 0x3E6) == UINT64_C(1) << 32, "one page listed", 1);
-    expect(told_page(&l, 0, VSID, PAGE, 1, 1) && zeros_from(&l, 16), "the page, its marks, zeros behind", 1);
-    expect(mmu_get_word(l.table.bytes, 0x3E6 * 64 + 4) == 0x12345092u, "R is cleared, C stays", 0);
-    expect(unchanged(&l.cache), "the set is empty again", 0);
-    expect(sweep(&l, SDR1, 0x3E6) == UINT64_C(1) << 32 && told_page(&l, 0, VSID, PAGE, 0, 1), "not used since", 1);
-    expect(sweep(&l, SDR1, 0x019) == 0 && zeros_from(&l, 0), "the other group lists nothing", 0);
-    expect(cached_at(&l, 3, MMU_LOAD, ADDRESS) == 0 && rule_is(&l, 6, 2, 0x3E6, 0), "a load by the table", 0);
-    expect(sweep(&l, SDR1, 0x3E6) == UINT64_C(1) << 32 && told_page(&l, 0, VSID, PAGE, 1, 1), "used since", 1);
-    give_back_all(&l);
-}
-
-/*
- * One group with an entry of H = 0 and one of H = 1, one of duplicates, the first elsewhere, and a contradiction, in a
- * table of two thousand groups an entry that belongs elsewhere: what is listed, and what changes.
- */
-static void test_sweep_entries(void)
-{
-    struct lent l = lend_all(pages[0], 2 * TABLE, MMU_ANSWER_SIZE, MMU_ACCESS_ANSWER_SIZE);
-    uint32_t vsid = 0x000400u, i;
-    put_entry(&l, 0x405, 0, 0x80000000u | vsid << 7, 0x11111FFFu);        /* page 0005, its primary group */
-    put_entry(&l, 0x405, 1, 0x80000000u | vsid << 7, 0x11111E7Fu);        /* the same again */
-    put_entry(&l, 0x405, 2, 0x80000042u | (vsid ^ 0x400u) << 7, 0x22222000u); /* page 0BFA of VSID 0, its secondary */
-    put_entry(&l, 0x405, 3, 0x80000001u | vsid << 7, 0x33333180u);        /* page 0405: its hash is 005, not here */
-    put_entry(&l, 0x405, 4, 0x80000002u | vsid << 7, 0x44444101u);        /* page 0805, and once more with another PP */
-    put_entry(&l, 0x3FA, 0, 0x80000042u | vsid << 7, 0x44444102u);
-    put_entry(&l, 0x405, 5, 0x00000000u | vsid << 7, 0x55555100u);        /* V = 0 */
-    put_entry(&l, 0x405, 7, 0x80000044u | (vsid ^ 0x400u) << 7, 0x66666102u); /* page 13FA of VSID 0, entry 7 */
-    memset(l.cache.bytes, 0x5A, MMU_CACHE_SIZE);
-    remember(&l.table);
-    remember(&l.cache);
-    expect(sweep(&l, SDR1 | 1, 0x405) == UINT64_C(3) << 32, "three pages listed", 3);
-    expect(told_page(&l, 0, vsid, 0x0005, 1, 1), "the first of duplicates", 0);
-    expect(told_page(&l, 1, 0, 0x0BFA, 0, 0), "a page whose entry has H", 1);
-    expect(told_page(&l, 2, 0, 0x13FA, 1, 0) && zeros_from(&l, 48), "entry 7, told without a gap", 2);
-    mmu_put_word(l.table.before, MMU_ENTRY_OFFSET(0x405, 0) + 4, 0x11111EFFu);
-    mmu_put_word(l.table.before, MMU_ENTRY_OFFSET(0x405, 7) + 4, 0x66666002u);
-    for (i = 0; i < 2; i++)
-        memset(l.cache.before + MMU_CACHE_SET_SIZE * (i ? 0x3A : 5), 0, MMU_CACHE_SET_SIZE);
-    expect(unchanged(&l.table) && unchanged(&l.cache), "R of the entries found and their sets, nothing else", 0);
-    give_back_all(&l);
-}
-
 /* ---- Random numbers --------------------------------------------------------------------------- */
 
 static uint32_t any(void)
@@ -1553,10 +1389,8 @@ static uint32_t random_call(struct lent *l, uint32_t call, uint32_t sdr1)
         return cached_operand(l, some(8), some(3), any() | (any() % 2 ? 0xFF0u : 0), some(MMU_LONGEST_OPERAND + 1));
     case 9:
         return invalidate(l, some(1u << 16));
-    case 10:
-        return rights_at(l, some(8), any());
     default:
-        return mmu_result_of(sweep(l, sdr1, some(MMU_GROUP_COUNT(SDR1))));
+        return rights_at(l, some(8), any());
     }
 }
 
@@ -1566,7 +1400,7 @@ static void test_random_numbers(long count, size_t page)
     struct lent l = lend_page(page);
     size_t i;
     while (count-- > 0) {
-        uint32_t call = any() % 12, got;
+        uint32_t call = any() % 11, got;
         if (any() % 8 == 0)
             mmu_put_word(l.registers.bytes, 4 * (any() % (page / 4)), any() % 3 ? 0 : any());
         for (i = 0; i < 8; i++)
@@ -1581,10 +1415,8 @@ static void test_random_numbers(long count, size_t page)
         memset(l.answer.bytes, 0xA5, l.answer.len);
         memset(l.access_answer.bytes, 0xA5, l.access_answer.len);
         memset(l.rights.bytes, 0xA5, l.rights.len);
-        memset(l.swept.bytes, 0xA5, l.swept.len);
         got = random_call(&l, call, any() % 2 ? SDR1 : any());
-        expect(got <= 11 || ((got == 12 || got == 64 || got == 65) && (call == 7 || call == 8))
-                   || (got == 13 && call == 11), "a result", got);
+        expect(got <= 11 || ((got == 12 || got == 64 || got == 65) && (call == 7 || call == 8)), "a result", got);
         if (got != 0)
             expect(left(&l, got, got), "a refusal or a fault leaves table, cache and registers", got);
         if ((call == 5 || call == 6) && got >= 1 && got <= 10)
@@ -1593,8 +1425,6 @@ static void test_random_numbers(long count, size_t page)
             expect(fault_is(&l, got, 0, 0, 0) && rule_is(&l, 0, 0, 0, 0), "an access's refusal", got);
         if (call == 10)
             expect(got == 0 ? left(&l, got, 0) : rights_refused(&l, got, got), "rights leave the table", got);
-        if (call == 11)
-            expect(unchanged(&l.swept) == (got != 0), "a sweep's bytes are left at a refusal, else written", got);
     }
     give_back_all(&l);
 }
@@ -1611,12 +1441,9 @@ int main(int argc, char **argv)
     test_guarded_cache();
     test_rights_lengths();
     test_guarded_rights();
-    test_sweep_lengths();
-    test_guarded_sweep();
     test_wrong_entry_lengths();
     test_page_numbers();
     test_invalidate_numbers();
-    test_group_numbers();
     test_access_and_register_numbers();
     test_long_numbers();
     test_operand_lengths();
@@ -1638,8 +1465,6 @@ int main(int argc, char **argv)
     test_full_groups();
     test_duplicates();
     test_packing();
-    test_sweep_story();
-    test_sweep_entries();
     test_random_numbers(count, MMU_REGISTERS_SIZE_SHORT);
     test_random_numbers(count, MMU_REGISTERS_SIZE_LONG);
     printf("bad_input: %lu checks, %lu failed\n", checks, failures);

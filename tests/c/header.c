@@ -146,10 +146,10 @@ static void test_block_lengths(void)
     expect(MMU_BLOCK_BL_OF(0x80000000u) == 0xFFFC && MMU_BLOCK_BL_OF(0u) == 0x1FFFC, "BL of 2 GB and of 4 GB", 0);
 }
 
-/* Results 0 to 13, 64 and 65 have a name each, every other number the same one. */
+/* Results 0 to 12, 64 and 65 have a name each, every other number the same one. */
 static int is_result(uint32_t number)
 {
-    return number <= 13 || number == 64 || number == 65;
+    return number <= 12 || number == 64 || number == 65;
 }
 
 static void test_result_names(void)
@@ -158,7 +158,7 @@ static void test_result_names(void)
     for (a = 0; a < 80; a++) {
         const char *name = mmu_result_name(a);
         int refused = strncmp(name, "refused: ", 9) == 0;
-        expect(refused == (a >= 1 && a <= 13), "refusals are called so", a);
+        expect(refused == (a >= 1 && a <= 12), "refusals are called so", a);
         expect((strcmp(name, mmu_result_name(1000)) == 0) == !is_result(a), "an unknown result", a);
         for (b = 0; b < a && is_result(a); b++)
             expect(strcmp(name, mmu_result_name(b)) != 0, "results of one name", a);
@@ -365,37 +365,6 @@ static void test_rights(void)
                == MMU_REFUSED_ARGUMENT, "rights of no mode", 6);
 }
 
-/* The names of a sweep: two numbers in one, and the pages as they are told. */
-static void test_sweep(void)
-{
-    static uint8_t table[65536], cache[MMU_CACHE_SIZE];
-    uint8_t pages[MMU_SWEPT_SIZE];
-    uint64_t returned;
-    uint32_t i;
-    memset(cache, 0, sizeof cache);
-    for (i = 0; i < 8; i++)
-        expect(mmu_map(0x0F980000u, 0x0C701Cu ^ i << 10, 0x0FFA ^ i << 10, 0x12345, 2, 2, table, sizeof table)
-                   == MMU_DONE, "map", i);
-    mmu_put_word(table, MMU_ENTRY_OFFSET(0x3E6u, 3u) + MMU_ENTRY_SECOND, 0x12345012u | MMU_SECOND_R);
-    mmu_put_word(table, MMU_ENTRY_OFFSET(0x3E6u, 5u) + MMU_ENTRY_SECOND, 0x12345012u | MMU_SECOND_C);
-    returned = mmu_sweep(0x0F980000u, 0x3E6, table, sizeof table, cache, sizeof cache, pages, sizeof pages);
-    expect(returned == UINT64_C(0x800000000), "eight pages listed", 8);
-    expect(mmu_result_of(returned) == MMU_DONE && mmu_count_of(returned) == 8, "result and count", 8);
-    for (i = 0; i < mmu_count_of(returned); i++) {
-        struct mmu_swept page = mmu_read_swept(pages, i);
-        expect(page.vsid == (0x0C701Cu ^ i << 10) && page.page_index == (0x0FFAu ^ i << 10), "a page told", i);
-        expect(page.referenced == (i == 3) && page.changed == (i == 5), "its marks", i);
-    }
-    expect(mmu_get_word(table, MMU_ENTRY_OFFSET(0x3E6u, 3u) + MMU_ENTRY_SECOND) == 0x12345012u, "R is cleared", 3);
-    returned = mmu_sweep(0x0F980000u, MMU_GROUP_COUNT(0x0F980000u), table, sizeof table, cache, sizeof cache, pages,
-                         sizeof pages);
-    expect(returned == MMU_REFUSED_GROUP, "one group past the last", 13);
-    expect(mmu_result_of(UINT64_C(0x50000000C)) == 12 && mmu_count_of(UINT64_C(0x50000000C)) == 5, "two in one", 5);
-    expect(MMU_GROUP_COUNT(0x0F9801FFu) == 524288u, "groups of the largest table", 9);
-    expect(MMU_GROUP_ENTRIES * MMU_SWEPT_PAGE_SIZE == MMU_SWEPT_SIZE, "room for each entry of a group", 8);
-    expect(mmu_get_word(cache, 0) == 0, "zeros that were lent", 0);
-}
-
 int main(void)
 {
     uint8_t fields[MMU_FIELDS_SIZE];
@@ -416,6 +385,5 @@ int main(void)
     test_access_by_page();
     test_access_cached();
     test_rights();
-    test_sweep();
     return failures ? 1 : 0;
 }

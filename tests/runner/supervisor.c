@@ -155,7 +155,7 @@ static void load_all(void)
     }
 }
 
-/* A page that is accessed between all others is never taken away by a clock that goes by R, though the TLB has it. */
+/* A page that is accessed between all others is never taken away by a clock that goes by R. */
 static void hot_page(void)
 {
     uint64_t before;
@@ -165,12 +165,10 @@ static void hot_page(void)
     access_bytes(MMU_LOAD, 8u * PAGE, 4);
     before = sv.count[SV_faults_no_match];
     for (uint32_t i = 0; i < 3000; i++) {
+        struct mmu_answer answer;
         access_bytes(MMU_LOAD, (i * 7u % 15u + 9u) * PAGE, 4);
-        if (!(tlb[8].kinds >> MMU_LOAD & 1u)) {
-            struct mmu_answer answer = sv_access(&sv, MMU_LOAD, (FIRST + 8u) * PAGE, 4);
-            want(answer.result == MMU_DONE, "a load of the page that is used most");
-            know(8u, answer.physical, MMU_LOAD);
-        }
+        answer = sv_access(&sv, MMU_LOAD, (FIRST + 8u) * PAGE, 4);
+        want(answer.result == MMU_DONE, "a load of the page that is used most");
     }
     /* At most the other page misses in each round; the clock may have met the hot page's R clear once. */
     want(sv.count[SV_faults_no_match] - before <= 3001u, "the page that is used most is taken away");
@@ -194,7 +192,7 @@ static void frames_and_vsids(uint32_t frames, bool plain)
     written = sv.count[SV_written_back];
     load_all();
     want(frames > 60u || sv.count[SV_written_back] == written, "a page that was only loaded from is written back");
-    if (frames == 12u)
+    if (frames <= 12u)
         hot_page();
     want(sv.count[SV_copies_on_write] > 100, "too few copies on write to say anything");
     want(sv.count[SV_protects] > 10, "too few protects to say anything");

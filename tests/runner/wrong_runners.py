@@ -13,14 +13,10 @@ LIMIT = 60
 
 # What is wrong, the file, the text that is there once, what stands in its place.
 OF_SUPERVISOR = [
-    ("the clock does not go by R", "if (swept.referenced)", "if (!sv->memory)"),
-    ("a page that a sweep lists is not lifted",
-     "    if (program == sv->running && sv->lift)\n        sv->lift(page);\n}", "}"),
-    ("C does not decide: all is written back", "if (second & MMU_SECOND_C) {", "if (second | 1u) {"),
-    ("C does not decide: nothing is written back", "if (second & MMU_SECOND_C) {", "if (second & 0u) {"),
-    ("a frame is taken from one user alone",
-     "                take(sv, sv->programs[i], sv->frames[frame].page);\n            sv->count",
-     "                { take(sv, sv->programs[i], sv->frames[frame].page); break; }\n            sv->count"),
+    ("the clock does not go by R", "if (!(marks & MMU_SECOND_R)) {", "if (marks | 1u) {"),
+    ("C does not decide: all is written back", "if (second & MMU_SECOND_C || p->changed) {", "if (second | 1u) {"),
+    ("C does not decide: nothing is written back", "if (second & MMU_SECOND_C || p->changed) {", "if (p->changed) {"),
+    ("C is lost at a second chance", "sv->programs[i]->pages[page].changed = true;", ";"),
     ("a shared page may be written", "page->rights & SV_WRITE && !shared ? 2u", "page->rights & SV_WRITE ? 2u"),
     ("the copy on write is not copied", "memcpy(own_store(p)->bytes, shared->bytes, PAGE);",
      "own_store(p), (void)shared;"),
@@ -32,6 +28,9 @@ OF_SUPERVISOR = [
     ("a free frame is still shared", "        p->store->frame = 0;", "        ;"),
     ("a new page is not zeroed", "memset(sv->memory + frame * PAGE, 0, PAGE);", ";"),
     ("no G", "(p->rights & SV_EXECUTE ? 0u : MMU_ATTRIBUTE_G)", "0u"),
+    ("a frame is taken from one user alone",
+     "                take(sv, sv->programs[i], sv->frames[frame].page);\n            sv->count",
+     "                { take(sv, sv->programs[i], sv->frames[frame].page); break; }\n            sv->count"),
 ]
 OF_CORE = [
     ("the second page is not laid", "lay(address / PAGE + 1u, answer.second_physical, kind);", ";"),

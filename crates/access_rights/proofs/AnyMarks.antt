@@ -1,6 +1,12 @@
 -- The marks of one access on any table of bytes: it leaves the table and has none, or it is done by a page and has those that the first match lacks.
-use Rattle.words.proofs.Basics.{ℕ, ◌-◌, ◌^◌, ◌<◌, ◌≤◌, ◌≡◌, refl, sym, ap, ap₂, ◌∙◌, true, false, true≢false, List, ◌∷◌, eqb, lit≤, length, get_or, arith}
-use Rattle.words.proofs.Basics.{eqb-false, eqb_true}
+use Prim.Native.Nat.{ℕ, ◌-◌, ◌^◌, ◌≤◌, ◌<◌}
+use mathlib.Core.Path.{◌≡◌, refl, sym, ap, ap₂, ◌∙◌}
+use mathlib.Core.Bool.{true, false, true≢false}
+use mathlib.Core.List.{List, ◌∷◌}
+use native.Mathlib.Omega.{arith}
+use lib.Dec.{eqb, lit≤}
+use lib.ListN.{length, get_or}
+use borrow.Author.Tests.{eqb-true, eqb-false}
 use Rattle.words.specs.Bits.{bits}
 use Rattle.words.proofs.Tests.{by_test}
 use Rattle.entry.specs.Entry.{with_marks}
@@ -54,10 +60,10 @@ module _ (c : RightsCall) (t : List ℕ) (bytes : (i : ℕ) → get_or t i 0 < 2
 
       kept : eqb (refusal (fed (access (asking c kind))) (length t)) 0 ≡ true → X
       kept e =
-          let taken : Taken (access (asking c kind)) t = record { not_refused = eqb_true _ 0 e; bytes = bytes } in
+          let taken : Taken (access (asking c kind)) t = record { not_refused = eqb-true _ 0 e; bytes = bytes } in
           by_test (eqb told 0)
           (λ d.
-          let z = eqb_true told 0 d in
+          let z = eqb-true told 0 d in
           let ends = ends_done (asking c kind) t taken (one_byte c.address) z in
           by_early (early_of (asking c kind) false)
           (λ outcome q. left (state_of ends ∙ rw q (unmarked_decided k kind outcome 0 t)))
@@ -96,8 +102,8 @@ module _ (c : RightsCall) (t : List ℕ) (bytes : (i : ℕ) → get_or t i 0 < 2
 
       kept : eqb (refusal (fed (access (asking c kind))) (length t)) 0 ≡ true → Taken (access (asking c kind)) t × (told ≡ 0)
       kept e =
-          let taken : Taken (access (asking c kind)) t = record { not_refused = eqb_true _ 0 e; bytes = bytes } in
-          by_test (eqb told 0) (λ d. (taken, eqb_true told 0 d))
+          let taken : Taken (access (asking c kind)) t = record { not_refused = eqb-true _ 0 e; bytes = bytes } in
+          by_test (eqb told 0) (λ d. (taken, eqb-true told 0 d))
           (λ d. let n = eqb-false told 0 d in absurd (n (sym (number_of (ends_stopped (asking c kind) t taken (one_byte c.address) n)) ∙ z)))
 
   -- the marks of one that is done and reaches the search, by the page's matches

@@ -1,5 +1,7 @@
 -- A part by what the search of a table alone finds: what it answers, what decided it, and that its entry is the page's first match.
-use Rattle.words.proofs.Basics.{ℕ, ◌≡◌, refl, sym, ap, ◌∙◌, List, ◌∷◌}
+use Prim.Native.Nat.{ℕ}
+use mathlib.Core.Path.{◌≡◌, refl, sym, ap, ◌∙◌}
+use mathlib.Core.List.{List, ◌∷◌}
 use Rattle.numbers.specs.Numbers.{group_entries}
 use Rattle.theory_tables.specs.Matches.{Match}
 use Rattle.theory_tables.specs.Layout.{matches_of}

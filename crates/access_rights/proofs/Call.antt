@@ -1,5 +1,10 @@
 -- The call by the lengths of what it is lent: one that is wrong is refused and leaves the answer; else the answer is what the code holds, written out.
-use Rattle.words.proofs.Basics.{ℕ, ◌≡◌, refl, ap, ◌∙◌, Bool, true, false, ◌&&◌, true≢false, List, [], ◌∷◌, ◌++◌, eqb, length}
+use Prim.Native.Nat.{ℕ}
+use mathlib.Core.Path.{◌≡◌, refl, ap, ◌∙◌}
+use mathlib.Core.Bool.{Bool, true, false, ◌&&◌, true≢false}
+use mathlib.Core.List.{List, [], ◌∷◌, ◌++◌}
+use lib.Dec.{eqb}
+use lib.ListN.{length}
 use Rattle.words.specs.Words.{bytes_of}
 use Rattle.register_words.specs.Block.{bl_width}
 use Rattle.registers.specs.Set.{is_page, is_long, block_pairs, register_words}

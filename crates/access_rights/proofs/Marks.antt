@@ -1,7 +1,14 @@
 -- What an access within one page ends in, and the marks that it newly sets: none where it leaves the table, and else what the marks add to the second
 -- word of the page's first match.
-use Rattle.words.proofs.Basics.{ℕ, ◌+◌, ◌-◌, ◌^◌, ◌<◌, ◌≤◌, ◌≡◌, refl, sym, ap, ◌∙◌, Bool, true, false, cond, true≢false, List, ◌∷◌, ltb, leb, lit<, length}
-use Rattle.words.proofs.Basics.{pow_mono, arith, lt-ltb}
+use Prim.Native.Nat.{ℕ, ◌+◌, ◌-◌, ◌^◌, ◌≤◌, ◌<◌}
+use mathlib.Core.Path.{◌≡◌, refl, sym, ap, ◌∙◌}
+use mathlib.Core.Bool.{Bool, true, false, cond, true≢false}
+use mathlib.Core.List.{List, ◌∷◌}
+use lib.Pow.{pow_mono}
+use native.Mathlib.Omega.{arith}
+use lib.Dec.{leb, ltb, lit<}
+use lib.ListN.{length}
+use borrow.Author.Tests.{lt-ltb}
 use Rattle.words.specs.Words.{word_bytes, word_at, bytes_of}
 use Rattle.words.proofs.Words.{own_bytes}
 use Rattle.entry.specs.Entry.{set_if, with_marks}
@@ -26,8 +33,7 @@ use Rattle.translation.proofs.Steps.{done_passes}
 use Rattle.translation.proofs.Parts.{first_stops, one_done}
 use Rattle.theory_calls.specs.Request.{AccessCall, access, sdr1_in, fed}
 use Rattle.theory_calls.specs.Answers.{access_answer}
-use Rattle.theory_calls.specs.OnBytes.{Ended, ended, by_matches, start_of, early_of, part_answer, part_decision, used_by, wanted_page, searched, search_in}
-use Rattle.theory_calls.specs.OnBytes.{first_place_in, marked_by, bytes_do, on_bytes}
+use Rattle.theory_calls.specs.OnBytes.{Ended, ended, by_matches, start_of, early_of, part_answer, part_decision, used_by, wanted_page, searched, search_in, first_place_in, marked_by, bytes_do, on_bytes}
 use Rattle.theory_calls.specs.AnyTable.{group_at, Taken}
 use Rattle.theory_calls.proofs.Rules.{fitting}
 use Rattle.theory_calls.proofs.Histories.{sdr1_fed}

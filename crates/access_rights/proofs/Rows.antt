@@ -1,5 +1,5 @@
 -- Every row of the call holds: both sides compute to the same.
-use Rattle.words.proofs.Basics.{refl}
+use mathlib.Core.Path.{refl}
 use Rattle.theory_calls.proofs.Computes.{calls_compute}
 use Rattle.access_rights.specs.Rights.{new_marks, rights_told, rights_refusal, rights_call}
 use Rattle.access_rights.specs.Rows.{RightsRows}

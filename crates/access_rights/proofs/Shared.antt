@@ -1,5 +1,11 @@
 -- The access of each kind: its rules after 11 by the page's own limits, what it ends in where one is broken, and what a part of its own comes to.
-use Rattle.words.proofs.Basics.{ℕ, ◌-◌, ◌^◌, ◌<◌, ◌≡◌, refl, sym, ap, ap₂, ◌∙◌, subst, Bool, true, false, cond, List, ltb, length, get_or, arith}
+use Prim.Native.Nat.{ℕ, ◌-◌, ◌<◌, ◌^◌}
+use mathlib.Core.Path.{◌≡◌, refl, sym, ap, ap₂, subst, ◌∙◌}
+use mathlib.Core.Bool.{Bool, true, false, cond}
+use mathlib.Core.List.{List}
+use native.Mathlib.Omega.{arith}
+use lib.Dec.{ltb}
+use lib.ListN.{length, get_or}
 use Rattle.entry.specs.Entry.{with_marks}
 use Rattle.registers.specs.Rules.{first_broken}
 use Rattle.register_words.specs.Sdr1.{sdr1_shape, table_length, mask_ones}

@@ -1,7 +1,13 @@
 -- What is told of any table, each answer and each word at its place.
-use Rattle.words.proofs.Basics.{ℕ, zero, suc, ◌+◌, ◌*◌, ◌^◌, ◌<◌, ◌≡◌, refl, sym, ap, ◌∙◌, Bool, true, false, cond, ◌&&◌, List, [], ◌∷◌, ◌++◌, append_assoc}
-use Rattle.words.proofs.Basics.{eqb, lit<, lit≤, length, get_or, take, drop, replicate, length-append, drop_at, get_or-append-add, take_at, arith, eq-eqb, eqb_true}
-use Rattle.words.proofs.Basics.{lt-ltb}
+use Prim.Native.Nat.{ℕ, zero, suc, ◌+◌, ◌*◌, ◌^◌, ◌<◌}
+use mathlib.Core.Path.{◌≡◌, refl, sym, ap, ◌∙◌}
+use mathlib.Core.Bool.{Bool, true, false, cond, ◌&&◌}
+use mathlib.Core.List.{List, [], ◌∷◌, ◌++◌, append_assoc}
+use native.Mathlib.Omega.{arith}
+use lib.Dec.{eqb, lit<, lit≤}
+use lib.ListN.{length, get_or, take, drop, replicate, length-append}
+use lib.Seq.{take_at, drop_at, get_or-append-add}
+use borrow.Author.Tests.{eqb-true, eq-eqb, lt-ltb}
 use Rattle.words.specs.Words.{word_bytes, word_at, bytes_of}
 use Rattle.words.proofs.Words.{own_bytes}
 use Rattle.words.proofs.Tests.{both, by_test}
@@ -78,7 +84,7 @@ module _ (c : RightsCall) (answer t : List ℕ) where
   pub lengths_right : ((rights_call c answer t).0 ≡ 11 → ⊥) → (is_page (length c.registers) ≡ true) × (length answer ≡ 156)
   lengths_right n =
       by_test (is_page (length c.registers) && eqb (length answer) 156)
-      (λ e. let (page, long) = both _ _ e in (page, eqb_true (length answer) 156 long))
+      (λ e. let (page, long) = both _ _ e in (page, eqb-true (length answer) 156 long))
       (λ e. absurd (n (ap (λ (x : ℕ × List ℕ). x.0) (wrong_length c answer t e))))
 
   -- the refusal is the same for each kind

@@ -1,5 +1,8 @@
 -- The marks that a word lacks, as a number: 0x100 for R and 0x080 for C.
-use Rattle.words.proofs.Basics.{ℕ, ◌+◌, ◌-◌, ◌*◌, ◌≤◌, ◌≡◌, refl, ap, ◌∙◌, Bool, true, false, cond, not, ◌&&◌, arith}
+use Prim.Native.Nat.{ℕ, ◌+◌, ◌-◌, ◌*◌, ◌≤◌}
+use mathlib.Core.Path.{◌≡◌, refl, ap, ◌∙◌}
+use mathlib.Core.Bool.{Bool, true, false, cond, not, ◌&&◌}
+use native.Mathlib.Omega.{arith}
 use Rattle.words.specs.Bits.{bits, with_bits}
 use Rattle.entry.specs.Entry.{with_marks}
 use Rattle.entry.proofs.Packing.{second_packed}

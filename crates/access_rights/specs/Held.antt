@@ -1,5 +1,5 @@
 -- What the code holds of an address and of the three accesses there, against what they would end in.
-use Rattle.words.specs.Basics.{ℕ, ◌^◌, ◌<◌, ◌≡◌, true, false, List, length, get_or}
+use Rattle.std.specs.Prelude.{ℕ, ◌^◌, ◌<◌, true, false, List, ◌≡◌, length, get_or}
 use Rattle.numbers.specs.Numbers.{fetch, load, store}
 use Rattle.register_words.specs.Sdr1.{mask_ones}
 use Rattle.register_words.specs.Block.{bl_width}

@@ -1,6 +1,6 @@
 -- What a fetch, a load and a store of one byte at an address would come to: the three accesses themselves, each on the table as it was lent, told at
 -- once and without a mark.
-use Rattle.words.specs.Basics.{ℕ, ◌-◌, cond, not, List, [], ◌∷◌, ◌++◌, eqb, leb, length, replicate}
+use Rattle.std.specs.Prelude.{ℕ, ◌-◌, cond, not, List, [], ◌∷◌, ◌++◌, eqb, leb, length, replicate}
 use Rattle.numbers.specs.Numbers.{refused_lent_length, fetch, load, store, access_answer_size, rule_guarded}
 use Rattle.words.specs.Words.{word_at, bytes_of}
 use Rattle.registers.specs.Rules.{first_broken}

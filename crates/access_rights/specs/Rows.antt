@@ -1,6 +1,6 @@
 -- Rows of the whole call. Each closes by computation. A table here is group 0 with one or two entries for VSID 0 and page index 0, and 1,023 groups of
 -- zeros behind it.
-use Rattle.words.specs.Basics.{ℕ, List, [], ◌∷◌, ◌++◌, replicate}
+use Rattle.std.specs.Prelude.{ℕ, List, [], ◌∷◌, ◌++◌, replicate}
 use Rattle.numbers.specs.Numbers.{done, data_storage_fault, instruction_storage_fault, refused_table_length, refused_argument, refused_lent_length, refused_contradiction}
 use Rattle.words.specs.Rows.{Hold}
 use Rattle.words.specs.Words.{bytes_of}

@@ -1,5 +1,5 @@
 -- What is stated of the call on any table of bytes: what it tells of each access.
-use Rattle.words.specs.Basics.{ℕ, ◌+◌, ◌-◌, ◌*◌, ◌^◌, ◌<◌, ◌≡◌, Bool, true, false, cond, ◌↔◌, List, length, get_or, take, drop}
+use Rattle.std.specs.Prelude.{ℕ, ◌+◌, ◌-◌, ◌*◌, ◌^◌, ◌<◌, Bool, true, false, cond, List, ◌↔◌, ◌≡◌, length, get_or, take, drop}
 use Rattle.numbers.specs.Numbers.{done, refused_lent_length, access_answer_size}
 use Rattle.words.specs.Bits.{bits}
 use Rattle.words.specs.Words.{word_at}

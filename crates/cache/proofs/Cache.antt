@@ -14,9 +14,17 @@
 --   loaded_first, loaded_second, loaded_index, loaded_holds: the words of the place loaded; a page held then was loaded, or held before
 --   length_zeroed, zeroed_in, zeroed_out: a set zeroed leaves the length, its bytes are zero and those of other sets as before
 --   zeroed_out_of, zeroed_same, zeroed_holds: it holds no page then; another set has its bytes; a page held then was held before
-use Rattle.words.proofs.Basics.{ℕ, zero, suc, ◌+◌, ◌-◌, ◌*◌, ◌/◌, ◌^◌, ◌<◌, ◌≤◌, ◌≡◌, refl, sym, ap, ◌∙◌, Bool, true, false, cond, not, ◌&&◌, false≢true, ◌⊎◌}
-use Rattle.words.proofs.Basics.{inl, inr, ⊎_elim, Option, none, some, Option·some-injective, Option·some-ne-none, List, eqb, length, get_or, replicate}
-use Rattle.words.proofs.Basics.{length-replicate, length-sets, arith, eqb-false, eqb_true}
+use mathlib.Core.Bool.{Bool, true, false, not, cond, ◌&&◌, false≢true}
+use mathlib.Core.List.{List}
+use mathlib.Core.Logic.{◌⊎◌, inl, inr, ⊎_elim}
+use mathlib.Core.Option.{Option, none, some, some-injective, some-ne-none}
+use mathlib.Core.Path.{◌≡◌, refl, sym, ap, ◌∙◌}
+use Prim.Native.Nat.{ℕ, zero, suc, ◌+◌, ◌-◌, ◌*◌, ◌/◌, ◌^◌, ◌<◌, ◌≤◌}
+use native.Mathlib.Omega.{arith}
+use borrow.Author.Tests.{eqb-true, eqb-false}
+use lib.Dec.{eqb}
+use lib.ListN.{length, get_or, replicate, length-replicate}
+use lib.Seq.{length-sets}
 use Rattle.words.specs.Bits.{bits}
 use Rattle.words.specs.Words.{word_at, with_word}
 use Rattle.words.proofs.Tests.{both, by_test, three}
@@ -136,7 +144,7 @@ module _ (cache : List ℕ) (page : Page) (place : Bool) (held : holds cache pag
       let s = eqb (bits 1 24 (first_in cache page.index place)) page.vsid in
       let (first, third) = both (v && s) (eqb (index_in cache page.index place) page.index) held in
       let (one, same) = both v s first in
-      (eqb_true _ _ one, eqb_true _ _ same, eqb_true _ _ third)
+      (eqb-true _ _ one, eqb-true _ _ same, eqb-true _ _ third)
 
 -- zero bytes hold no page
 abbrev zeros : ℕ → List ℕ
@@ -169,13 +177,13 @@ met_some storing cache index place first second e =
   where
     by_cases : (s : Bool) (x y : ℕ) (c : Bool) → changed y ≡ c → ◌≡◌ {A = Option (ℕ × ℕ)} (cond (s && not c) none (some (x, y))) (some (first, second))
         → (x ≡ first) × (y ≡ second) × (s ≡ true → changed second ≡ true)
-    by_cases true x y false clear f = absurd (Option·some-ne-none (first, second) (sym f))
+    by_cases true x y false clear f = absurd (some-ne-none (first, second) (sym f))
     by_cases true x y true set f =
-        let w = Option·some-injective (x, y) (first, second) f in
+        let w = some-injective (x, y) (first, second) f in
         let second_is : y ≡ second = ap (λ (p : ℕ × ℕ). p.1) w in
         (ap (λ (p : ℕ × ℕ). p.0) w, second_is, λ stores. ap changed (sym second_is) ∙ set)
     by_cases false x y c set f =
-        let w = Option·some-injective (x, y) (first, second) f in
+        let w = some-injective (x, y) (first, second) f in
         (ap (λ (p : ℕ × ℕ). p.0) w, ap (λ (p : ℕ × ℕ). p.1) w, λ stores. absurd (false≢true stores))
 
 pub hit_place : (storing : Bool) (cache : List ℕ) (page : Page) (first second : ℕ) → hit storing cache page ≡ some (first, second)
@@ -189,7 +197,7 @@ hit_place storing cache page first second e =
     by_test (holds cache page true)
     (λ in-1.
     let m = met_some storing cache page.index true first second (sym (hit_1 cache page out-0 in-1 storing) ∙ e) in (true, in-1, m.0, m.1, m.2))
-    (λ out-1. absurd (Option·some-ne-none (first, second) (sym e ∙ hit_none cache page out-0 out-1 storing))))
+    (λ out-1. absurd (some-ne-none (first, second) (sym e ∙ hit_none cache page out-0 out-1 storing))))
 
 -- ---- a load
 
@@ -322,7 +330,7 @@ module _ (page q : Page) (first second : ℕ) (cache : List ℕ) (place : Bool) 
   loaded_holds whole range first_lt second_lt tag held =
       by_test (eqb own asked)
       (λ e.
-      let same = eqb_true own asked e in
+      let same = eqb-true own asked e in
       let words = held_words after q place held in
       let f = loaded_first whole same first_lt in
       let vsid_is : q.vsid ≡ page.vsid = sym words.1 ∙ ap (bits 1 24) f ∙ tag in

@@ -1,5 +1,5 @@
 -- Every row of the tables of the cache holds: both sides compute to the same.
-use Rattle.words.proofs.Basics.{refl}
+use mathlib.Core.Path.{refl}
 use Rattle.cache.specs.Examples.{CacheTables}
 use Rattle.cache.proofs.Computes.{cache_computes}
 

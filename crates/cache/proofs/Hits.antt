@@ -1,7 +1,15 @@
 -- What is a hit after a load, and after a set was zeroed: the page that was loaded, no page of the zeroed set, and in other sets what was one before. A
 -- hit, and the place of a load, depend on the bytes of a page's set alone.
-use Rattle.words.proofs.Basics.{ℕ, ◌+◌, ◌*◌, ◌/◌, ◌^◌, ◌<◌, ◌≤◌, ◌≡◌, refl, sym, ap, ◌∙◌, subst, Bool, true, false, cond, not, ◌&&◌, true≢false, ⊎_elim, Option}
-use Rattle.words.proofs.Basics.{none, some, List, lit<, length, get_or, arith, eq-eqb}
+use mathlib.Core.Bool.{Bool, true, false, not, cond, ◌&&◌, true≢false}
+use mathlib.Core.List.{List}
+use mathlib.Core.Logic.{⊎_elim}
+use mathlib.Core.Option.{Option, none, some}
+use mathlib.Core.Path.{◌≡◌, refl, sym, ap, ◌∙◌, subst}
+use Prim.Native.Nat.{ℕ, ◌+◌, ◌*◌, ◌/◌, ◌^◌, ◌<◌, ◌≤◌}
+use native.Mathlib.Omega.{arith}
+use borrow.Author.Tests.{eq-eqb}
+use lib.Dec.{lit<}
+use lib.ListN.{length, get_or}
 use Rattle.words.specs.Bits.{bits}
 use Rattle.words.specs.Words.{word_at, with_word}
 use Rattle.words.proofs.Tests.{by_test, three}
@@ -10,9 +18,7 @@ use Rattle.entry.specs.Entry.{changed}
 use Rattle.groups.specs.Page.{Page, InRange}
 use Rattle.cache.specs.Cache.{set_of, place_at, first_in, index_in, newer_in, holds, met, hit, load_place, put_place, loaded, set_zeroed}
 use Rattle.cache.specs.Placed.{Placed}
-use Rattle.cache.proofs.Cache.{place_0, place_1, place_in, place_le, hit_0, hit_1, hit_none, load_0, holds_same, same_first, same_second, same_index}
-use Rattle.cache.proofs.Cache.{same_newer, same_holds, same_hit, same_load, length_put, put_newer, number_of, kept, loaded_first, loaded_second}
-use Rattle.cache.proofs.Cache.{loaded_index, zeroed_out_of, zeroed_same}
+use Rattle.cache.proofs.Cache.{place_0, place_1, place_in, place_le, hit_0, hit_1, hit_none, load_0, holds_same, same_first, same_second, same_index, same_newer, same_holds, same_hit, same_load, length_put, put_newer, number_of, kept, loaded_first, loaded_second, loaded_index, zeroed_out_of, zeroed_same}
 
 -- caches with the same bytes in a page's set before a load of the page, and such behind it
 pub same_placed : (page : Page) (cache left d e : List ℕ) → ((i : ℕ) → set_of page.index ≡ i / 32 → get_or cache i 0 ≡ get_or d i 0)

@@ -1,5 +1,11 @@
 -- A cache of no bytes is none: no page is a hit in it, and a load leaves it as it is.
-use Rattle.words.proofs.Basics.{ℕ, ◌≡◌, refl, Bool, none, List, [], ◌∷◌, length, arith}
+use mathlib.Core.Path.{◌≡◌, refl}
+use mathlib.Core.Bool.{Bool}
+use mathlib.Core.List.{List, [], ◌∷◌}
+use mathlib.Core.Option.{none}
+use Prim.Native.Nat.{ℕ}
+use native.Mathlib.Omega.{arith}
+use lib.ListN.{length}
 use Rattle.words.specs.Words.{word_bytes, word_at, with_word}
 use Rattle.groups.specs.Page.{Page}
 use Rattle.cache.specs.Cache.{holds, hit, put_place, loaded}

@@ -1,8 +1,16 @@
 -- What the functions' proofs cite: the test of a place as the code makes it, what a hit, a load and a zeroed set are by what the code found.
-use Rattle.words.proofs.Basics.{ℕ, ◌+◌, ◌-◌, ◌*◌, ◌/◌, ◌^◌, ◌<◌, ◌≤◌, ◌≡◌, refl, sym, ap, ap₂, ◌∙◌, Bool, true, false, cond, not, ◌&&◌, ◌||◌, Option, none}
-use Rattle.words.proofs.Basics.{some, List, ◌++◌, append_assoc, eqb, length, take, drop, replicate, length-replicate, sets, sets-eq, bit_or, arith, eq-eqb}
-use Rattle.words.proofs.Basics.{eqb_true, mid_of, Post-is, put_mid}
-use borrow.Rule.Slice.PartMut.{mid_len}
+use mathlib.Core.Bool.{Bool, true, false, cond, not, ◌&&◌, ◌||◌}
+use mathlib.Core.List.{List, ◌++◌, append_assoc}
+use mathlib.Core.Option.{Option, none, some}
+use mathlib.Core.Path.{◌≡◌, refl, sym, ap, ap₂, ◌∙◌}
+use Prim.Native.Nat.{ℕ, ◌+◌, ◌-◌, ◌*◌, ◌/◌, ◌^◌, ◌<◌, ◌≤◌}
+use native.Mathlib.Omega.{arith}
+use borrow.Author.Tests.{eqb-true, eq-eqb}
+use borrow.Rule.Slice.PartMut.{put_mid, mid_of, Post-is, mid_len}
+use lib.Bits.{bit_or}
+use lib.Dec.{eqb}
+use lib.ListN.{length, replicate, take, drop, length-replicate}
+use lib.Seq.{sets, sets-eq}
 use Rattle.words.specs.Bits.{bits}
 use Rattle.words.specs.Words.{with_word}
 use Rattle.words.proofs.Masks.{or_bit}
@@ -20,11 +28,11 @@ tag_same w vsid fits h =
     let tag : bit_or vsid (2 ^ 24) ≡ 2 ^ 24 + vsid = or_bit 24 vsid ∙ omega arith in
     rw tag
     (same_test (eqb (w / 2 ^ 7) (2 ^ 24 + vsid)) (eqb (bits 0 0 w) 1 && eqb (bits 1 24 w) vsid)
-    (λ e. let same = eqb_true (w / 2 ^ 7) (2 ^ 24 + vsid) e in rw (eq-eqb (bits 0 0 w) 1 (omega arith), eq-eqb (bits 1 24 w) vsid (omega arith)))
+    (λ e. let same = eqb-true (w / 2 ^ 7) (2 ^ 24 + vsid) e in rw (eq-eqb (bits 0 0 w) 1 (omega arith), eq-eqb (bits 1 24 w) vsid (omega arith)))
     (λ e.
     let (v, s) = both (eqb (bits 0 0 w) 1) (eqb (bits 1 24 w) vsid) e in
-    let one = eqb_true (bits 0 0 w) 1 v in
-    let same = eqb_true (bits 1 24 w) vsid s in
+    let one = eqb-true (bits 0 0 w) 1 v in
+    let same = eqb-true (bits 1 24 w) vsid s in
     eq-eqb (w / 2 ^ 7) (2 ^ 24 + vsid) (omega arith)))
 
 -- ---- a hit

@@ -1,6 +1,8 @@
 -- The cache of translations (request 7): 2,048 bytes, 64 sets of two places, four big-endian words a place: an entry's two words, a page index,
 -- and 1 for the newer load of the set, else 0. In what follows false is place 0 of a set and true is place 1.
-use Rattle.words.specs.Basics.{ℕ, ◌+◌, ◌*◌, ◌%◌, Bool, true, false, cond, not, ◌&&◌, Option, none, some, List, eqb, replicate, sets}
+use Rattle.std.specs.Prelude.{ℕ, ◌+◌, ◌*◌, ◌%◌, Bool, true, false, cond, not, ◌&&◌, List, eqb, replicate}
+use Rattle.std.proofs.Math.Option.{Option, none, some}
+use Rattle.std.proofs.lemmas.List.Edits.{sets}
 use Rattle.words.specs.Bits.{bits}
 use Rattle.words.specs.Words.{word_at, with_word}
 use Rattle.entry.specs.Entry.{changed}

@@ -1,5 +1,7 @@
 -- Worked examples of the cache, each row closed by computation: what a load writes and where, what hits, and what an invalidate zeroes.
-use Rattle.words.specs.Basics.{ℕ, true, false, none, some, List, [], ◌∷◌, ◌++◌, map, take, drop, replicate, bit_xor}
+use Rattle.std.specs.Prelude.{ℕ, true, false, List, [], ◌∷◌, ◌++◌, map, replicate, take, drop}
+use Rattle.std.proofs.Math.Option.{none, some}
+use Rattle.std.specs.Int.Bits.{bit_xor}
 use Rattle.words.specs.Rows.{Hold, each_bit, only_at}
 use Rattle.words.specs.Words.{bytes_of}
 use Rattle.groups.specs.Page.{Page}

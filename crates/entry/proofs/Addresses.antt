@@ -1,5 +1,7 @@
 -- Laws of page index, API and physical address: their bounds, and the physical address by a second word's fields.
-use Rattle.words.proofs.Basics.{ℕ, ◌+◌, ◌^◌, ◌<◌, ◌≡◌, arith}
+use mathlib.Core.Path.{◌≡◌}
+use Prim.Native.Nat.{ℕ, ◌+◌, ◌^◌, ◌<◌}
+use native.Mathlib.Omega.{arith}
 use Rattle.words.specs.Bits.{bits, placed}
 use Rattle.entry.specs.Entry.{page_index, api_of, physical_address}
 use Rattle.entry.proofs.Packing.{SecondFields}

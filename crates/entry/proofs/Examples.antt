@@ -1,5 +1,5 @@
 -- Every row of the tables of an entry holds: both sides compute to the same.
-use Rattle.words.proofs.Basics.{refl}
+use mathlib.Core.Path.{refl}
 use Rattle.entry.specs.Examples.{EntryTables}
 use Rattle.entry.proofs.Computes.{entry_computes}
 

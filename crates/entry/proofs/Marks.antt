@@ -1,6 +1,12 @@
 -- What setting the marks and PP does to a second word: the fields asked for are set, and every other bit, the ignored ones too, is kept.
-use Rattle.words.proofs.Basics.{ℕ, ◌+◌, ◌-◌, ◌*◌, ◌/◌, ◌%◌, ◌^◌, ◌<◌, ◌≤◌, ◌≡◌, refl, ap, ◌∙◌, Bool, true, false, cond, ◌||◌, [], ◌∷◌, eqb, lit<, lit≤, le_refl}
-use Rattle.words.proofs.Basics.{arith, eqb_true}
+use mathlib.Core.Bool.{Bool, true, false, cond, ◌||◌}
+use mathlib.Core.List.{[], ◌∷◌}
+use mathlib.Core.Path.{◌≡◌, refl, ap, ◌∙◌}
+use Prim.Native.Nat.{ℕ, ◌+◌, ◌-◌, ◌*◌, ◌/◌, ◌%◌, ◌^◌, ◌≤◌, ◌<◌}
+use native.Mathlib.Nat.{le_refl}
+use native.Mathlib.Omega.{arith}
+use lib.Dec.{eqb, lit≤, lit<}
+use borrow.Author.Tests.{eqb-true}
 use Rattle.words.specs.Bits.{bits, with_bits}
 use Rattle.words.proofs.Tests.{cond_by}
 use Rattle.entry.specs.Entry.{second_word, ignored_bits, pp_of, set_if, referenced, changed, with_marks, with_pp}
@@ -33,7 +39,7 @@ module _ (b w : ℕ) (width : b < 32) where
   set_own : set_if (eqb (bits b b w) 1) b w ≡ w
   set_own =
       cond_by (λ (u : ℕ). u ≡ w) (eqb (bits b b w) 1) (with_bits b b 1 w) w
-      (λ e. rw (eqb_true (bits b b w) 1 e) at (with_bits_own b b w (le_refl b) width)) (λ e. refl)
+      (λ e. rw (eqb-true (bits b b w) 1 e) at (with_bits_own b b w (le_refl b) width)) (λ e. refl)
 
 -- ---- the marks
 

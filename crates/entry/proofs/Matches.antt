@@ -1,5 +1,9 @@
 -- Laws of the match test and of free entries: the whole first word is the packed one exactly where V is one and VSID, H and API agree.
-use Rattle.words.proofs.Basics.{ℕ, ◌^◌, ◌<◌, ◌≡◌, refl, sym, subst, true, false, eqb, lit<, eq-eqb, eqb_true}
+use mathlib.Core.Bool.{true, false}
+use mathlib.Core.Path.{◌≡◌, refl, sym, subst}
+use Prim.Native.Nat.{ℕ, ◌^◌, ◌<◌}
+use lib.Dec.{eqb, lit<}
+use borrow.Author.Tests.{eqb-true, eq-eqb}
 use Rattle.entry.specs.Entry.{first_word, matches, free}
 use Rattle.entry.specs.RoundTrip.{MatchAgrees}
 use Rattle.entry.proofs.Packing.{FirstFields, first_packed, first_is}
@@ -12,7 +16,7 @@ module _ (vsid h api first : ℕ) where
 
   pub match_word : matches vsid h api first ≡ true → first ≡ first_word 1 vsid h api
   unfolding matches
-  match_word e = eqb_true first (first_word 1 vsid h api) e
+  match_word e = eqb-true first (first_word 1 vsid h api) e
 
   pub match : FirstFields 1 vsid h api first → first < 2 ^ 32 → matches vsid h api first ≡ true
   unfolding matches

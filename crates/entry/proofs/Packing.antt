@@ -5,7 +5,12 @@
 --   first_packed, second_packed: a packed word has the fields that it was made of
 --   second_ignored: the ignored bits of a packed second word are zero
 --   first_is, second_is: a word is the packed one of its fields; a second word where its ignored bits are zero
-use Rattle.words.proofs.Basics.{ℕ, ◌+◌, ◌^◌, ◌<◌, ◌≡◌, refl, sym, ◌∙◌, [], ◌∷◌, lit<, lit≤, add-zero, arith}
+use mathlib.Core.List.{[], ◌∷◌}
+use mathlib.Core.Path.{◌≡◌, refl, sym, ◌∙◌}
+use Prim.Native.Nat.{ℕ, ◌+◌, ◌^◌, ◌<◌}
+use native.Mathlib.Nat.{add-zero}
+use native.Mathlib.Omega.{arith}
+use lib.Dec.{lit≤, lit<}
 use Rattle.words.specs.Bits.{bits, placed}
 use Rattle.entry.specs.Entry.{first_word, second_word, ignored_bits, rpn_of, wimg_of, pp_of}
 use Rattle.words.proofs.Bits.{bits_split, bits_all}

@@ -1,5 +1,9 @@
 -- Packing and unpacking agree: a packed word's fields are those it was made of, and a word is the sum of its fields and its ignored bits.
-use Rattle.words.proofs.Basics.{ℕ, ◌^◌, ◌<◌, ◌≡◌, refl, sym, ap₂, ◌∙◌, true, false, [], ◌∷◌, arith}
+use mathlib.Core.Bool.{true, false}
+use mathlib.Core.List.{[], ◌∷◌}
+use mathlib.Core.Path.{◌≡◌, refl, sym, ap₂, ◌∙◌}
+use Prim.Native.Nat.{ℕ, ◌^◌, ◌<◌}
+use native.Mathlib.Omega.{arith}
 use Rattle.words.proofs.Tests.{cond_by}
 use Rattle.entry.specs.declared.Fields.{Fields}
 use Rattle.entry.specs.Entry.{first_word, second_word, ignored_bits, within_widths, packed, unpacked}

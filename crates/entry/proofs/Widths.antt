@@ -1,5 +1,7 @@
 -- `within_widths` as a record of inequalities, both ways.
-use Rattle.words.proofs.Basics.{◌≡◌, true, lt-ltb, ltb-true}
+use mathlib.Core.Path.{◌≡◌}
+use mathlib.Core.Bool.{true}
+use borrow.Author.Tests.{ltb-true, lt-ltb}
 use Rattle.words.proofs.Tests.{both}
 use Rattle.entry.specs.declared.Fields.{Fields}
 use Rattle.entry.specs.Entry.{within_widths}

@@ -1,5 +1,5 @@
 -- A page table entry (rules 4): two words, the fields in them, and what is read and changed there.
-use Rattle.words.specs.Basics.{ℕ, ◌+◌, ◌/◌, ◌^◌, Bool, cond, ◌&&◌, List, [], ◌∷◌, eqb, ltb}
+use Rattle.std.specs.Prelude.{ℕ, ◌+◌, ◌/◌, ◌^◌, Bool, cond, ◌&&◌, List, [], ◌∷◌, eqb, ltb}
 use Rattle.numbers.specs.Numbers.{done, refused_argument}
 use Rattle.words.specs.Bits.{bits, placed, with_bits}
 use Rattle.entry.specs.declared.Fields.{Fields}
@@ -80,10 +80,6 @@ set_if test b w = cond test (with_bits b b 1 w) w
 -- a second word marked: R set if the page was referenced, C if it was changed, every other bit kept
 unfoldable pub with_marks : Bool → Bool → ℕ → ℕ
 with_marks reference change second = set_if change 24 (set_if reference 23 second)
-
--- a second word with R clear, every other bit kept
-unfoldable pub unreferenced : ℕ → ℕ
-unreferenced second = with_bits 23 23 0 second
 
 -- a second word with another PP, every other bit kept
 unfoldable pub with_pp : ℕ → ℕ → ℕ

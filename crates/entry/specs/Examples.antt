@@ -1,10 +1,11 @@
 -- Worked examples of an entry's definitions, each row closed by computation: cases 2 and 3 (rules 9), every field's place and limits, and for
 -- what reads or changes a word each bit of it by itself.
-use Rattle.words.specs.Basics.{ℕ, ◌+◌, ◌-◌, ◌≡◌, true, false, [], ◌∷◌, ◌++◌, map, take, replicate, bit_xor}
+use Rattle.std.specs.Prelude.{ℕ, ◌+◌, ◌-◌, true, false, [], ◌∷◌, ◌++◌, map, ◌≡◌, replicate, take}
+use Rattle.std.specs.Int.Bits.{bit_xor}
 use Rattle.words.specs.Rows.{Hold, powers, each_bit, all_but_each, only_at, not_at, field_of_each, field_of_all_but}
 use Rattle.entry.specs.declared.Fields.{Fields}
 use Rattle.entry.specs.Entry.{ignored_bits, packed, unpacked, matches, free, page_index, api_of}
-use Rattle.entry.specs.Entry.{referenced, changed, with_marks, unreferenced, with_pp, physical_address}
+use Rattle.entry.specs.Entry.{referenced, changed, with_marks, with_pp, physical_address}
 
 -- fields in the order of the rules
 abbrev pub fields : ℕ → ℕ → ℕ → ℕ → ℕ → ℕ → ℕ → ℕ → ℕ → Fields
@@ -112,15 +113,13 @@ pub record EntryTables : Type 0 where
       )
   -- a first word that differs from a match in one bit is none, whichever bit it is
   pub one_bit_off : Hold ((map (λ bit. matches 0x0C701C 0 3 (bit_xor 0x86380E03 bit)) each_bit, replicate 32 false) ∷ [])
-  -- R, C or both set, R cleared, another PP: every other bit is kept, one or zero
+  -- R, C or both set, another PP: every other bit is kept, one or zero
   pub change_bits : Hold (
       (map (with_marks true false) each_bit, map (λ bit. bit + 0x100) (take 23 each_bit) ++ (0x100 ∷ map (λ bit. bit + 0x100) (powers 8)))
       ∷ (map (with_marks false true) each_bit, map (λ bit. bit + 0x80) (take 24 each_bit) ++ (0x80 ∷ map (λ bit. bit + 0x80) (powers 7)))
       ∷ (map (with_marks false false) each_bit, each_bit)
       ∷ (map (with_marks true false) all_but_each, take 23 all_but_each ++ (0xFFFFFFFF ∷ map (λ bit. 0xFFFFFFFF - bit) (powers 8)))
       ∷ (map (with_marks false true) all_but_each, take 24 all_but_each ++ (0xFFFFFFFF ∷ map (λ bit. 0xFFFFFFFF - bit) (powers 7)))
-      ∷ (map unreferenced each_bit, take 23 each_bit ++ (0 ∷ powers 8))
-      ∷ (map unreferenced all_but_each, map (λ bit. 0xFFFFFEFF - bit) (take 23 each_bit ++ (0 ∷ powers 8)))
       ∷ (map (with_pp 0) each_bit, take 30 each_bit ++ (0 ∷ 0 ∷ []))
       ∷ (map (with_pp 3) all_but_each, take 30 all_but_each ++ (0xFFFFFFFF ∷ 0xFFFFFFFF ∷ []))
       ∷ (map (λ pp. with_pp pp 0) (0 ∷ 1 ∷ 2 ∷ 3 ∷ []), 0 ∷ 1 ∷ 2 ∷ 3 ∷ [])

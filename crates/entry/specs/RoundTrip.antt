@@ -1,5 +1,5 @@
 -- What the rules (4) say of packing and unpacking an entry and of the match test, for all fields and words.
-use Rattle.words.specs.Basics.{ℕ, ◌^◌, ◌<◌, ◌≡◌, true, false, [], ◌∷◌}
+use Rattle.std.specs.Prelude.{ℕ, ◌^◌, ◌<◌, true, false, [], ◌∷◌, ◌≡◌}
 use Rattle.words.specs.Bits.{bits}
 use Rattle.entry.specs.declared.Fields.{Fields}
 use Rattle.entry.specs.Entry.{ignored_bits, within_widths, packed, unpacked, matches}

@@ -3,7 +3,7 @@ ghost use Rattle.std.specs.Prelude.{◌≡◌, cond, ℕ, ◌<◌, ◌^◌, eqb}
 ghost use Rattle.words.specs.Words.{swapped};
 ghost use Rattle.words.specs.Bits.{bits};
 ghost use Rattle.entry.specs.Entry.{first_word, second_word, within_widths, packed, wimg_of, pp_of, unpacked, free};
-ghost use Rattle.entry.specs.Entry.{referenced, changed, with_marks, unreferenced, with_pp, physical_address, page_index, api_of};
+ghost use Rattle.entry.specs.Entry.{referenced, changed, with_marks, with_pp, physical_address, page_index, api_of};
 
 // The fields of an entry.
 #[derive(Drop)]
@@ -156,13 +156,6 @@ pub fn with_marks(second: u32, referenced: bool, changed: bool) -> u32
     ensures { result ≡ with_marks referenced changed second }
 {
     second | ((referenced as u32) << 8) | ((changed as u32) << 7)
-}
-
-// A second word with R clear.
-pub fn unreferenced(second: u32) -> u32
-    ensures { result ≡ unreferenced second }
-{
-    (second & 0xFFFFFE00) | (second & 0xFF)
 }
 
 // A second word with another PP.

@@ -1,7 +1,12 @@
 -- Laws of a group's entries: an entry that is written is read back, every other entry stays, and an entry written back where it stands changes nothing.
-use Rattle.words.proofs.Basics.{ℕ, ◌+◌, ◌*◌, ◌^◌, ◌<◌, ◌≤◌, ◌≡◌, ap, ◌∙◌, ◌⊎◌, inl, inr, ⊎_elim, ◌≢◌, List, [], ◌∷◌, length, get_or, sets, towards_numerals}
-use Rattle.words.proofs.Basics.{arith}
-use lib.Seq.{set-get_or}
+use mathlib.Core.Path.{◌≡◌, ap, ◌∙◌}
+use mathlib.Core.Logic.{◌≢◌, ⊎_elim, ◌⊎◌, inl, inr}
+use mathlib.Core.List.{List, [], ◌∷◌}
+use Prim.Native.Nat.{ℕ, ◌+◌, ◌*◌, ◌^◌, ◌<◌, ◌≤◌}
+use native.Mathlib.Numerals.{towards_numerals}
+use native.Mathlib.Omega.{arith}
+use lib.ListN.{length, get_or}
+use lib.Seq.{sets, set-get_or}
 use Rattle.words.specs.Words.{word_bytes, word_of, word_at, with_word}
 use Rattle.words.proofs.Tests.{three}
 use Rattle.words.proofs.Words.{Bytes, word_lt, byte_0, byte_1, byte_2, byte_3, length_with_word, word_before, word_behind, word_same, with_word_bytes}

@@ -1,5 +1,5 @@
 -- Every row of the tables of groups holds: both sides compute to the same.
-use Rattle.words.proofs.Basics.{refl}
+use mathlib.Core.Path.{refl}
 use Rattle.groups.specs.Examples.{GroupsTables}
 use Rattle.groups.proofs.Computes.{groups_compute}
 
@@ -12,9 +12,6 @@ groups_tables = record {
   groups = record { equal = refl };
   both_groups_rows = record { equal = refl };
   hash_bits_rows = record { equal = refl };
-  entry_pages = record { equal = refl };
-  entry_edges = record { equal = refl };
-  entry_bits = record { equal = refl };
   pages = record { equal = refl };
   free_places = record { equal = refl };
   free_entries = record { equal = refl };

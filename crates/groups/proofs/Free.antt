@@ -1,7 +1,16 @@
 -- Laws of free entries: the mask that tells which of a group's are, and the first in search order, by the first free entry of each group.
-use Rattle.words.proofs.Basics.{ℕ, zero, suc, ◌+◌, ◌-◌, ◌*◌, ◌/◌, ◌%◌, ◌^◌, ◌<◌, ◌≤◌, ◌≡◌, refl, sym, ap, ap₂, ◌∙◌, Bool, true, false, cond, List, eqb, ltb}
-use Rattle.words.proofs.Basics.{bit_and, bit_or, and_mask, or_shifted, high, low, pow_mono, shr-shr, add_comm, add-suc, add-zero, div-one, pow-suc, add-one}
-use Rattle.words.proofs.Basics.{arith, le-ltb, lt-ltb, ltb-false, ltb-true, bool_byte}
+use mathlib.Core.Path.{◌≡◌, refl, sym, ap, ap₂, ◌∙◌}
+use mathlib.Core.Bool.{Bool, true, false, cond}
+use mathlib.Core.List.{List}
+use Prim.Native.Nat.{ℕ, zero, suc, ◌+◌, ◌-◌, ◌*◌, ◌/◌, ◌%◌, ◌^◌, ◌<◌, ◌≤◌}
+use native.Mathlib.Nat.{add-zero, add-suc, add_comm, pow-suc, div-one}
+use native.Mathlib.Numerals.{add-one}
+use native.Mathlib.Omega.{arith}
+use mir.Val.{bool_byte}
+use lib.Bits.{bit_and, bit_or, and_mask, or_shifted}
+use lib.Pow.{pow_mono, shr-shr, high, low}
+use lib.Dec.{eqb, ltb}
+use borrow.Author.Tests.{lt-ltb, le-ltb, ltb-true, ltb-false}
 use Rattle.groups.specs.Group.{entry_free, first_free, first_free_place, free_to, free_after}
 use Rattle.groups.specs.declared.Place.{Place}
 use Rattle.groups.specs.declared.Place.TheVariants.{Entry, Full}
@@ -9,7 +18,7 @@ use Rattle.groups.specs.declared.Place.TheVariants.{Entry, Full}
 -- ---- which entries are free
 
 -- a test as a bit
-abbrev pub one : Bool → ℕ
+abbrev one : Bool → ℕ
 one b = cond b 1 0
 
 pub one_is : (b : Bool) → bool_byte b ≡ one b

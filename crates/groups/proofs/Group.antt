@@ -1,9 +1,13 @@
 -- Laws of a table's groups: a group that is put is read back, every other byte stays, and bytes stay bytes.
-use Rattle.words.proofs.Basics.{ℕ, zero, suc, ◌+◌, ◌-◌, ◌*◌, ◌^◌, ◌<◌, ◌≤◌, ◌≡◌, sym, ap, ap₂, ◌∙◌, ⊎_elim, ◌≢◌, List, [], ◌∷◌, ◌++◌, append_assoc, lit<}
-use Rattle.words.proofs.Basics.{length, get_or, set, take, drop, length-append, length-drop, length-take, sets, drop_at, drop-drop, drop-set-add, drop-set-lt}
-use Rattle.words.proofs.Basics.{get_or-drop, get_or-take, length-take-le, take_at, take-set-le, take-set-lt, add-suc, arith}
-use lib.ListN.{take-append-drop}
-use lib.Seq.{drop-append-le, take-append-le}
+use mathlib.Core.Path.{◌≡◌, sym, ap, ap₂, ◌∙◌}
+use mathlib.Core.Logic.{◌≢◌, ⊎_elim}
+use mathlib.Core.List.{List, [], ◌∷◌, ◌++◌, append_assoc}
+use Prim.Native.Nat.{ℕ, zero, suc, ◌+◌, ◌*◌, ◌-◌, ◌^◌, ◌<◌, ◌≤◌}
+use native.Mathlib.Nat.{add-suc}
+use native.Mathlib.Omega.{arith}
+use lib.Dec.{lit<}
+use lib.ListN.{length, get_or, set, take, drop, length-append, length-take, length-drop, take-append-drop}
+use lib.Seq.{take_at, drop_at, drop-drop, take-append-le, drop-append-le, length-take-le, drop-set-add, take-set-lt, take-set-le, drop-set-lt, get_or-take, get_or-drop, sets}
 use Rattle.words.proofs.Tests.{three}
 use Rattle.words.proofs.Words.{Bytes}
 use Rattle.groups.specs.Group.{group_of, put_group, on_group}

@@ -5,21 +5,28 @@
 --   group_mirror: a page's two group numbers add up to one less than the number of groups, for a mask of k ones
 --   same_page_refl, same_page_eq: the test of two pages holds of a page and itself, and only of equal pages
 --   one_page: group, H, VSID and API name one page
---   page_own: it is the page that `entry_page` tells of its entries; page-in-range: what `entry_page` tells is in range, of any word
 --   within_bytes, within_table: a group lies in a table of 65,536 × 2 ^ k bytes, and in the table of an SDR1
-use Rattle.words.proofs.Basics.{ℕ, zero, suc, ◌+◌, ◌-◌, ◌*◌, ◌/◌, ◌%◌, ◌^◌, ◌<◌, ◌≤◌, ◌≡◌, refl, sym, ap, ap₂, ◌∙◌, Bool, true, false, cond, ◌≢◌, eqb, bit_xor}
-use Rattle.words.proofs.Basics.{xor_lt, xor_mod, low, mod-mod-pow, pow-add, pow_pos, split, mod-lt, pow-suc, arith, eq-eqb, eqb_true}
-use lib.Bits.{differ, xor_step}
+--   address_bits: the address of a group is the origin's bits or the group's
+use mathlib.Core.Path.{◌≡◌, refl, sym, ap, ap₂, ◌∙◌}
+use mathlib.Core.Logic.{◌≢◌}
+use mathlib.Core.Bool.{Bool, true, false, ◌&&◌}
+use Prim.Native.Nat.{ℕ, zero, suc, ◌+◌, ◌-◌, ◌*◌, ◌/◌, ◌%◌, ◌^◌, ◌≤◌, ◌<◌}
+use native.Mathlib.Nat.{add-zero, mul_assoc, mod-lt, pow-suc}
+use native.Mathlib.Omega.{arith}
 use lib.Arith.{bin_ind}
-use Rattle.words.specs.Bits.{bits}
+use lib.Bits.{bit_xor, bit_or, bit_and, differ, xor_step, xor_mod, and_mask}
+use lib.Dec.{eqb}
+use lib.Pow.{pow_pos, pow-add, split, low, mod-mod-pow}
+use borrow.Author.Tests.{eqb-true, eq-eqb}
+use Rattle.words.specs.Bits.{bits, placed}
+use Rattle.words.specs.Ones.{low_ones}
+use Rattle.words.proofs.Masks.{or_sum}
 use Rattle.words.proofs.Tests.{both}
-use Rattle.entry.specs.Entry.{first_word, api_of}
-use Rattle.entry.proofs.Packing.{first_packed}
-use Rattle.entry.proofs.Addresses.{api_lt}
-use Rattle.register_words.specs.Sdr1.{sdr1_shape, table_length, mask_ones, hash_bits}
-use Rattle.register_words.proofs.Sdr1.{length_is}
-use Rattle.groups.specs.Page.{Page, InRange, same_page}
-use Rattle.groups.specs.Hash.{hash_of, primary_group, secondary_group, groups_of, group_number, entry_page}
+use Rattle.entry.specs.Entry.{api_of}
+use Rattle.register_words.specs.Sdr1.{origin_of, mask_of, sdr1_shape, table_length, mask_ones, hash_bits}
+use Rattle.register_words.proofs.Sdr1.{mask_is, length_is}
+use Rattle.groups.specs.Page.{Page, same_page}
+use Rattle.groups.specs.Hash.{hash_of, primary_group, secondary_group, groups_of, group_number, group_address}
 
 -- ---- exclusive or undoes itself
 
@@ -126,7 +133,7 @@ pub same_page_eq : (p q : Page) → same_page p q ≡ true → p ≡ q
 unfolding same_page
 same_page_eq p q e =
     let (v, x) = both (eqb p.vsid q.vsid) (eqb p.index q.index) e in
-    λ i. record { vsid = eqb_true p.vsid q.vsid v i; index = eqb_true p.index q.index x i }
+    λ i. record { vsid = eqb-true p.vsid q.vsid v i; index = eqb-true p.index q.index x i }
 
 module _ (n : ℕ) (p q : Page) (enough : 10 ≤ n) where
   -- pages of one VSID and one primary group agree in the low ten bits of the page index
@@ -153,59 +160,6 @@ module _ (n : ℕ) (p q : Page) (enough : 10 ≤ n) where
       let x : p.index ≡ q.index = omega arith in
       λ i. record { vsid = v i; index = x i }
 
--- ---- the page of an entry
-
--- ten bits of a hash, by the number that it names a group with
-abbrev pub ten : Bool → ℕ → ℕ
-ten h g = cond h (2 ^ 10 - 1 - g % 2 ^ 10) (g % 2 ^ 10)
-
-pub page_in_range_law : (g first : ℕ) → InRange (entry_page g first)
-unfolding entry_page
-page_in_range_law g first = record { vsid_lt = mod-lt (first / 2 ^ 7) (pow_pos 24); index_lt = omega (arith, low) }
-  where
-    vsid : ℕ
-    vsid = bits 1 24 first
-
-    ten_lt : (h : Bool) → ten h g < 2 ^ 10
-    ten_lt true = omega arith
-    ten_lt false = omega arith
-
-    low : bit_xor (vsid % 2 ^ 10) (ten (eqb (bits 25 25 first) 1) g) < 2 ^ 10
-    low = xor_lt 10 (vsid % 2 ^ 10) (ten (eqb (bits 25 25 first) 1) g) (omega arith) (ten_lt (eqb (bits 25 25 first) 1))
-
-module _ (k : ℕ) (page : Page) (range : InRange page) where
-  -- the low ten bits of a page's hash are told by either of its groups
-  ten_own : (b : Bool) → ten b (group_number (10 + k) b page) ≡ bit_xor (page.vsid % 2 ^ 10) (page.index % 2 ^ 10)
-  unfolding group_number primary_group secondary_group hash_of
-  ten_own b = told b ∙ cut ∙ xor_mod (page.vsid % 2 ^ 19) page.index 10 ∙ ap (λ (v : ℕ). bit_xor v (page.index % 2 ^ 10)) (mod-mod-pow page.vsid 9 10)
-    where
-      hash : ℕ
-      hash = hash_of page.vsid page.index
-
-      cut : hash % 2 ^ (10 + k) % 2 ^ 10 ≡ hash % 2 ^ 10
-      cut = let e : 10 + k ≡ k + 10 = omega arith in rw e (mod-mod-pow hash k 10)
-
-      told : (b : Bool) → ten b (group_number (10 + k) b page) ≡ hash % 2 ^ (10 + k) % 2 ^ 10
-      told true = omega (arith, pow-add 2 10 k, mod-lt hash (pow_pos (10 + k)))
-      told false = refl
-
-  h_lt : (b : Bool) → cond b 1 0 < 2 ^ 1
-  h_lt true = omega arith
-  h_lt false = omega arith
-
-  h_test : (b : Bool) → eqb (cond b 1 0) 1 ≡ b
-  h_test true = refl
-  h_test false = refl
-
-  -- the page that is told of a page's own entry is that page
-  pub page_own : (b : Bool) → entry_page (group_number (10 + k) b page) (first_word 1 page.vsid (cond b 1 0) (api_of page.index)) ≡ page
-  unfolding entry_page api_of
-  page_own b =
-      let api = api_lt page.index range.index_lt in
-      let fields = first_packed 1 page.vsid (cond b 1 0) (api_of page.index) (omega arith) range.vsid_lt (h_lt b) api in
-      let low = ap (bit_xor (page.vsid % 2 ^ 10)) (ten_own b) ∙ xor_twice (page.vsid % 2 ^ 10) (page.index % 2 ^ 10) in
-      rw (fields.has_vsid, fields.has_h, fields.has_api, h_test b, low) (λ i. record { vsid = page.vsid; index = split page.index 10 i })
-
 -- ---- where a group lies
 
 -- a group of a table of 65,536 × 2 ^ k bytes lies in it
@@ -216,3 +170,17 @@ module _ (sdr1 g : ℕ) (shape : sdr1_shape sdr1 ≡ true) (h : g < 2 ^ hash_bit
   pub within_table : 64 * g + 64 ≤ table_length sdr1
   unfolding hash_bits
   within_table = rw (length_is sdr1 shape) (within_bytes (mask_ones sdr1) g h)
+
+  -- its address is the origin's bits and the group's, which do not overlap
+  pub address_bits : bit_or (placed 15 (origin_of sdr1)) (64 * g) ≡ group_address sdr1 g
+  unfolding group_address hash_bits sdr1_shape
+  address_bits =
+      let k = mask_ones sdr1 in
+      let o = origin_of sdr1 in
+      let q = o / 2 ^ k in
+      let no-bit = eqb-true (bit_and o (mask_of sdr1)) 0 (both (low_ones (mask_of sdr1) && eqb (bits 16 22 sdr1) 0) (eqb (bit_and o (mask_of sdr1)) 0) shape).1 in
+      let clear : o % 2 ^ k ≡ 0 = sym (and_mask o k) ∙ ap (bit_and o) (sym (mask_is sdr1 shape)) ∙ no-bit in
+      let parts : o ≡ q * 2 ^ k = omega (arith, split o k) in
+      let moved : o * 2 ^ 16 ≡ q * 2 ^ (k + 16) + 0 = ap (λ (x : ℕ). x * 2 ^ 16) parts ∙ mul_assoc q (2 ^ k) (2 ^ 16) ∙ ap (λ (x : ℕ). q * x) (sym (pow-add 2 k 16)) ∙ sym (add-zero (q * 2 ^ (k + 16))) in
+      let high : o * 2 ^ 16 % 2 ^ (k + 16) ≡ 0 = ap (λ (x : ℕ). x % 2 ^ (k + 16)) moved ∙ low q (k + 16) (pow_pos (k + 16)) in
+      or_sum (k + 16) (o * 2 ^ 16) (64 * g) high (omega (arith, pow-add 2 10 k, pow-add 2 k 16))

@@ -1,6 +1,11 @@
 -- A group lent as a part of the table is that group, and the table when the part is back has what the callee made of the group in its place.
-use Rattle.words.proofs.Basics.{ℕ, ◌+◌, ◌-◌, ◌*◌, ◌<◌, ◌≤◌, ◌≡◌, sym, ap, ◌∙◌, List, ◌++◌, take, drop, arith, mid_of, Post-is, put_mid}
+use mathlib.Core.Path.{◌≡◌, sym, ap, ◌∙◌}
+use mathlib.Core.List.{List, ◌++◌}
+use Prim.Native.Nat.{ℕ, ◌+◌, ◌*◌, ◌-◌, ◌<◌, ◌≤◌}
 use native.Mathlib.Nat.{add_assoc}
+use native.Mathlib.Omega.{arith}
+use borrow.Rule.Slice.PartMut.{put_mid, mid_of, Post-is}
+use lib.ListN.{take, drop}
 use Rattle.words.specs.Words.{word_at}
 use Rattle.groups.specs.Group.{group_of, put_group, on_group, first_at, second_at}
 use Rattle.groups.proofs.Group.{byte_of_group}

@@ -1,7 +1,13 @@
 -- Laws of a table by its entries: what is put as an entry is read there, every other entry reads as before, the table keeps its length and its bytes, and
 -- a zeroed table has zero words.
-use Rattle.words.proofs.Basics.{ℕ, zero, suc, ◌+◌, ◌*◌, ◌^◌, ◌<◌, ◌≤◌, ◌≡◌, refl, sym, ap, ◌∙◌, ⊎_elim, ◌≢◌, List, ◌++◌, length, get_or, replicate, sets}
-use Rattle.words.proofs.Basics.{towards_numerals, arith}
+use mathlib.Core.Path.{◌≡◌, refl, sym, ap, ◌∙◌}
+use mathlib.Core.Logic.{◌≢◌, ⊎_elim}
+use mathlib.Core.List.{List, ◌++◌}
+use Prim.Native.Nat.{ℕ, zero, suc, ◌+◌, ◌*◌, ◌^◌, ◌<◌, ◌≤◌}
+use native.Mathlib.Numerals.{towards_numerals}
+use native.Mathlib.Omega.{arith}
+use lib.ListN.{length, get_or, replicate}
+use lib.Seq.{sets}
 use Rattle.words.specs.Words.{word_bytes, word_at, with_word}
 use Rattle.words.proofs.Words.{Bytes, sets_comm}
 use Rattle.words.proofs.Tests.{three}

@@ -1,11 +1,11 @@
 -- Worked examples of hash, groups and free entries, each row closed by computation: cases 1, 6 and 11 (rules 9), the manual's group addresses,
 -- and a group of 64 bytes with used and free entries.
-use Rattle.words.specs.Basics.{ℕ, ◌-◌, ◌*◌, ◌^◌, ◌≡◌, true, false, List, [], ◌∷◌, ◌++◌, map, replicate}
-use Rattle.words.specs.Rows.{Hold, powers, each_bit, field_of_each}
+use Rattle.std.specs.Prelude.{ℕ, ◌-◌, ◌^◌, true, false, List, [], ◌∷◌, ◌++◌, map, ◌≡◌, replicate}
+use Rattle.words.specs.Rows.{Hold, powers}
 use Rattle.words.specs.Words.{bytes_of}
 use Rattle.register_words.specs.Sdr1.{hash_bits}
 use Rattle.groups.specs.Page.{Page, same_page}
-use Rattle.groups.specs.Hash.{hash_of, groups_of, group_number, entry_page, group_address}
+use Rattle.groups.specs.Hash.{hash_of, groups_of, group_number, group_address}
 use Rattle.groups.specs.Group.{group_of, first_of, second_of, put_at, first_free_place, free_after}
 use Rattle.groups.specs.declared.Place.TheVariants.{Entry, Full}
 
@@ -84,42 +84,6 @@ pub record GroupsTables : Type 0 where
       (map (λ vsid. hash_of vsid 0) (powers 24), replicate 5 0 ++ powers 19)
       ∷ (map (hash_of 0) (powers 16), powers 16)
       ∷ (map (hash_of 0x7FFFF) (powers 16), map (λ bit. 0x7FFFF - bit) (powers 16))
-      ∷ []
-      )
-  -- the page of an entry by its group and first word: the entry of case 1, with H = 0 and H = 1, for a mask of no ones, of three and of nine; in group
-  -- 0x3E6 the mask of three ones tells the same page, whose own group is another; V plays no part
-  pub entry_pages : Hold (
-      (entry_page 0x3E6 0x86380E03, page_at 0x0C701C 0x0FFA)
-      ∷ (entry_page 0x019 0x86380E43, page_at 0x0C701C 0x0FFA)
-      ∷ (entry_page 0x1FE6 0x86380E03, page_at 0x0C701C 0x0FFA)
-      ∷ (entry_page 0x0019 0x86380E43, page_at 0x0C701C 0x0FFA)
-      ∷ (entry_page 0x47FE6 0x86380E03, page_at 0x0C701C 0x0FFA)
-      ∷ (entry_page 0x38019 0x86380E43, page_at 0x0C701C 0x0FFA)
-      ∷ (entry_page 0x3E6 0x06380E03, page_at 0x0C701C 0x0FFA)
-      ∷ []
-      )
-  -- VSID and API all ones and all zeros, at both ends of the groups for a mask of no ones and of nine
-  pub entry_edges : Hold (
-      (entry_page 0 0xFFFFFFBF, page_at 0xFFFFFF 0xFFFF)
-      ∷ (entry_page 0x70000 0xFFFFFFBF, page_at 0xFFFFFF 0xFFFF)
-      ∷ (entry_page 0x3FF 0xFFFFFFFF, page_at 0xFFFFFF 0xFFFF)
-      ∷ (entry_page 0x0FFFF 0xFFFFFFFF, page_at 0xFFFFFF 0xFFFF)
-      ∷ (entry_page 0x3FF 0xFFFFFFBF, page_at 0xFFFFFF 0xFC00)
-      ∷ (entry_page 0 0x80000000, page_at 0 0)
-      ∷ (entry_page 0x3FF 0x80000000, page_at 0 0x3FF)
-      ∷ (entry_page 0x400 0x80000000, page_at 0 0)
-      ∷ (entry_page 0x7FFFF 0x80000000, page_at 0 0x3FF)
-      ∷ (entry_page 0 0x80000040, page_at 0 0x3FF)
-      ∷ (entry_page 0x3FF 0x80000040, page_at 0 0)
-      ∷ (entry_page 0x400 0x80000040, page_at 0 0x3FF)
-      ∷ []
-      )
-  -- each bit of the first word and of the group's number by itself
-  pub entry_bits : Hold (
-      (map (λ first. (entry_page 0 first).vsid) each_bit, field_of_each 1 24)
-      ∷ (map (λ first. (entry_page 0 first).index) each_bit, replicate 15 0 ++ powers 10 ++ (0x3FF ∷ map (λ bit. bit * 1024) (powers 6)))
-      ∷ (map (λ g. (entry_page g 0).index) (powers 19), replicate 9 0 ++ powers 10)
-      ∷ (map (λ g. (entry_page g 0x40).index) (powers 19), replicate 9 0x3FF ++ map (λ bit. 0x3FF - bit) (powers 10))
       ∷ []
       )
   pub pages : Hold (

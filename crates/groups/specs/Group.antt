@@ -1,5 +1,5 @@
 -- A table as its groups, and a group as its eight entries of 8 bytes (rules 4).
-use Rattle.words.specs.Basics.{ℕ, zero, suc, ◌+◌, ◌*◌, Bool, true, false, cond, List, ◌++◌, ltb, take, drop}
+use Rattle.std.specs.Prelude.{ℕ, zero, suc, ◌+◌, ◌*◌, Bool, true, false, cond, List, ◌++◌, ltb, take, drop}
 use Rattle.numbers.specs.Numbers.{group_size, entry_size, group_entries}
 use Rattle.words.specs.Below.{first_below}
 use Rattle.words.specs.Words.{word_at, with_word}

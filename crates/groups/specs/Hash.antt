@@ -1,7 +1,8 @@
 -- The hash of a page and its two groups (rules 4), for any number n of hash bits that name a group.
-use Rattle.words.specs.Basics.{ℕ, ◌+◌, ◌-◌, ◌*◌, ◌%◌, ◌^◌, ◌≡◌, Bool, true, false, cond, eqb, bit_xor}
+use Rattle.std.specs.Prelude.{ℕ, ◌+◌, ◌-◌, ◌*◌, ◌%◌, ◌^◌, ◌≡◌, Bool, true, false, cond}
+use Rattle.std.specs.Int.Bits.{bit_xor}
 use Rattle.numbers.specs.Numbers.{group_size}
-use Rattle.words.specs.Bits.{bits, placed}
+use Rattle.words.specs.Bits.{placed}
 use Rattle.words.specs.Words.{swapped}
 use Rattle.entry.specs.Entry.{first_word, api_of}
 use Rattle.register_words.specs.Sdr1.{origin_of, sdr1_shape, table_length}
@@ -28,14 +29,6 @@ groups_of n hash = record { primary = primary_group n hash; secondary = secondar
 -- the number of a page's primary group (false) or of its secondary group (true)
 unfoldable pub group_number : ℕ → Bool → Page → ℕ
 group_number n secondary page = let hash = hash_of page.vsid page.index in cond secondary (secondary_group n hash) (primary_group n hash)
-
--- the page of an entry that stands in group g, by its first word: VSID and API stand there, and the low ten bits of the page index follow from the hash,
--- which g names, complemented where H is 1
-unfoldable pub entry_page : ℕ → ℕ → Page
-entry_page g first =
-    let vsid = bits 1 24 first in
-    let hash = cond (eqb (bits 25 25 first) 1) (2 ^ 10 - 1 - g % 2 ^ 10) (g % 2 ^ 10) in
-    record { vsid = vsid; index = bits 26 31 first * 2 ^ 10 + bit_xor (vsid % 2 ^ 10) hash }
 
 -- a table of the length that SDR1 tells, where SDR1 has its shape; and of some such SDR1
 pub record TableOf (sdr1 lent : ℕ) : Type 0 where

@@ -1,5 +1,5 @@
 -- A virtual page (rules 4): a VSID and a page index.
-use Rattle.words.specs.Basics.{ℕ, ◌^◌, ◌<◌, Bool, ◌&&◌, eqb}
+use Rattle.std.specs.Prelude.{ℕ, ◌^◌, ◌<◌, Bool, ◌&&◌, eqb}
 
 pub record Page : Type 0 where
   pub vsid : ℕ

@@ -1,8 +1,9 @@
 // Hash, groups and entries in groups: a page's two groups, the free entry, the entry writer, and the clear of a table.
 ghost use Rattle.std.specs.Prelude.{◌≡◌, true, cond, ℕ, ◌+◌, ◌-◌, ◌*◌, ◌<◌, ◌≤◌, ◌^◌, List, length, replicate};
 ghost use Rattle.numbers.specs.Numbers.{group_size, group_entries};
+ghost use Rattle.register_words.specs.Sdr1.{sdr1_shape, hash_bits};
 ghost use Rattle.groups.specs.Page.{InRange};
-ghost use Rattle.groups.specs.Hash.{hash_of, groups_of, located, entry_page};
+ghost use Rattle.groups.specs.Hash.{hash_of, groups_of, group_address, located};
 ghost use Rattle.groups.specs.Group.{first_of, second_of, put_entry, put_at, entry_free, first_free_place, free_after};
 
 // The numbers of the two groups of a hash.
@@ -28,6 +29,14 @@ pub fn groups_of(ones: u32, hash: u32) -> Groups
         primary,
         secondary: primary ^ ones,
     }
+}
+
+// The address of a group of the table of SDR1.
+pub fn group_address(sdr1: u32, group: u32) -> u32
+    requires { (sdr1_shape sdr1 ≡ true) × (group < 2 ^ hash_bits sdr1) }
+    ensures { result ≡ group_address sdr1 group }
+{
+    (sdr1 & 0xFFFF0000) | (group << 6)
 }
 
 // Where a page's entries are: the numbers of its two groups, the bytes of each, and the first word that matches in the primary, its bytes in
@@ -65,30 +74,6 @@ pub fn locate(lent: usize, vsid: u32, index: u32) -> Located
         secondary: own.secondary as usize,
         size: numbers::GROUP_SIZE,
         wanted: entry::match_word(vsid, 0, entry::api_of(index)),
-    }
-}
-
-// A virtual page.
-#[derive(Drop)]
-pub struct Page {
-    pub vsid: u32,
-    pub index: u32,
-}
-
-// The page of an entry that stands in a group, by its first word: the group names the low ten bits of the hash, complemented where H is 1.
-pub fn page_of(group: usize, first: u32) -> Page
-    ensures { record { vsid = result.vsid; index = result.index } ≡ entry_page group first }
-{
-    let vsid = entry::vsid_of(first);
-    let low = (group % 1024) as u32;
-    let hash = if entry::is_secondary(first) {
-        1023 - low
-    } else {
-        low
-    };
-    Page {
-        vsid,
-        index: first % 64 * 1024 + ((vsid % 1024) ^ hash),
     }
 }
 
@@ -138,17 +123,6 @@ pub fn free_place(free: u32) -> Place
     found
 }
 
-// The first word of an entry of a group of the table.
-pub fn first_of(table: &[u8], group: usize, entry: usize) -> u32
-    requires { (entry < group_entries) × (group_size * group + group_size ≤ length table.now) }
-    ensures { result ≡ first_of table.now group entry }
-{
-    words::read_word(
-        table,
-        group * numbers::GROUP_SIZE + numbers::ENTRY_SIZE * entry,
-    )
-}
-
 // The second word of an entry of a group of the table.
 pub fn second_of(table: &[u8], group: usize, entry: usize) -> u32
     requires { (entry < group_entries) × (group_size * group + group_size ≤ length table.now) }
@@ -184,7 +158,10 @@ pub fn put_second(table: &mut [u8], group: usize, entry: usize, second: u32)
     requires { (entry < group_entries) × (group_size * group + group_size ≤ length table.old) }
     ensures { table.new ≡ put_at table.old group entry (first_of table.old group entry) second }
 {
-    let first = first_of(table, group, entry);
+    let first = words::read_word(
+        table,
+        group * numbers::GROUP_SIZE + numbers::ENTRY_SIZE * entry,
+    );
     put_entry(table, group, entry, first, second);
 }
 

@@ -1,6 +1,10 @@
 -- The edit of both groups where a page has one match: that entry is edited and nothing else, and the marks of one match are its own.
-use Rattle.words.proofs.Basics.{ℕ, ◌+◌, ◌*◌, ◌<◌, ◌≤◌, ◌≡◌, refl, sym, ap, ap₂, ◌∙◌, subst, Bool, true, false, cond, ◌≢◌, List, [], ◌∷◌, List-as-Memᴰ}
-use Rattle.words.proofs.Basics.{List·Memᴰ·head, length}
+use mathlib.Core.Path.{◌≡◌, refl, sym, ap, ap₂, ◌∙◌, subst}
+use mathlib.Core.Bool.{Bool, true, false, cond}
+use mathlib.Core.List.{List, [], ◌∷◌, Memᴰ}
+use mathlib.Core.Logic.{◌≢◌}
+use Prim.Native.Nat.{ℕ, ◌+◌, ◌*◌, ◌≤◌, ◌<◌}
+use lib.ListN.{length}
 use Rattle.theory_tables.specs.Matches.{Match}
 use Rattle.groups.specs.Group.{group_of, first_at, second_at, first_of, second_of, put_at}
 use Rattle.matches.specs.Search.{pair_matches}
@@ -23,7 +27,7 @@ module _ (vsid api primary secondary : ℕ) (t : List ℕ) (m : Match) (ms : Lis
   pub entry_is : (m.entry < 8) × (first_of t group_is m.entry ≡ m.first) × (second_of t group_is m.entry ≡ m.second)
   unfolding first_of second_of
   entry_is =
-      let (lt, own) = match_entry vsid api (group_of t primary) (group_of t secondary) m (subst (List-as-Memᴰ m) (sym are) (List·Memᴰ·head refl)) in
+      let (lt, own) = match_entry vsid api (group_of t primary) (group_of t secondary) m (subst (Memᴰ m) (sym are) (Memᴰ.head refl)) in
       (lt, first m.secondary ∙ sym (ap (λ (x : Match). x.first) own), second m.secondary ∙ sym (ap (λ (x : Match). x.second) own))
     where
       first : (b : Bool) → first_of t (cond b secondary primary) m.entry ≡ first_at (cond b (group_of t secondary) (group_of t primary)) m.entry

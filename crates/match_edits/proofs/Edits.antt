@@ -1,6 +1,11 @@
 -- Laws of edits: what an edit of a list of matches keeps, and that the edit of both groups is one pass over the table's matches in search order.
-use Rattle.words.proofs.Basics.{ℕ, ◌+◌, ◌*◌, ◌^◌, ◌<◌, ◌≤◌, ◌≡◌, refl, sym, ap, ap₂, ◌∙◌, Bool, true, false, ◌≢◌, List, [], ◌∷◌, ◌++◌, List-as-Memᴰ}
-use Rattle.words.proofs.Basics.{List·Memᴰ·head, List·Memᴰ·tail, foldl-append, length, arith}
+use mathlib.Core.Path.{◌≡◌, refl, sym, ap, ap₂, ◌∙◌}
+use mathlib.Core.Logic.{◌≢◌}
+use mathlib.Core.Bool.{Bool, true, false}
+use mathlib.Core.List.{List, [], ◌∷◌, ◌++◌, foldl-append, Memᴰ}
+use Prim.Native.Nat.{ℕ, ◌+◌, ◌*◌, ◌^◌, ◌≤◌, ◌<◌}
+use native.Mathlib.Omega.{arith}
+use lib.ListN.{length}
 use Rattle.entry.proofs.Marks.{with_pp_lt}
 use Rattle.theory_tables.specs.Matches.{Match}
 use Rattle.groups.specs.Group.{group_of, on_group, first_at, second_at, put_entry, put_at}
@@ -32,15 +37,15 @@ module _ (edit : Edit) where
   length_edit (m ∷ ms) group = length_edit ms (put_entry group m.entry (edited edit m).0 (edited edit m).1) ∙ length_entry group m.entry (edited edit m).0 (edited edit m).1
 
   -- an entry that no match of the list is stays
-  pub edit_other : (ms : List Match) (group : List ℕ) (j : ℕ) → ((m : Match) → List-as-Memᴰ m ms → j ≢ m.entry)
+  pub edit_other : (ms : List Match) (group : List ℕ) (j : ℕ) → ((m : Match) → Memᴰ m ms → j ≢ m.entry)
       → (first_at (edit_each edit ms group) j ≡ first_at group j) × (second_at (edit_each edit ms group) j ≡ second_at group j)
   unfolding edit_each
   edit_other [] group j h = (refl, refl)
   edit_other (m ∷ ms) group j h =
       let u = (edited edit m).0 in
       let v = (edited edit m).1 in
-      let r = edit_other ms (put_entry group m.entry u v) j (λ x k. h x (List·Memᴰ·tail k)) in
-      let n = h m (List·Memᴰ·head refl) in
+      let r = edit_other ms (put_entry group m.entry u v) j (λ x k. h x (Memᴰ.tail k)) in
+      let n = h m (Memᴰ.head refl) in
       (r.0 ∙ first_other group m.entry u v j n, r.1 ∙ second_other group m.entry u v j n)
 
   -- while the entries are gone through in order, the next one is as it was at the start
@@ -51,7 +56,7 @@ module _ (edit : Edit) where
 
   -- edits of matches that stand in one group are writes of entries in the table
   edits_in_table : (group : Bool → ℕ) (b : Bool) (ms : List Match) (t : List ℕ) → 64 * group b + 64 ≤ length t
-      → ((m : Match) → List-as-Memᴰ m ms → m.secondary ≡ b) → on_group t (group b) (edit_each edit ms) ≡ put_each group (edited edit) ms t
+      → ((m : Match) → Memᴰ m ms → m.secondary ≡ b) → on_group t (group b) (edit_each edit ms) ≡ put_each group (edited edit) ms t
   unfolding edit_each put_each on_group put_at
   edits_in_table group b [] t inside side = put_same t (group b)
   edits_in_table group b (m ∷ ms) t inside side =
@@ -59,8 +64,8 @@ module _ (edit : Edit) where
       let v = (edited edit m).1 in
       let next = put_at t (group b) m.entry u v in
       sym (on_on t (group b) (λ x. put_entry x m.entry u v) (edit_each edit ms) inside (λ x. length_entry x m.entry u v))
-      ∙ edits_in_table group b ms next (rw (stored_length t (group b) m.entry u v inside) inside) (λ x k. side x (List·Memᴰ·tail k))
-      ∙ ap (λ (c : Bool). put_each group (edited edit) ms (put_at t (group c) m.entry u v)) (sym (side m (List·Memᴰ·head refl)))
+      ∙ edits_in_table group b ms next (rw (stored_length t (group b) m.entry u v inside) inside) (λ x k. side x (Memᴰ.tail k))
+      ∙ ap (λ (c : Bool). put_each group (edited edit) ms (put_at t (group c) m.entry u v)) (sym (side m (Memᴰ.head refl)))
 
   pub length_edit_matches : (b : Bool) (vsid api : ℕ) (group : List ℕ) → length (edit_matches edit b vsid api group) ≡ length group
   unfolding edit_matches

@@ -1,5 +1,5 @@
 -- Every row of the tables of edits holds: both sides compute to the same.
-use Rattle.words.proofs.Basics.{refl}
+use mathlib.Core.Path.{refl}
 use Rattle.match_edits.specs.Examples.{EditsTables}
 use Rattle.match_edits.proofs.Computes.{edits_compute}
 

@@ -1,5 +1,6 @@
 -- What unmap and protect do to each match of a page (rules 6).
-use Rattle.words.specs.Basics.{ℕ, ◌^◌, ◌<◌, Bool, true, false, List, foldl}
+use Rattle.std.specs.Prelude.{ℕ, ◌^◌, ◌<◌, Bool, true, false}
+use mathlib.Core.List.{List, foldl}
 use Rattle.entry.specs.Entry.{with_pp}
 use Rattle.theory_tables.specs.Matches.{Match}
 use Rattle.groups.specs.Group.{put_entry, put_at, first_of, second_of, on_group}

@@ -1,5 +1,5 @@
 -- Worked examples of edits of every match, each row closed by computation.
-use Rattle.words.specs.Basics.{true, false, [], ◌∷◌, replicate}
+use Rattle.std.specs.Prelude.{true, false, [], ◌∷◌, replicate}
 use Rattle.words.specs.Rows.{Hold}
 use Rattle.groups.specs.Examples.{mixed, example, full}
 use Rattle.match_edits.specs.Edit.{edit_matches}

@@ -1,5 +1,5 @@
 -- Every row of the tables of matches holds: both sides compute to the same.
-use Rattle.words.proofs.Basics.{refl}
+use mathlib.Core.Path.{refl}
 use Rattle.matches.specs.Examples.{MatchesTables}
 use Rattle.matches.proofs.Computes.{matches_compute}
 

@@ -1,8 +1,17 @@
--- What the search tells of a list of matches: by the number that it answers, and with one match more.
-use Rattle.words.proofs.Basics.{ℕ, ◌+◌, ◌*◌, ◌%◌, ◌<◌, ◌≡◌, refl, sym, ap, ap₂, ◌∙◌, Bool, true, false, cond, not, ◌||◌, true≢false, List, [], ◌∷◌, ◌++◌, eqb}
-use Rattle.words.proofs.Basics.{leb, arith, le-leb, lt-leb, ne_eqb}
+-- What the search tells of a list of matches: by the number that it answers, and of two lists one after the other.
+use mathlib.Core.Path.{◌≡◌, refl, sym, ap, ap₂, ◌∙◌}
+use mathlib.Core.Bool.{Bool, true, false, cond, not, ◌&&◌, ◌||◌}
+use mathlib.Core.List.{List, [], ◌∷◌, ◌++◌, append_assoc}
+use Prim.Native.Nat.{ℕ, ◌+◌, ◌-◌, ◌*◌, ◌%◌, ◌<◌}
+use native.Mathlib.Omega.{arith}
+use lib.Dec.{eqb, leb}
+use borrow.Author.Tests.{ne_eqb, le-leb, lt-leb}
+use Rattle.entry.specs.Entry.{matches}
 use Rattle.theory_tables.specs.Matches.{Match}
-use Rattle.matches.specs.Search.{hOf, agree, any_match, contradict, each, number_of, with_others, found_of, first_second}
+use Rattle.groups.specs.Group.{first_at}
+use Rattle.matches.specs.Search.{hOf, matches_to, any_match, disagrees, contradict, each, number_of, with_others, found_of, first_second}
+use Rattle.matches.proofs.Agreement.{agree_self}
+use Rattle.matches.proofs.Matches.{entry_at, matches_more, matches_same}
 use Rattle.matches.proofs.Merged.{or_false, any_append}
 
 -- a match's number is one of sixteen
@@ -68,14 +77,6 @@ module _ (m : Match) (ms : List Match) (found : ℕ) (e : found ≡ found_of (m 
       go n (agreeing a b) q = lt-leb 64 found (omega (arith, number_lt m)) ∙ sym b
       go n (differing a b) q = le-leb 64 found (omega (arith, number_lt m)) ∙ sym b
 
-  pub found_contradicts : contradict m ms ≡ true → found ≡ number_of m + 64
-  found_contradicts t = go (added m ms) (adds m ms) sum
-    where
-      go : (n : ℕ) → Adds m ms n → found ≡ number_of m + n → found ≡ number_of m + 64
-      go n (alone a b) q = absurd (true≢false (sym t ∙ b))
-      go n (agreeing a b) q = absurd (true≢false (sym t ∙ b))
-      go n (differing a b) q = q
-
   pub found_other : found ≡ 16 → ⊥
   found_other z = go (added m ms) (adds m ms) sum
     where
@@ -112,24 +113,53 @@ found_first (m ∷ ms) some = (m, (ms, refl))
 
 -- ---- further matches behind the first
 
-several_is : (m : Match) (ms : List Match) (x : Match) → found_of (m ∷ ms ++ x ∷ []) ≡ with_others m (ms ++ x ∷ [])
+several_is : (m : Match) (ms : List Match) (x : Match) (rest : List Match) → found_of (m ∷ ms ++ x ∷ rest) ≡ with_others m (ms ++ x ∷ rest)
 unfolding found_of
-several_is m [] x = refl
-several_is m (n ∷ ms) x = refl
+several_is m [] x rest = refl
+several_is m (n ∷ ms) x rest = refl
 
--- one match more behind a first
-pub found_more : (ms : List Match) (x m : Match) (others : List Match) → ms ≡ m ∷ others → found_of (ms ++ x ∷ []) ≡ with_others m (others ++ x ∷ [])
-found_more ms x m others e = ap (λ (l : List Match). found_of (l ++ x ∷ [])) e ∙ several_is m others x
-
--- some other disagrees with the first where this one does, or one before it did
-pub others_more : (m x : Match) (ms : List Match) (before own : Bool) → contradict m ms ≡ before → agree m.second x.second ≡ own
-    → number_of m + cond (before || not own) 64 32 ≡ with_others m (ms ++ x ∷ [])
+-- the first match of a group's search has been compared with those met before: comparing the whole group with it tells no more
+pub others_are : (ms to rest : List Match) (x m : Match) (others : List Match) → ms ++ to ≡ m ∷ others
+    → with_others m (others ++ (to ++ x ∷ rest)) ≡ found_of (ms ++ (to ++ x ∷ rest))
 unfolding contradict
-others_more m x ms before own was is =
-    let test : Match → Bool = λ n. not (agree m.second n.second) in
-    ap (λ (t : Bool). number_of m + cond t 64 32)
-    (sym (any_append test ms (x ∷ []) ∙ ap₂ ◌||◌ was (or_false (test x) ∙ ap not is)))
+others_are ms to rest x m others e =
+    let more = x ∷ rest in
+    let d = disagrees m.second in
+    let own : d m ≡ false = ap not (agree_self m.second) in
+    let met : any_match d others ≡ (any_match d ms || any_match d to) =
+    sym (ap (λ (b : Bool). b || any_match d others) own) ∙ sym (ap (any_match d) e) ∙ any_append d ms to in
+    let twice : any_match d (others ++ (to ++ more)) ≡ any_match d (others ++ more) =
+    any_append d others (to ++ more)
+    ∙ ap₂ ◌||◌ met (any_append d to more)
+    ∙ again (any_match d ms) (any_match d to) (any_match d more)
+    ∙ sym (any_append d others more ∙ ap (λ (b : Bool). b || any_match d more) met) in
+    ap (λ (t : Bool). number_of m + cond t 64 32) twice
+    ∙ sym (ap found_of (sym (append_assoc ms to more) ∙ ap (λ (l : List Match). l ++ more) e) ∙ several_is m others x rest)
+  where
+    again : (a b r : Bool) → (a || b) || (b || r) ≡ (a || b) || r
+    again true b r = refl
+    again false true r = refl
+    again false false r = refl
 
 -- the first one's second word stays
 pub second_stays : (ms more : List Match) (m : Match) (others : List Match) → ms ≡ m ∷ others → first_second (ms ++ more) ≡ m.second
 second_stays ms more m others e = ap (λ (l : List Match). first_second (l ++ more)) e
+
+-- one entry more: a test of the matches up to it
+any_more : (test : Match → Bool) (secondary : Bool) (vsid api : ℕ) (group : List ℕ) (n : ℕ) (same : Bool) → same ≡ matches vsid (hOf secondary) api (first_at group n)
+    → any_match test (matches_to secondary vsid api group (n + 1)) ≡ (any_match test (matches_to secondary vsid api group n) || (same && test (entry_at secondary group n)))
+any_more test secondary vsid api group n true e =
+    ap (any_match test) (matches_more secondary vsid api group n (sym e))
+    ∙ any_append test (matches_to secondary vsid api group n) (entry_at secondary group n ∷ [])
+    ∙ ap (λ (b : Bool). any_match test (matches_to secondary vsid api group n) || b) (or_false (test (entry_at secondary group n)))
+any_more test secondary vsid api group n false e =
+    ap (any_match test) (matches_same secondary vsid api group n (sym e)) ∙ sym (or_false (any_match test (matches_to secondary vsid api group n)))
+
+-- the same of the last of some entries
+pub last_more : (test : Match → Bool) (secondary : Bool) (vsid api : ℕ) (group : List ℕ) (entries : ℕ) → (entries ≡ 0 → ⊥) → (same : Bool)
+    → same ≡ matches vsid (hOf secondary) api (first_at group (entries - 1))
+    → any_match test (matches_to secondary vsid api group entries)
+    ≡ (any_match test (matches_to secondary vsid api group (entries - 1)) || (same && test (entry_at secondary group (entries - 1))))
+last_more test secondary vsid api group entries some same e =
+    let last : entries ≡ entries - 1 + 1 = omega (arith, some) in
+    ap (λ (n : ℕ). any_match test (matches_to secondary vsid api group n)) last ∙ any_more test secondary vsid api group (entries - 1) same e

@@ -1,6 +1,15 @@
 -- Laws of the matches in a group: one entry more, what each match is, and that a group and a first word name one page.
-use Rattle.words.proofs.Basics.{ℕ, zero, suc, ◌+◌, ◌^◌, ◌<◌, ◌≤◌, ◌≡◌, refl, sym, ap, ◌∙◌, Bool, true, false, cond, ⊎_elim, List, [], ◌∷◌, ◌++◌, List-as-Memᴰ}
-use Rattle.words.proofs.Basics.{List·Memᴰ·append-cases, List·Memᴰ·eq-of-singleton, List·Memᴰ·not-nil, append-nil, eqb, lit<, add-one, arith, bool_byte}
+use mathlib.Core.Path.{◌≡◌, refl, sym, ap, ◌∙◌}
+use mathlib.Core.Logic.{⊎_elim}
+use mathlib.Core.Bool.{Bool, true, false, cond}
+use mathlib.Core.List.Memᴰ
+use mathlib.Core.List.{List, [], ◌∷◌, ◌++◌, append-nil, append_assoc, Memᴰ}
+use Prim.Native.Nat.{ℕ, zero, suc, ◌+◌, ◌^◌, ◌≤◌, ◌<◌}
+use native.Mathlib.Numerals.{add-one}
+use native.Mathlib.Omega.{arith}
+use mir.Val.{bool_byte}
+use lib.Dec.{eqb, leb, lit<}
+use borrow.Author.Tests.{leb-true, leb-false}
 use Rattle.words.specs.Words.{swapped}
 use Rattle.entry.specs.Entry.{first_word, matches, free, api_of}
 use Rattle.entry.proofs.Packing.{FirstFields, first_lt}
@@ -60,33 +69,53 @@ module _ (secondary : Bool) (vsid api : ℕ) (group : List ℕ) where
   unfolding matches_below
   matches_same i e = rw (add-one, e) (append-nil (to i))
 
-  pub match_is : (n : ℕ) (m : Match) → List-as-Memᴰ m (to n) → IsMatch secondary vsid api group n m
+  -- entries more add matches behind those that there are
+  pub matches_extend : (i n : ℕ) → i ≤ n → (rest : List Match) × (to n ≡ to i ++ rest)
   unfolding matches_below
-  match_is zero m h = absurd (List·Memᴰ·not-nil h)
+  matches_extend i n l = go n l
+    where
+      here : (m : ℕ) → i ≡ m → (rest : List Match) × (to m ≡ to i ++ rest)
+      here m e = ([], ap to (sym e) ∙ sym (append-nil (to i)))
+
+      more : (m : ℕ) → i ≤ suc m → (i ≤ m → (rest : List Match) × (to m ≡ to i ++ rest)) → (t : Bool) → leb i m ≡ t
+          → (rest : List Match) × (to (suc m) ≡ to i ++ rest)
+      more m k before true e =
+          let (rest, is) = before (leb-true i m e) in
+          let last = cond (matches vsid (hOf secondary) api (first_at group m)) (entry_at secondary group m ∷ []) [] in
+          (rest ++ last, ap (λ (ms : List Match). ms ++ last) is ∙ append_assoc (to i) rest last)
+      more m k before false e = here (suc m) (omega (arith, k, leb-false i m e))
+
+      go : (m : ℕ) → i ≤ m → (rest : List Match) × (to m ≡ to i ++ rest)
+      go zero k = here zero (omega (arith, k))
+      go (suc m) k = more m k (go m) (leb i m) refl
+
+  pub match_is : (n : ℕ) (m : Match) → Memᴰ m (to n) → IsMatch secondary vsid api group n m
+  unfolding matches_below
+  match_is zero m h = absurd (Memᴰ.not-nil h)
   match_is (suc n) m h =
       ⊎_elim (λ k. let r = match_is n m k in record { entry_lt = omega (arith, r.entry_lt); is_entry = r.is_entry; matching = r.matching })
       (λ k. last (matches vsid (hOf secondary) api (first_at group n)) refl k)
-      (List·Memᴰ·append-cases (to n) h)
+      (Memᴰ.append_cases (to n) h)
     where
-      last : (t : Bool) → matches vsid (hOf secondary) api (first_at group n) ≡ t → List-as-Memᴰ m (cond t (entry_at secondary group n ∷ []) [])
+      last : (t : Bool) → matches vsid (hOf secondary) api (first_at group n) ≡ t → Memᴰ m (cond t (entry_at secondary group n ∷ []) [])
           → IsMatch secondary vsid api group (suc n) m
       last true e k =
-          let q : m ≡ entry_at secondary group n = List·Memᴰ·eq-of-singleton k in
+          let q : m ≡ entry_at secondary group n = Memᴰ.eq_of_singleton k in
           rw q (record { entry_lt = omega arith; is_entry = refl; matching = e })
-      last false e k = absurd (List·Memᴰ·not-nil k)
+      last false e k = absurd (Memᴰ.not-nil k)
 
 -- each match in a group
-pub match_in : (secondary : Bool) (vsid api : ℕ) (group : List ℕ) (m : Match) → List-as-Memᴰ m (group_matches secondary vsid api group) → IsMatch secondary vsid api group 8 m
+pub match_in : (secondary : Bool) (vsid api : ℕ) (group : List ℕ) (m : Match) → Memᴰ m (group_matches secondary vsid api group) → IsMatch secondary vsid api group 8 m
 unfolding group_matches
 match_in secondary vsid api group m h = match_is secondary vsid api group 8 m h
 
 -- each match of both groups is one of the eight entries of its group
-pub match_entry : (vsid api : ℕ) (primary secondary : List ℕ) (m : Match) → List-as-Memᴰ m (pair_matches vsid api primary secondary)
+pub match_entry : (vsid api : ℕ) (primary secondary : List ℕ) (m : Match) → Memᴰ m (pair_matches vsid api primary secondary)
     → (m.entry < 8) × (m ≡ entry_at m.secondary (cond m.secondary secondary primary) m.entry)
 unfolding pair_matches
 match_entry vsid api primary secondary m h =
     ⊎_elim (λ k. of false primary refl (match_in false vsid api primary m k)) (λ k. of true secondary refl (match_in true vsid api secondary m k))
-    (List·Memᴰ·append-cases (group_matches false vsid api primary) h)
+    (Memᴰ.append_cases (group_matches false vsid api primary) h)
   where
     of : (b : Bool) (group : List ℕ) → group ≡ cond b secondary primary → IsMatch b vsid api group 8 m
         → (m.entry < 8) × (m ≡ entry_at m.secondary (cond m.secondary secondary primary) m.entry)

@@ -1,5 +1,8 @@
 -- Laws of a test of the matches of a list, of one list after the other, and of the word with the marks of all.
-use Rattle.words.proofs.Basics.{ℕ, ◌≡◌, refl, sym, ap, ap₂, ◌∙◌, Bool, true, false, ◌||◌, true≢false, List, [], ◌∷◌, ◌++◌}
+use mathlib.Core.Path.{◌≡◌, refl, sym, ap, ap₂, ◌∙◌}
+use mathlib.Core.Bool.{Bool, true, false, ◌||◌, true≢false}
+use mathlib.Core.List.{List, [], ◌∷◌, ◌++◌}
+use Prim.Native.Nat.{ℕ}
 use Rattle.entry.specs.Entry.{referenced, changed, with_marks}
 use Rattle.entry.proofs.Marks.{marks_referenced, marks_changed, marks_own, marks_again}
 use Rattle.theory_tables.specs.Matches.{Match}

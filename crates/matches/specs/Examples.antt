@@ -1,6 +1,7 @@
 -- Worked examples of searches, each row closed by computation: a group of 64 bytes with duplicate matches, a match that contradicts and matches
 -- of the other H.
-use Rattle.words.specs.Basics.{ℕ, Bool, true, false, List, [], ◌∷◌, ◌++◌, map, replicate, bit_xor}
+use Rattle.std.specs.Prelude.{ℕ, Bool, true, false, List, [], ◌∷◌, ◌++◌, map, replicate}
+use Rattle.std.specs.Int.Bits.{bit_xor}
 use Rattle.words.specs.Rows.{Hold, each_bit}
 use Rattle.theory_tables.specs.Matches.{Match}
 use Rattle.groups.specs.Examples.{mixed, example, full, last}

@@ -1,5 +1,6 @@
 -- The search for a page's matches (rules 4), and what one pass over them tells.
-use Rattle.words.specs.Basics.{ℕ, ◌+◌, ◌*◌, ◌%◌, ◌^◌, ◌<◌, ◌≡◌, Bool, true, false, cond, not, ◌&&◌, ◌||◌, List, [], ◌∷◌, ◌++◌, foldr, eqb}
+use Rattle.std.specs.Prelude.{ℕ, ◌+◌, ◌*◌, ◌%◌, ◌^◌, ◌<◌, ◌≡◌, Bool, true, false, cond, not, ◌&&◌, ◌||◌, eqb}
+use mathlib.Core.List.{List, [], ◌∷◌, ◌++◌, foldr}
 use Rattle.numbers.specs.Numbers.{group_entries}
 use Rattle.words.specs.Words.{swapped}
 use Rattle.entry.specs.Entry.{first_word, matches, rpn_of, wimg_of, pp_of, referenced, changed, with_marks}
@@ -34,6 +35,10 @@ agree second other = eqb (rpn_of second) (rpn_of other) && eqb (wimg_of second) 
 -- some match of a list passes a test
 abbrev pub any_match : (Match → Bool) → List Match → Bool
 any_match test ms = foldr (λ m others. test m || others) false ms
+
+-- a match's second word does not agree with another
+abbrev pub disagrees : ℕ → Match → Bool
+disagrees second m = not (agree second m.second)
 
 -- the matches contradict: some other one's second word does not agree with the first's
 unfoldable pub contradict : Match → List Match → Bool

@@ -3,7 +3,7 @@ ghost use Rattle.std.specs.Prelude.{◌≡◌, Bool, false, List, [], ◌∷◌,
 ghost use Rattle.numbers.specs.Numbers.{group_size, group_entries};
 ghost use Rattle.theory_tables.specs.Matches.{Match};
 ghost use Rattle.groups.specs.Group.{group_of, free_after};
-ghost use Rattle.matches.specs.Search.{hOf, contradict, with_others, found_of, told, in_primary, in_both};
+ghost use Rattle.matches.specs.Search.{hOf, matches_to, disagrees, contradict, with_others, found_of, told, in_primary, in_both};
 ghost use Rattle.matches.specs.Search.{WantedWord, group_matches, agree, any_match, each};
 
 // Whether the second words of two matches agree: RPN, WIMG and PP are equal. R, C and the ignored bits may differ.
@@ -79,18 +79,32 @@ impl Told {
     }
 }
 
-// What is told of a first match where there is another, by the second words of both.
-fn with_other(found: usize, second: u32, other: u32) -> usize
-    ensures { (m x : Match) (ms : List Match) → found ≡ found_of (m ∷ ms) → second ≡ m.second → other ≡ x.second
-        → result ≡ with_others m (ms ++ x ∷ []) }
+// Whether a match among the first `entries` of a group disagrees with a second word. It is run only where there are several matches, and calls
+// itself so that the compiler leaves it out of the search.
+fn disagree(group: &[u8], entries: usize, wanted: u32, second: u32) -> bool
+    requires { (entries ≤ group_entries) × (length group.now ≡ group_size) }
+    ensures { (secondary : Bool) (vsid api : ℕ) → WantedWord secondary vsid api wanted
+        → result ≡ any_match (disagrees second) (matches_to secondary vsid api group.now entries) }
 {
-    if found >= DIFFER {
-        return found;
+    if entries == 0 {
+        return false;
     }
-    if words_agree(second, other) {
-        return found % NONE + AGREE;
+    let last = entries - 1;
+    if disagree(group, last, wanted, second) {
+        return true;
     }
-    found % NONE + DIFFER
+    let other = words::read_word(group, numbers::ENTRY_SIZE * last + 4);
+    words::is_word(group, numbers::ENTRY_SIZE * last, wanted) & !words_agree(second, other)
+}
+
+// What is told of a first match where there are others, those of this group among them.
+fn with_others(group: &[u8], wanted: u32, found: usize, second: u32) -> usize
+    requires { length group.now ≡ group_size }
+    ensures { (secondary : Bool) (vsid api : ℕ) (m : Match) (ms : List Match) → WantedWord secondary vsid api wanted → found ≡ found_of (m ∷ ms) → second ≡ m.second
+        → result ≡ with_others m (ms ++ group_matches secondary vsid api group.now) }
+{
+    let differs = disagree(group, numbers::GROUP_ENTRIES, wanted, second) | (found >= DIFFER);
+    found % NONE + if differs { DIFFER } else { AGREE }
 }
 
 // The one search of a group: its matches and its free entries, behind what was told before. `from` is the number of its entry 0 in search order.
@@ -106,13 +120,16 @@ pub fn search(group: &[u8], from: usize, wanted: u32, before: Told) -> Told
     let mut i = 0;
     while numbers::ENTRY_SIZE * i < group.len() {
         if words::is_word(group, numbers::ENTRY_SIZE * i, wanted) {
-            let other = words::read_word(group, numbers::ENTRY_SIZE * i + 4);
-            if found == NONE {
-                found = from + i;
-                second = other;
-            } else {
-                found = with_other(found, second, other);
+            if found != NONE {
+                found = with_others(group, wanted, found, second);
+                return Told {
+                    found,
+                    second,
+                    free,
+                };
             }
+            found = from + i;
+            second = words::read_word(group, numbers::ENTRY_SIZE * i + 4);
         }
         i += 1;
     }

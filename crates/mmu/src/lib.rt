@@ -1,10 +1,9 @@
-// The fourteen exported calls. Each contract gives the result number and every lent byte, for all inputs, by a definition of `theory_calls`,
-// `theory_cache`, `theory_sweep` or `access_rights`.
+// The thirteen exported calls. Each contract gives the result number and every lent byte, for all inputs, by a definition of `theory_calls`,
+// `theory_cache` or `access_rights`.
 mod access;
 mod cached;
 mod pages;
 mod rights;
-mod sweeps;
 
 ghost use Rattle.std.specs.Prelude.{◌≡◌, [], ◌∷◌, length};
 ghost use Rattle.numbers.specs.Numbers.{entry_size};
@@ -16,7 +15,6 @@ pub use access::mmu_access;
 pub use cached::{mmu_access_cached, mmu_invalidate};
 pub use pages::{mmu_clear, mmu_look, mmu_map, mmu_protect, mmu_unmap};
 pub use rights::mmu_rights;
-pub use sweeps::mmu_sweep;
 
 // Checks a register page.
 #[unsafe(no_mangle)]

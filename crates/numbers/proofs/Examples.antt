@@ -1,5 +1,5 @@
 -- Each name is the number stated beside it: both sides compute to the same.
-use Rattle.words.proofs.Basics.{refl}
+use mathlib.Core.Path.{refl}
 use Rattle.numbers.specs.Examples.{NumbersTables}
 
 pub numbers_tables : NumbersTables

@@ -1,12 +1,12 @@
 -- Each name beside the number that the rules state (rules 2, 5 and 7).
-use Rattle.words.specs.Basics.{[], ◌∷◌}
+use Rattle.std.specs.Prelude.{[], ◌∷◌}
 use Rattle.words.specs.Rows.{Hold}
 use Rattle.numbers.specs.Numbers.{done, data_storage_fault, instruction_storage_fault}
 use Rattle.numbers.specs.Numbers.{refused_table_length, refused_sdr1, refused_block, refused_blocks_share, refused_segment, refused_argument}
-use Rattle.numbers.specs.Numbers.{refused_mapped, refused_no_match, refused_full, refused_contradiction, refused_lent_length, refused_operand_length, refused_group}
+use Rattle.numbers.specs.Numbers.{refused_mapped, refused_no_match, refused_full, refused_contradiction, refused_lent_length, refused_operand_length}
 use Rattle.numbers.specs.Numbers.{fetch, load, store, attributes_real}
 use Rattle.numbers.specs.Numbers.{rule_real, rule_block, rule_no_execute, rule_no_match, rule_guarded, rule_protection, rule_done}
-use Rattle.numbers.specs.Numbers.{registers_size_short, registers_size_long, answer_size, access_answer_size, swept_size, fields_size, group_size, entry_size}
+use Rattle.numbers.specs.Numbers.{registers_size_short, registers_size_long, answer_size, access_answer_size, fields_size, group_size, entry_size}
 use Rattle.numbers.specs.Numbers.{page_size, longest_operand, register_count_short, register_count_long, group_entries}
 
 pub record NumbersTables : Type 0 where
@@ -24,11 +24,10 @@ pub record NumbersTables : Type 0 where
       ∷ (refused_contradiction, 10)
       ∷ (refused_lent_length, 11)
       ∷ (refused_operand_length, 12)
-      ∷ (refused_group, 13)
       ∷ []
       )
   pub accesses : Hold ((fetch, 0) ∷ (load, 1) ∷ (store, 2) ∷ (attributes_real, 3) ∷ [])
   pub rules : Hold ((rule_real, 0) ∷ (rule_block, 1) ∷ (rule_no_execute, 2) ∷ (rule_no_match, 3) ∷ (rule_guarded, 4) ∷ (rule_protection, 5) ∷ (rule_done, 6) ∷ [])
-  pub lengths : Hold ((registers_size_short, 132) ∷ (registers_size_long, 196) ∷ (answer_size, 16) ∷ (access_answer_size, 48) ∷ (swept_size, 128) ∷ (fields_size, 36) ∷ (group_size, 64) ∷ (entry_size, 8) ∷ [])
+  pub lengths : Hold ((registers_size_short, 132) ∷ (registers_size_long, 196) ∷ (answer_size, 16) ∷ (access_answer_size, 48) ∷ (fields_size, 36) ∷ (group_size, 64) ∷ (entry_size, 8) ∷ [])
   pub operands : Hold ((page_size, 4096) ∷ (longest_operand, 128) ∷ [])
   pub counts : Hold ((register_count_short, 33) ∷ (register_count_long, 49) ∷ (group_entries, 8) ∷ [])

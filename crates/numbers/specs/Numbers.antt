@@ -1,5 +1,5 @@
 -- The numbers that calls hand back and the lengths of what they are lent, under the names that include/mmu.h has for them.
-use Rattle.words.specs.Basics.{ℕ}
+use Rattle.std.specs.Prelude.{ℕ}
 
 -- done: the call did what it was asked
 abbrev pub done : ℕ
@@ -50,9 +50,6 @@ refused_lent_length = 11
 abbrev pub refused_operand_length : ℕ
 refused_operand_length = 12
 
-abbrev pub refused_group : ℕ
-refused_group = 13
-
 -- the kinds of access (rules 5)
 abbrev pub fetch : ℕ
 fetch = 0
@@ -89,7 +86,7 @@ rule_protection = 5
 abbrev pub rule_done : ℕ
 rule_done = 6
 
--- lengths in bytes: the short and the long register page, the answers of look and unmap, of an access and of a sweep, an entry's fields, a group and an entry; a page, and the
+-- lengths in bytes: the short and the long register page, the answers of look and unmap and of an access, an entry's fields, a group and an entry; a page, and the
 -- longest operand
 abbrev pub registers_size_short : ℕ
 registers_size_short = 132
@@ -102,9 +99,6 @@ answer_size = 16
 
 abbrev pub access_answer_size : ℕ
 access_answer_size = 48
-
-abbrev pub swept_size : ℕ
-swept_size = 128
 
 abbrev pub fields_size : ℕ
 fields_size = 36

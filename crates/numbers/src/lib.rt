@@ -33,8 +33,6 @@ pub const REFUSED_LENT_LENGTH: u32 = 11;
 
 pub const REFUSED_OPERAND_LENGTH: u32 = 12;
 
-pub const REFUSED_GROUP: u32 = 13;
-
 // The kinds of access (rules 5).
 pub const FETCH: u32 = 0;
 
@@ -60,7 +58,7 @@ pub const RULE_PROTECTION: u32 = 5;
 
 pub const RULE_DONE: u32 = 6;
 
-// Lengths in bytes: the short and the long register page, the answers of look and unmap, of an access and of a sweep, an entry's fields, a group and an entry; a page, and the
+// Lengths in bytes: the short and the long register page, the answers of look and unmap and of an access, an entry's fields, a group and an entry; a page, and the
 // longest operand.
 pub const REGISTERS_SIZE_SHORT: usize = 132;
 
@@ -69,8 +67,6 @@ pub const REGISTERS_SIZE_LONG: usize = 196;
 pub const ANSWER_SIZE: usize = 16;
 
 pub const ACCESS_ANSWER_SIZE: usize = 48;
-
-pub const SWEPT_SIZE: usize = 128;
 
 pub const FIELDS_SIZE: usize = 36;
 

@@ -10,10 +10,14 @@
 --   KnownOf, known: all this together, for any SDR1 that the table's length is right for
 --   free_is, place_lt: the free place told is the page's first free one, and one of eight entries
 --   placed_is: an entry written at the group located is the page's
---   number_is: the entry told is the first match's; entry-asked: what an edit of the entry found asks holds
+--   entry_asked: what an edit of the entry found asks holds
 --   all_edited, alone_edited: an edit of all matches, or of the only one, is the edit of the page's groups
-use Rattle.words.proofs.Basics.{ℕ, ◌+◌, ◌*◌, ◌%◌, ◌^◌, ◌<◌, ◌≤◌, ◌≡◌, refl, sym, ap, ap₂, ◌∙◌, Bool, true, false, cond, true≢false, List, [], ◌∷◌, length}
-use Rattle.words.proofs.Basics.{arith}
+use mathlib.Core.Path.{◌≡◌, refl, sym, ap, ap₂, ◌∙◌}
+use mathlib.Core.Bool.{Bool, true, false, cond, true≢false}
+use mathlib.Core.List.{List, [], ◌∷◌}
+use Prim.Native.Nat.{ℕ, ◌+◌, ◌*◌, ◌%◌, ◌^◌, ◌≤◌, ◌<◌}
+use native.Mathlib.Omega.{arith}
+use lib.ListN.{length}
 use Rattle.entry.specs.Entry.{first_word, api_of}
 use Rattle.entry.proofs.Addresses.{api_lt}
 use Rattle.register_words.specs.Sdr1.{table_length, mask_ones, hash_bits}
@@ -180,7 +184,7 @@ module _ (sdr1 : ℕ) (page : Page) (t : List ℕ) (l : Located) where
           words : (f.x.entry < 8) × (first_of t own f.x.entry ≡ f.x.first) × (second_of t own f.x.entry ≡ f.x.second)
           words = entry_is page.vsid (api_of page.index) l.primary l.secondary t f.x f.xs f.in_groups
 
-          pub number_is : i ≡ f.x.entry
+          number_is : i ≡ f.x.entry
           number_is = at_entry_lem f.x f.xs page_free f.tells ∙ mod_of f.x.entry words.0
             where
               mod_of : (n : ℕ) → n < 8 → n % 8 ≡ n

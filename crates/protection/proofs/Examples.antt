@@ -1,5 +1,5 @@
 -- Every row of the tables of protection and faults holds: both sides compute to the same.
-use Rattle.words.proofs.Basics.{refl}
+use mathlib.Core.Path.{refl}
 use Rattle.protection.specs.Examples.{ProtectionTables}
 use Rattle.protection.proofs.Computes.{protection_computes}
 

@@ -1,5 +1,5 @@
 -- The mode and the kind of an access (rules 5): mode 0 to 7, kind 0 fetch, 1 load, 2 store.
-use Rattle.words.specs.Basics.{ℕ, ◌/◌, ◌%◌, Bool, cond, not, eqb}
+use Rattle.std.specs.Prelude.{ℕ, ◌/◌, ◌%◌, Bool, cond, not, eqb}
 use Rattle.numbers.specs.Numbers.{fetch, store}
 
 -- PR, 4 of the mode, is on: the access is the user's, else the supervisor's

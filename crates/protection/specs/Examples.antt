@@ -1,6 +1,6 @@
 -- Tables that pin mode and kind, protection and fault words, each complete and closed by computation. The stated sides are those of
 -- the rules and of the manual's tables 7-8, 7-15 and 7-16.
-use Rattle.words.specs.Basics.{ℕ, Bool, true, false, List, [], ◌∷◌, map}
+use Rattle.std.specs.Prelude.{ℕ, Bool, true, false, List, [], ◌∷◌, map}
 use Rattle.words.specs.Rows.{Hold}
 use Rattle.protection.specs.Access.{user_mode, relocated, side_of}
 use Rattle.protection.specs.Protection.{page_allows, block_allows, guarded}

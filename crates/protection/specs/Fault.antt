@@ -1,5 +1,5 @@
 -- Storage faults: "The fault word is a sum by cause" (rules 5).
-use Rattle.words.specs.Basics.{ℕ, ◌+◌, cond, eqb}
+use Rattle.std.specs.Prelude.{ℕ, ◌+◌, cond, eqb}
 use Rattle.numbers.specs.Numbers.{data_storage_fault, instruction_storage_fault}
 use Rattle.protection.specs.Access.{fetching, storing}
 use Rattle.protection.specs.declared.Fault.{Fault}

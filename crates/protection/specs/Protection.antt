@@ -1,5 +1,5 @@
 -- Protection: what PP allows in a page and in a block (rules 5, steps 2 and 6), and guarded storage (step 5). A fetch needs the right to read.
-use Rattle.words.specs.Basics.{ℕ, ◌%◌, Bool, cond, not, ◌&&◌, eqb}
+use Rattle.std.specs.Prelude.{ℕ, ◌%◌, Bool, cond, not, ◌&&◌, eqb}
 use Rattle.protection.specs.Access.{storing}
 
 -- the right to read a page: with key 1, PP 00 allows nothing; every other page may be read

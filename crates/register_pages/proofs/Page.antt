@@ -8,16 +8,21 @@
 --   sdr1_at, segment_at_law, upper_at_law, lower_at_law: the words of the set of 49 are those at the page's bytes
 --   covering_own: a pair of the set that covers an address is one of the page's own
 --   none_covers: where none of the page's own pairs covers an address, none of the set does
-use Rattle.words.proofs.Basics.{ℕ, ◌+◌, ◌-◌, ◌*◌, ◌/◌, ◌<◌, ◌≤◌, ◌≡◌, refl, sym, ap, ◌∙◌, Bool, true, false, cond, true≢false, List, ltb, lit≤, length, get_or}
-use Rattle.words.proofs.Basics.{arith, eqb-false, eqb_true, ltb-false, ltb-true}
+use mathlib.Core.Path.{◌≡◌, refl, sym, ap, ◌∙◌}
+use mathlib.Core.Bool.{Bool, true, false, cond, true≢false}
+use mathlib.Core.List.{List}
+use Prim.Native.Nat.{ℕ, ◌+◌, ◌-◌, ◌*◌, ◌/◌, ◌≤◌, ◌<◌}
+use native.Mathlib.Omega.{arith}
+use lib.Dec.{ltb, lit≤}
+use lib.ListN.{length, get_or}
+use borrow.Author.Tests.{eqb-true, eqb-false, ltb-true, ltb-false}
 use Rattle.words.specs.Words.{word_at}
 use Rattle.words.proofs.Words.{get_or_words_at, length_words_at}
 use Rattle.words.proofs.Below.{first_passes, first_none}
 use Rattle.words.proofs.Tests.{by_test}
 use Rattle.register_words.specs.Block.{off}
 use Rattle.register_words.proofs.Blocks.{off_covers}
-use Rattle.registers.specs.Set.{is_page, is_long, block_pairs, register_count, sdr1_of, segment_of, side_start, upper_of, lower_of, pair_covers, covering_pair}
-use Rattle.registers.specs.Set.{register_words, widened, set_words}
+use Rattle.registers.specs.Set.{is_page, is_long, block_pairs, register_count, sdr1_of, segment_of, side_start, upper_of, lower_of, pair_covers, covering_pair, register_words, widened, set_words}
 use Rattle.registers.proofs.Set.{short_page}
 use Rattle.registers.proofs.Widened.{zero_off, at_front, upper_first, lower_first, upper_last}
 use Rattle.register_pages.specs.Side.{side_byte}
@@ -31,7 +36,7 @@ pub page_size_law : (size : ℕ) → is_page size ≡ true → PageSize size (is
 page_size_law size page = go (is_long size) refl
   where
     go : (t : Bool) → is_long size ≡ t → PageSize size t
-    go true e = rw (eqb_true size 196 e) long_size
+    go true e = rw (eqb-true size 196 e) long_size
     go false e = rw (short_page size page (eqb-false size 196 e)) short_size
 
 pub page_least : (size : ℕ) → is_page size ≡ true → 132 ≤ size

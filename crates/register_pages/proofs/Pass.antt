@@ -1,7 +1,15 @@
 -- What the check's pass has seen of a side after some of its pairs: the bits put together tell whether each has its shape, and where none fell each
 -- block begins behind the end of those before it, so that blocks of right shape are apart.
-use Rattle.words.proofs.Basics.{ℕ, ◌+◌, ◌-◌, ◌*◌, ◌/◌, ◌%◌, ◌^◌, ◌<◌, ◌≤◌, ◌≡◌, refl, sym, ap, ap₂, ◌∙◌, Bool, true, false, not, ◌&&◌, true≢false, and_true}
-use Rattle.words.proofs.Basics.{List, eqb, get_or, bit_and, bit_or, and_mask, arith, eq-eqb, ne_eqb, below_more, below_none}
+use mathlib.Core.Path.{◌≡◌, refl, sym, ap, ap₂, ◌∙◌}
+use mathlib.Core.Bool.{Bool, true, false, not, ◌&&◌, and-true, true≢false}
+use mathlib.Core.List.{List}
+use Prim.Native.Nat.{ℕ, ◌+◌, ◌-◌, ◌*◌, ◌/◌, ◌%◌, ◌^◌, ◌≤◌, ◌<◌}
+use native.Mathlib.Omega.{arith}
+use borrow.Author.Count.{below_none, below_more}
+use borrow.Author.Tests.{eq-eqb, ne_eqb}
+use lib.Bits.{bit_and, bit_or, and_mask}
+use lib.Dec.{eqb}
+use lib.ListN.{get_or}
 use Rattle.words.specs.Below.{every_below}
 use Rattle.words.specs.Bits.{bits}
 use Rattle.words.specs.Words.{word_at}
@@ -76,7 +84,7 @@ module _ (lengths sum : ℕ) (pairs : List ℕ) where
       shape = λ long side l s.
           before.shape long side l s
           ∙ sym (shape_next long side n ∙ ap (λ (t : Bool). pairs_shape pairs long side n && t) (off_shape (bl_width long) (upper_at pairs n) o side (lower_at pairs n))
-          ∙ and_true (pairs_shape pairs long side n));
+          ∙ and-true (pairs_shape pairs long side n));
       ends = λ z. below_more (λ i. On i → end_of (upper_at pairs i) ≤ end) n (before.ends z) (λ e. absurd (true≢false (sym o ∙ e)));
       rise = λ z. below_more (λ j. On j → (i : ℕ) → i < j → On i → last_of (upper_at pairs i) < bepi_of (upper_at pairs j)) n (before.rise z)
           (λ e. absurd (true≢false (sym o ∙ e)));

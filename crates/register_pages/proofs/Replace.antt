@@ -1,10 +1,17 @@
 -- A word put into a register page: it lies on the page, the page's words are the old ones with that one replaced, and the old word put back gives the
 -- page as it was.
-use Rattle.words.proofs.Basics.{ℕ, zero, suc, ◌+◌, ◌-◌, ◌*◌, ◌^◌, ◌<◌, ◌≤◌, ◌≡◌, refl, sym, ap, ap₂, ◌∙◌, Bool, true, false, cond, ◌⊎◌, inl, inr, List, [], ◌∷◌}
-use Rattle.words.proofs.Basics.{◌++◌, append_assoc, eqb, ltb, lit≤, length, get_or, set, take, drop, replicate, length-set, sets, drop_at, drop-drop, ext_get_or}
-use Rattle.words.proofs.Basics.{get_or-drop, get_or-set_other, get_or-set_same, length-take-le, take_at, take-set-lt, add-zero, arith, le-ltb, lt-ltb, ltb-false}
-use Rattle.words.proofs.Basics.{ltb-true, put_mid}
-use lib.Seq.{take-add}
+use mathlib.Core.Path.{◌≡◌, refl, sym, ap, ap₂, ◌∙◌}
+use mathlib.Core.Bool.{Bool, true, false, cond}
+use mathlib.Core.List.{List, [], ◌∷◌, ◌++◌, append_assoc}
+use mathlib.Core.Logic.{◌⊎◌, inl, inr}
+use Prim.Native.Nat.{ℕ, zero, suc, ◌+◌, ◌-◌, ◌*◌, ◌^◌, ◌≤◌, ◌<◌}
+use native.Mathlib.Nat.{add-zero}
+use native.Mathlib.Omega.{arith}
+use borrow.Author.Tests.{lt-ltb, le-ltb, ltb-true, ltb-false}
+use lib.Dec.{eqb, ltb, lit≤}
+use lib.ListN.{length, get_or, set, take, drop, replicate, length-set}
+use lib.Seq.{sets, ext_get_or, get_or-set_same, get_or-set_other, get_or-drop, take-set-lt, length-take-le, take_at, drop_at, drop-drop, take-add}
+use borrow.Rule.Slice.PartMut.{put_mid}
 use Rattle.words.specs.Words.{word_bytes, word_at, with_word, words_at}
 use Rattle.words.proofs.Tests.{three, by_test}
 use Rattle.words.proofs.Words.{Bytes, byte_0, byte_1, byte_2, byte_3, sets_in, length_word_bytes, length_with_word, byte_before, byte_behind}

@@ -1,19 +1,22 @@
 -- The two sides of a register page as parts of its bytes: what the pass tells of a part is the test of the side, by the page's own words.
-use Rattle.words.proofs.Basics.{ℕ, zero, suc, ◌+◌, ◌-◌, ◌*◌, ◌/◌, ◌%◌, ◌<◌, ◌≤◌, max, ◌≡◌, refl, sym, ap, ap₂, ◌∙◌, Bool, true, false, cond, not, ◌&&◌}
-use Rattle.words.proofs.Basics.{and_false, and_true, List, eqb, lit≤, length, get_or, take, drop, length-drop, get_or-drop, get_or-take, length-take-le, bit_and}
-use Rattle.words.proofs.Basics.{bit_or, or_shr, or_zero_l, or_zero_r, arith, eq-eqb, ne_eqb, bool_byte}
+use mathlib.Core.Path.{◌≡◌, refl, sym, ap, ap₂, ◌∙◌}
+use mathlib.Core.Bool.{Bool, true, false, cond, not, ◌&&◌}
+use mathlib.Core.List.{List}
+use Prim.Native.Nat.{ℕ, zero, suc, ◌+◌, ◌-◌, ◌*◌, ◌/◌, ◌%◌, ◌≤◌, ◌<◌}
+use native.Mathlib.Omega.{arith}
+use lib.Bits.{bit_and}
+use lib.Dec.{eqb, lit≤}
+use lib.ListN.{length, get_or, take, drop, length-drop}
+use lib.Seq.{length-take-le, get_or-take, get_or-drop}
 use Rattle.words.specs.Below.{every_below}
 use Rattle.words.specs.Words.{word_at}
 use Rattle.words.proofs.Below.{every_next, every_same, every_at, every_all}
-use Rattle.words.proofs.Tests.{both, both_zero}
-use Rattle.words.proofs.Without.{or_odd}
-use Rattle.words.proofs.Zero.{or_none}
+use Rattle.words.proofs.Tests.{both}
 use Rattle.register_words.specs.Asked.{bl_place, side_sum, zero_bits}
 use Rattle.register_words.specs.Sdr1.{sdr1_shape}
 use Rattle.register_words.specs.Block.{bl_width, off, block_shape, clash}
 use Rattle.register_words.proofs.Blocks.{off_shape, off_clash}
-use Rattle.registers.specs.Set.{is_page, is_long, block_pairs, side_start, upper_of, lower_of, side_shape, pair_apart, side_apart, sdr1_of, segments_shape, check_words}
-use Rattle.registers.specs.Set.{register_words}
+use Rattle.registers.specs.Set.{is_page, is_long, block_pairs, side_start, upper_of, lower_of, side_shape, pair_apart, side_apart, sdr1_of, segments_shape, check_words, register_words}
 use Rattle.registers.proofs.Wide.{apart_wide}
 use Rattle.register_pages.specs.declared.Side.{Side}
 use Rattle.register_pages.specs.Side.{side_byte, upper_at, lower_at, pairs_off, pairs_shape, apart_from, pairs_apart, Gathered, blocks_refusal}
@@ -51,36 +54,6 @@ times_most (suc (suc s)) h l = absurd (omega arith)
 pub half_whole : (t : Bool) → ((8 * block_pairs t) % 32 ≡ 0) × (8 * block_pairs t ≤ 64)
 half_whole true = (refl, lit≤ tt)
 half_whole false = (refl, lit≤ tt)
-
--- ---- what is broken: the lowest bit tells that two blocks share an address, those above it that one has not its shape
-
-abbrev pub shaped : ℕ → Bool
-shaped broken = eqb (broken / 2) 0
-
-abbrev pub unshared : ℕ → Bool
-unshared broken = eqb (broken % 2) 0
-
--- bits are added of which none is the lowest
-module _ (broken wrong : ℕ) (even : wrong % 2 ≡ 0) where
-  pub wrong_shaped : shaped (bit_or broken wrong) ≡ (shaped broken && eqb wrong 0)
-  wrong_shaped =
-      both_zero (bit_or broken wrong / 2) (broken / 2) wrong
-      (λ e. let (p, q) = or_none (broken / 2) (wrong / 2) (sym (or_shr broken wrong 1) ∙ e) in (p, omega (arith, q, even)))
-      (λ p q. or_shr broken wrong 1 ∙ ap₂ bit_or p (ap (λ (n : ℕ). n / 2) q) ∙ or_zero_l 0)
-
-  pub wrong_unshared : unshared (bit_or broken wrong) ≡ unshared broken
-  wrong_unshared = let last : max (broken % 2) (wrong % 2) ≡ broken % 2 = omega (arith, even) in ap (λ (n : ℕ). eqb n 0) (or_odd broken wrong ∙ last)
-
--- the lowest is added where the blocks of a side are not apart
-pub flag_shaped : (broken : ℕ) (apart : Bool) → shaped (bit_or broken (bool_byte (not apart))) ≡ shaped broken
-flag_shaped broken true = ap shaped (or_zero_r broken)
-flag_shaped broken false = ap (λ (n : ℕ). eqb n 0) (or_shr broken 1 1 ∙ or_zero_r (broken / 2))
-
-pub flag_unshared : (broken : ℕ) (apart : Bool) → unshared (bit_or broken (bool_byte (not apart))) ≡ (unshared broken && apart)
-flag_unshared broken true = ap unshared (or_zero_r broken) ∙ sym (and_true (unshared broken))
-flag_unshared broken false =
-    let last : max (broken % 2) 1 ≡ 1 = omega arith in
-    ap (λ (n : ℕ). eqb n 0) (or_odd broken 1 ∙ last) ∙ sym (and_false (unshared broken))
 
 module _ (page : List ℕ) where
   abbrev long : Bool
@@ -177,34 +150,34 @@ module _ (page : List ℕ) where
     shapes n = every_below n (λ s. shape_of (eqb s 1))
 
     -- what the tests of the first n sides told; those of sharing count only where each block has its shape
-    pub record SidesSeen (n broken : ℕ) : Type 0 where
-      pub shape : shaped broken ≡ every_below n (λ s. shape_of (eqb s 1))
-      pub free : every_below n (λ s. shape_of (eqb s 1)) ≡ true → unshared broken ≡ every_below n (λ s. apart_of (eqb s 1))
+    pub record SidesSeen (n : ℕ) (good apart : Bool) : Type 0 where
+      pub shape : good ≡ every_below n (λ s. shape_of (eqb s 1))
+      pub free : every_below n (λ s. shape_of (eqb s 1)) ≡ true → apart ≡ every_below n (λ s. apart_of (eqb s 1))
 
-    pub sides_none : SidesSeen 0 0
+    pub sides_none : SidesSeen 0 true true
     unfolding every_below
     sides_none = record { shape = refl; free = λ e. refl }
 
-    pub sides_more : (s broken next : ℕ) (own : Bool) → SidesSeen s broken → own ≡ shape_of (eqb s 1) → shaped next ≡ (shaped broken && own)
-        → (shape_of (eqb s 1) ≡ true → unshared next ≡ (unshared broken && apart_of (eqb s 1))) → SidesSeen (s + 1) next
-    sides_more s broken next own before own_is next-is more_is =
+    pub sides_more : (s : ℕ) (good apart own more : Bool) → SidesSeen s good apart → own ≡ shape_of (eqb s 1)
+        → (shape_of (eqb s 1) ≡ true → more ≡ (apart && apart_of (eqb s 1))) → SidesSeen (s + 1) (good && own) more
+    sides_more s good apart own more before own_is more_is =
         let step = every_next (λ i. shape_of (eqb i 1)) s in
         record {
-          shape = next-is ∙ ap₂ ◌&&◌ before.shape own_is ∙ sym step;
+          shape = ap₂ ◌&&◌ before.shape own_is ∙ sym step;
           free = λ all.
               let (front, here) = both (shapes s) (shape_of (eqb s 1)) (sym step ∙ all) in
               more_is here ∙ ap (λ (t : Bool). t && apart_of (eqb s 1)) (before.free front) ∙ sym (every_next (λ i. apart_of (eqb i 1)) s);
         }
 
     -- what they come to
-    module _ (broken : ℕ) (seen : SidesSeen 2 broken) where
-      pub sides_wrong : 1 < broken → 3 ≡ blocks_refusal long (register_words page)
+    module _ (good apart : Bool) (seen : SidesSeen 2 good apart) where
+      pub sides_wrong : good ≡ false → 3 ≡ blocks_refusal long (register_words page)
       unfolding blocks_refusal every_below
-      sides_wrong more = rw (sym seen.shape ∙ ne_eqb (broken / 2) 0 (λ z. omega (arith, z, more)))
+      sides_wrong e = rw (sym seen.shape ∙ e)
 
-      pub sides_right : broken < 2 → cond (unshared broken) 0 4 ≡ blocks_refusal long (register_words page)
+      pub sides_right : good ≡ true → cond apart 0 4 ≡ blocks_refusal long (register_words page)
       unfolding blocks_refusal every_below
-      sides_right few = let all = sym seen.shape ∙ eq-eqb (broken / 2) 0 (omega arith) in rw (all, ← seen.free all) (by (unshared broken))
+      sides_right e = let all = sym seen.shape ∙ e in rw (all, ← seen.free all) (by apart)
         where
           by : (t : Bool) → ◌≡◌ {A = ℕ} (cond t 0 4) (cond (not t) 4 0)
           by true = refl

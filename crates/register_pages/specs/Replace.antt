@@ -1,5 +1,5 @@
 -- Replacing one word of a register page, and the page that a register set by value holds.
-use Rattle.words.specs.Basics.{ℕ, ◌*◌, ◌^◌, ◌<◌, ◌≡◌, true, cond, List, eqb, length, get_or, take}
+use Rattle.std.specs.Prelude.{ℕ, ◌*◌, ◌^◌, ◌<◌, true, cond, List, ◌≡◌, eqb, length, get_or, take}
 use Rattle.numbers.specs.Numbers.{done}
 use Rattle.words.specs.Words.{with_word}
 use Rattle.registers.specs.Set.{is_page, is_long, register_words, replacing}

@@ -1,5 +1,6 @@
 -- The pairs of a side: where they begin on a page, the upper word and the lower word of each by their bytes, and what the check's pass over them tells.
-use Rattle.words.specs.Basics.{ℕ, ◌+◌, ◌*◌, ◌/◌, ◌≡◌, Bool, true, false, cond, not, ◌&&◌, List, [], ◌∷◌, eqb, length, bit_and}
+use Rattle.std.specs.Prelude.{ℕ, ◌+◌, ◌*◌, ◌/◌, Bool, true, false, cond, not, ◌&&◌, List, [], ◌∷◌, ◌≡◌, eqb, length}
+use Rattle.std.specs.Int.Bits.{bit_and}
 use Rattle.numbers.specs.Numbers.{refused_block, refused_blocks_share}
 use Rattle.words.specs.Below.{every_below}
 use Rattle.words.specs.Words.{word_at}

@@ -100,25 +100,25 @@ fn blocks_refusal(page: &[u8]) -> u32
     } else {
         0x1FFC00000000
     };
-    // The bits that must be zero and are not, of which none is the lowest: that one tells that two blocks of a side share an address.
-    let mut broken: u64 = 0;
+    let mut good = true;
+    let mut apart = true;
     for side in 0..2usize {
         let at = 68 + side * half;
         let to = at + half;
         let seen = side_of(&page[at..to], lengths, 32 * side as u64);
         // Of an instruction pair W and G are zero too.
-        broken = broken | (seen.any & (0xFFFFFFFFFFFFFFCC - 0x48 * side as u64));
+        good = good & (seen.any & (0xFFFFFFFFFFFFFFCC - 0x48 * side as u64) == 0);
         if seen.falls != 0 {
-            broken = broken | (!side_apart(&page[at..to]) as u64);
+            apart = apart & side_apart(&page[at..to]);
         }
     }
-    if broken > 1 {
+    if !good {
         return numbers::REFUSED_BLOCK;
     }
-    if broken == 1 {
-        return numbers::REFUSED_BLOCKS_SHARE;
+    if apart {
+        return numbers::DONE;
     }
-    numbers::DONE
+    numbers::REFUSED_BLOCKS_SHARE
 }
 
 // Whether a block of the page is on.

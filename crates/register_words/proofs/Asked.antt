@@ -1,10 +1,11 @@
 -- What is asked of a pair: as many ones as BL has bits, in BEPI's, BL's and BRPN's places. With the place of BL turned they leave nothing of the pair
 -- exactly where BL is ones only at its low end, within its width, and BEPI and BRPN are zero under it. One law has both directions, for any width.
-use Rattle.words.proofs.Basics.{ℕ, suc, ◌+◌, ◌-◌, ◌*◌, ◌/◌, ◌%◌, ◌^◌, ◌<◌, ◌≤◌, ◌≡◌, refl, sym, ap, ap₂, ◌∙◌, eqb, leb, bit_and, bit_or, bit_xor, and_le_l}
-use Rattle.words.proofs.Basics.{and_le_r, and_mask, and_mod, and_shr, and_zero_r, xor_add_and, xor_mod, xor_shr, field, high, low, mod-mod-pow, ones_lt}
-use Rattle.words.proofs.Basics.{ones_split, pow-add, pow_mono, pow_pos, shr-shr, size, size-lt, size_reaches, mod-eq_of_lt, pow-suc, arith, eqb-false, eqb_true}
-use Rattle.words.proofs.Basics.{leb-false, leb-true}
-use lib.Bits.{xor_self, xor_zero_r}
+use Rattle.std.proofs.Common.{◌≡◌, ℕ, suc, ◌+◌, ◌-◌, ◌*◌, ◌/◌, ◌%◌, ◌^◌, ◌<◌, ◌≤◌, eqb, leb, sym, refl, ap, ◌∙◌, ap₂, mod-eq_of_lt, pow-suc, arith, pow_pos, pow_mono, pow-add, shr-shr, eqb-true, leb-false, leb-true}
+use lib.Bits.{bit_and, bit_or, bit_xor, and_mask, and_shr, and_mod, and_le_l, and_le_r, and_zero_r, xor_shr, xor_mod, xor_zero_r, xor_self, xor_add_and}
+use lib.Ieee.{size}
+use lib.Ieee.Digits.{size-lt, size_reaches}
+use lib.Pow.{low, high, field, mod-mod-pow, ones_split, ones_lt}
+use borrow.Author.Tests.{eqb-false}
 use Rattle.words.proofs.Masks.{or_bit}
 use Rattle.words.proofs.Ones.{size_is, size_zero, size_step, size_width}
 use Rattle.words.proofs.Tests.{by_test}
@@ -100,7 +101,7 @@ module _ (w bl : ℕ) where
   -- its highest one
   reaches : 2 ^ n ≤ 2 * bl + 1
   reaches =
-      by_test (eqb bl 0) (λ z. let e = eqb_true bl 0 z in rw (e, size_zero) (omega arith))
+      by_test (eqb bl 0) (λ z. let e = eqb-true bl 0 z in rw (e, size_zero) (omega arith))
       (λ z.
       let step = size_step bl (eqb-false bl 0 z) in
       let most = size_reaches bl (size (bl / 2)) (omega arith) in

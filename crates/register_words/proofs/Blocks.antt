@@ -10,18 +10,18 @@
 --   holds_range: an address is in it exactly where it agrees with the start above the block's bits
 --   covered_share, share_witness: the test for a shared address holds where an address is in both blocks, and gives such an address
 --   covers_clash: two blocks that cover one address for one privilege clash
-use Rattle.words.proofs.Basics.{ℕ, ◌+◌, ◌-◌, ◌*◌, ◌/◌, ◌%◌, ◌^◌, ◌<◌, ◌≤◌, ◌≡◌, refl, sym, ap, ap₂, ◌∙◌, Bool, true, false, cond, not, ◌&&◌, ◌||◌, true≢false}
-use Rattle.words.proofs.Basics.{◌↔◌, eqb, bit_and, bit_or, and_high, and_mask, and_step, and_zero_r, or_lt, pow_mono, pow_pos, shl-shr, shr_mod, shr-shr, split}
-use Rattle.words.proofs.Basics.{size, add-zero, mod-lt, arith, eq-eqb, eqb-false, eqb_true, ne_eqb}
-use lib.Bits.{and_comm, or_comm}
+use Rattle.std.proofs.Common.{◌≡◌, ℕ, ◌+◌, ◌-◌, ◌*◌, ◌/◌, ◌%◌, ◌^◌, ◌<◌, ◌≤◌, Bool, true, false, cond, not, ◌&&◌, ◌||◌, eqb, ◌↔◌, sym, refl, ap, ◌∙◌, ap₂, true≢false, add-zero, mod-lt, arith, pow_pos, pow_mono, shr-shr, eq-eqb, ne_eqb, eqb-true}
+use lib.Bits.{bit_and, bit_or, and_mask, and_high, and_zero_r, and_comm, and_step, or_comm, or_lt}
+use lib.Pow.{split, shl-shr, shr_mod}
+use lib.Ieee.{size}
+use borrow.Author.Tests.{eqb-false}
 use Rattle.words.specs.Bits.{bits}
 use Rattle.words.specs.Ones.{low_ones}
 use Rattle.words.proofs.Ones.{ones_true, ones_width}
 use Rattle.words.proofs.Tests.{both}
 use Rattle.words.proofs.Masks.{and_not_in}
 use Rattle.words.proofs.Without.{or_without, and_without}
-use Rattle.register_words.specs.Block.{bl_width, bepi_of, bl_of, off, upper_shape, lower_shape, block_shape, narrow, in_block, block_physical, share_address}
-use Rattle.register_words.specs.Block.{valid_for, common_v, clash, covers}
+use Rattle.register_words.specs.Block.{bl_width, bepi_of, bl_of, off, upper_shape, lower_shape, block_shape, narrow, in_block, block_physical, share_address, valid_for, common_v, clash, covers}
 
 -- ---- short and long pages: BL of 11 bits is BL of 15 bits whose upper four are zero
 
@@ -50,7 +50,7 @@ shape_wide false side upper lower = go (eqb (bits 15 18 upper) 0) refl
     go : (t : Bool) → eqb (bits 15 18 upper) 0 ≡ t
         → block_shape 11 side upper lower ≡ (off upper || (wide_upper false upper && lower_shape 15 side upper lower))
     go true e =
-        let z = eqb_true (bits 15 18 upper) 0 e in
+        let z = eqb-true (bits 15 18 upper) 0 e in
         rw (bl_same upper z, high_masked upper, z)
     go false e =
         let some : eqb (bit_and upper 0x1E000) 0 ≡ false = ne_eqb (bit_and upper 0x1E000) 0 (λ q. eqb-false (bits 15 18 upper) 0 e (omega (arith, high_masked upper, q))) in
@@ -63,7 +63,7 @@ narrow_by {P} upper e f g = go (off upper) refl e
   where
     go : (t : Bool) → off upper ≡ t → (t || eqb (bits 15 18 upper) 0) ≡ true → P
     go true q r = f q
-    go false q r = g (eqb_true (bits 15 18 upper) 0 r)
+    go false q r = g (eqb-true (bits 15 18 upper) 0 r)
 
 -- a block of a short page's shape is such a pair, and for such a pair every test is the same with BL of 11 and of 15 bits
 pub shape_narrow : (side : Bool) (upper lower : ℕ) → block_shape 11 side upper lower ≡ true → narrow upper ≡ true
@@ -75,7 +75,7 @@ shape_narrow side upper lower e = go (off upper) (sym (shape_wide false side upp
     go false q =
         let (shape, lower-good) = both (wide_upper false upper) (lower_shape 15 side upper lower) q in
         let (ones, clear) = both (low_ones (bl_of 15 upper) && eqb (bit_and upper 0x1E000) 0) (eqb (bit_and (bepi_of upper) (bl_of 15 upper)) 0) shape in
-        let zero_bits = eqb_true (bit_and upper 0x1E000) 0 (both (low_ones (bl_of 15 upper)) (eqb (bit_and upper 0x1E000) 0) ones).1 in
+        let zero_bits = eqb-true (bit_and upper 0x1E000) 0 (both (low_ones (bl_of 15 upper)) (eqb (bit_and upper 0x1E000) 0) ones).1 in
         eq-eqb (bits 15 18 upper) 0 (omega (arith, high_masked upper, zero_bits))
 
 pub shape_same : (side : Bool) (upper lower : ℕ) → narrow upper ≡ true → block_shape 11 side upper lower ≡ block_shape 15 side upper lower
@@ -86,12 +86,12 @@ shape_same side upper lower e =
 
 valid_off : (user : Bool) (upper : ℕ) → off upper ≡ true → valid_for user upper ≡ false
 unfolding off valid_for
-valid_off true upper o = let z = eqb_true (bits 30 31 upper) 0 o in ne_eqb (bits 31 31 upper) 1 (λ q. omega (arith, z, q))
-valid_off false upper o = let z = eqb_true (bits 30 31 upper) 0 o in ne_eqb (bits 30 30 upper) 1 (λ q. omega (arith, z, q))
+valid_off true upper o = let z = eqb-true (bits 30 31 upper) 0 o in ne_eqb (bits 31 31 upper) 1 (λ q. omega (arith, z, q))
+valid_off false upper o = let z = eqb-true (bits 30 31 upper) 0 o in ne_eqb (bits 30 30 upper) 1 (λ q. omega (arith, z, q))
 
 common_off : (upper₁ upper₂ : ℕ) → off upper₁ ≡ true → common_v upper₁ upper₂ ≡ false
 unfolding off common_v
-common_off upper₁ upper₂ o = rw (eqb_true (bits 30 31 upper₁) 0 o)
+common_off upper₁ upper₂ o = rw (eqb-true (bits 30 31 upper₁) 0 o)
 
 common_swap : (upper₁ upper₂ : ℕ) → common_v upper₁ upper₂ ≡ common_v upper₂ upper₁
 unfolding common_v
@@ -144,8 +144,8 @@ module _ (width : ℕ) (wide : width ≤ 15) where
       let a = bl_of width u₁ in
       let b = bl_of width u₂ in
       let x = bits 0 14 address in
-      let s₁ : bit_and x (2 ^ 15 - 1 - a) ≡ bepi_of u₁ = eqb_true _ (bepi_of u₁) in₁ in
-      let s₂ : bit_and x (2 ^ 15 - 1 - b) ≡ bepi_of u₂ = eqb_true _ (bepi_of u₂) in₂ in
+      let s₁ : bit_and x (2 ^ 15 - 1 - a) ≡ bepi_of u₁ = eqb-true _ (bepi_of u₁) in₁ in
+      let s₂ : bit_and x (2 ^ 15 - 1 - b) ≡ bepi_of u₂ = eqb-true _ (bepi_of u₂) in₂ in
       eq-eqb (bit_or (bit_or a b) (bepi_of u₁)) (bit_or (bit_or a b) (bepi_of u₂))
       (ap (bit_or (bit_or a b)) (sym s₁)
       ∙ or_without 15 x a b (omega arith) (bl_lt u₁)
@@ -167,7 +167,7 @@ module _ (width : ℕ) (wide : width ≤ 15) where
   pub start_clear : (upper : ℕ) → upper_shape width upper ≡ true → bit_and (bepi_of upper) (bl_of width upper) ≡ 0
   unfolding upper_shape
   start_clear upper shape =
-      eqb_true _ 0 (both (low_ones (bl_of width upper) && eqb (bits 15 (29 - width) upper) 0) (eqb (bit_and (bepi_of upper) (bl_of width upper)) 0) shape).1
+      eqb-true _ 0 (both (low_ones (bl_of width upper) && eqb (bits 15 (29 - width) upper) 0) (eqb (bit_and (bepi_of upper) (bl_of width upper)) 0) shape).1
 
   pub share_witness : (u₁ u₂ : ℕ) → upper_shape width u₁ ≡ true → upper_shape width u₂ ≡ true → share_address width u₁ u₂ ≡ true
       → (address : ℕ) × ((address < 2 ^ 32) × ((in_block width u₁ address ≡ true) × (in_block width u₂ address ≡ true)))
@@ -179,7 +179,7 @@ module _ (width : ℕ) (wide : width ≤ 15) where
       let q = bepi_of u₂ in
       let p-lt : p < 2 ^ 15 = omega arith in
       let q-lt : q < 2 ^ 15 = omega arith in
-      let e : bit_or (bit_or a b) p ≡ bit_or (bit_or a b) q = eqb_true _ (bit_or (bit_or a b) q) share in
+      let e : bit_or (bit_or a b) p ≡ bit_or (bit_or a b) q = eqb-true _ (bit_or (bit_or a b) q) share in
       let x = bit_or p q in
       let x_lt : x < 2 ^ 15 = or_lt 15 p q p-lt q-lt in
       let top : bits 0 14 (x * 2 ^ 17) ≡ x = omega arith in
@@ -198,12 +198,12 @@ common user u₁ u₂ v₁ v₂ = ap not (ne_eqb (bit_and (bits 30 31 u₁) (bit
     differ : (t : Bool) → eqb (cond t (bits 31 31 u₁) (bits 30 30 u₁)) 1 ≡ true → eqb (cond t (bits 31 31 u₂) (bits 30 30 u₂)) 1 ≡ true
         → bit_and (bits 30 31 u₁) (bits 30 31 u₂) ≡ 0 → ⊥
     differ true e₁ e₂ z =
-        let a = eqb_true (bits 31 31 u₁) 1 e₁ in
-        let b = eqb_true (bits 31 31 u₂) 1 e₂ in
+        let a = eqb-true (bits 31 31 u₁) 1 e₁ in
+        let b = eqb-true (bits 31 31 u₂) 1 e₂ in
         omega (arith, and_step (bits 30 31 u₁) (bits 30 31 u₂))
     differ false e₁ e₂ z =
-        let a = eqb_true (bits 30 30 u₁) 1 e₁ in
-        let b = eqb_true (bits 30 30 u₂) 1 e₂ in
+        let a = eqb-true (bits 30 30 u₁) 1 e₁ in
+        let b = eqb-true (bits 30 30 u₂) 1 e₂ in
         let h₁ : bits 30 31 u₁ / 2 ≡ 1 = omega arith in
         let h₂ : bits 30 31 u₂ / 2 ≡ 1 = omega arith in
         let ones : bit_and (bits 30 31 u₁ / 2) (bits 30 31 u₂ / 2) ≡ 1 = ap₂ bit_and h₁ h₂ in
@@ -224,7 +224,7 @@ module _ (width : ℕ) (wide : width ≤ 15) (upper address : ℕ) (hu : upper <
       let whole : b / 2 ^ k * 2 ^ k ≡ b = sym (add-zero _) ∙ ap (λ (m : ℕ). b / 2 ^ k * 2 ^ k + m) (sym clear) ∙ split b k in
       let x-is : x / 2 ^ k ≡ address / 2 ^ (17 + k) = ap (λ (m : ℕ). m / 2 ^ k) (shr_mod 15 17 ha) ∙ shr-shr address 17 k in
       let b-is : b / 2 ^ k ≡ upper / 2 ^ (17 + k) = ap (λ (m : ℕ). m / 2 ^ k) (shr_mod 15 17 hu) ∙ shr-shr upper 17 k in (
-        (λ e. sym x-is ∙ sym (shl-shr (x / 2 ^ k) k) ∙ ap (λ (m : ℕ). m / 2 ^ k) (sym removed ∙ eqb_true _ b e) ∙ b-is),
+        (λ e. sym x-is ∙ sym (shl-shr (x / 2 ^ k) k) ∙ ap (λ (m : ℕ). m / 2 ^ k) (sym removed ∙ eqb-true _ b e) ∙ b-is),
         (λ e. eq-eqb _ b (removed ∙ ap (λ (m : ℕ). m * 2 ^ k) (x-is ∙ e ∙ sym b-is) ∙ whole)),
       )
 

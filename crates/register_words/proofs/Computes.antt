@@ -2,8 +2,7 @@
 use Rattle.words.proofs.Computes.{words_compute}
 use Rattle.register_words.specs.Sdr1.{sdr1_shape, table_length, mask_ones, hash_bits}
 use Rattle.register_words.specs.Segment.{segment_shape, key_of, no_execute, segment_vsid}
-use Rattle.register_words.specs.Block.{block_attributes, block_pp, off, narrow, valid_for, common_v, upper_shape, lower_shape, block_shape, in_block}
-use Rattle.register_words.specs.Block.{block_physical}
+use Rattle.register_words.specs.Block.{block_attributes, block_pp, off, narrow, valid_for, common_v, upper_shape, lower_shape, block_shape, in_block, block_physical}
 use Rattle.register_words.specs.Block.{share_address, clash, covers}
 use Rattle.register_words.specs.Asked.{pair_ones, last_of}
 

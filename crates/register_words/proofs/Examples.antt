@@ -1,5 +1,5 @@
 -- Every row of the tables of a register word holds: both sides compute to the same.
-use Rattle.words.proofs.Basics.{refl}
+use Rattle.std.proofs.Common.{refl}
 use Rattle.register_words.specs.Examples.{RegisterWordsTables}
 use Rattle.register_words.proofs.Computes.{register_words_compute}
 

@@ -1,8 +1,10 @@
 -- Blocks in the order of their addresses: a block of right shape that begins behind the last 128 KB of another shares no address with it, since an
 -- address in both would lie between.
-use Rattle.words.proofs.Basics.{ℕ, ◌-◌, ◌*◌, ◌/◌, ◌^◌, ◌<◌, ◌≤◌, ◌≡◌, sym, ap, ◌∙◌, Bool, true, false, cond, ◌&&◌, and_false, eqb, lit≤, bit_and, and_le_l}
-use Rattle.words.proofs.Basics.{and_le_r, or_add_and, pow_pos, split, size, mod-lt, arith, eqb_true}
-use lib.Bits.{or_disjoint}
+use Rattle.std.proofs.Common.{◌≡◌, ℕ, ◌-◌, ◌*◌, ◌/◌, ◌^◌, ◌<◌, ◌≤◌, Bool, true, false, cond, ◌&&◌, eqb, sym, ap, ◌∙◌, mod-lt, arith, lit≤, pow_pos, eqb-true}
+use mathlib.Core.Bool.{and-false}
+use lib.Bits.{bit_and, and_le_l, and_le_r, or_add_and, or_disjoint}
+use lib.Ieee.{size}
+use lib.Pow.{split}
 use Rattle.words.specs.Bits.{bits}
 use Rattle.words.specs.Ones.{low_ones}
 use Rattle.words.proofs.Masks.{and_not_in}
@@ -20,7 +22,7 @@ in_first : (upper address : ℕ) → in_block 15 upper address ≡ true → bepi
 unfolding in_block
 in_first upper address e =
     let x = bits 0 14 address in
-    let start = eqb_true (bit_and x (2 ^ 15 - 1 - bl_of 15 upper)) (bepi_of upper) e in
+    let start = eqb-true (bit_and x (2 ^ 15 - 1 - bl_of 15 upper)) (bepi_of upper) e in
     omega (arith, and_le_l x (2 ^ 15 - 1 - bl_of 15 upper))
 
 in_last : (upper address : ℕ) → upper_shape 15 upper ≡ true → in_block 15 upper address ≡ true → bits 0 14 address ≤ last_of upper
@@ -31,7 +33,7 @@ in_last upper address shape e =
     let bl = bl_of 15 upper in
     let k = size bl in
     let ones : bl ≡ 2 ^ k - 1 = ones_true bl (bl_ones 15 fifteen upper shape) in
-    let start : bit_and x (2 ^ 15 - 1 - bl) ≡ b = eqb_true _ b e in
+    let start : bit_and x (2 ^ 15 - 1 - bl) ≡ b = eqb-true _ b e in
     let removed : bit_and x (2 ^ 15 - 1 - bl) ≡ x / 2 ^ k * 2 ^ k =
     ap (λ (m : ℕ). bit_and x (2 ^ 15 - 1 - m)) ones ∙ and_not_in 15 x k (bl_few 15 fifteen upper shape) (omega arith) in
     let clear : bit_and b (2 ^ k - 1) ≡ 0 = ap (bit_and b) (sym ones) ∙ start_clear 15 fifteen upper shape in
@@ -63,7 +65,7 @@ module _ (long side : Bool) (u₁ l₁ u₂ l₂ : ℕ) (on₁ : off u₁ ≡ fa
       let l = share_order u₁ u₂ (shaped_upper long side u₁ l₁ on₁ shape₁) (shaped_upper long side u₂ l₂ on₂ shape₂) e in
       omega arith
       ))
-      (λ e. rw e (and_false (common_v u₁ u₂)))
+      (λ e. rw e (and-false (common_v u₁ u₂)))
 
 -- a block ends where it begins or behind
 pub first_last : (upper : ℕ) → bepi_of upper ≤ last_of upper

@@ -3,8 +3,10 @@
 --   length_is: its table has 65,536 × 2 ^ k bytes
 --   made_shape: an SDR1 made of an origin that 2 ^ k divides and of k ones has the shape
 --   made_ones, made_length: its k, and the length of its table
-use Rattle.words.proofs.Basics.{ℕ, ◌+◌, ◌-◌, ◌*◌, ◌/◌, ◌%◌, ◌^◌, ◌≤◌, ◌≡◌, refl, ap, ◌∙◌, true, bit_and, and_mask, mod-mod-pow, pow_mono, pow_pos, size, arith}
-use Rattle.words.proofs.Basics.{eq-eqb}
+use Rattle.std.proofs.Common.{◌≡◌, ℕ, ◌+◌, ◌-◌, ◌*◌, ◌/◌, ◌%◌, ◌^◌, ◌≤◌, true, refl, ap, ◌∙◌, arith, pow_pos, pow_mono, eq-eqb}
+use lib.Bits.{bit_and, and_mask}
+use lib.Pow.{mod-mod-pow}
+use lib.Ieee.{size}
 use Rattle.words.specs.Ones.{low_ones}
 use Rattle.words.proofs.Ones.{ones_true, true_ones, size_ones, ones_width}
 use Rattle.words.proofs.Tests.{both}

@@ -1,8 +1,9 @@
 -- What is asked of a pair decides its shape: the bits that must be zero are zero exactly where it has the shape of its side's blocks. W and I of one
 -- block, with a one added at I, show in the bit above them.
-use Rattle.words.proofs.Basics.{ℕ, ◌+◌, ◌-◌, ◌*◌, ◌/◌, ◌%◌, ◌^◌, ◌<◌, ◌≤◌, ◌≡◌, refl, sym, ap, ap₂, ◌∙◌, Bool, true, false, cond, not, ◌&&◌, ◌||◌, true≢false}
-use Rattle.words.proofs.Basics.{eqb, ltb, lit≤, bit_and, bit_or, and_high, and_mask, and_mod, and_shr, and_zero_r, field, mod-mod-pow, pow_mono, pow_pos, shr-shr}
-use Rattle.words.proofs.Basics.{split, size, mod-lt, arith, eq-eqb, eqb_true, ltb-false, ltb-true, ne_eqb}
+use Rattle.std.proofs.Common.{◌≡◌, ℕ, ◌+◌, ◌-◌, ◌*◌, ◌/◌, ◌%◌, ◌^◌, ◌<◌, ◌≤◌, Bool, true, false, cond, not, ◌&&◌, ◌||◌, eqb, ltb, sym, refl, ap, ◌∙◌, ap₂, true≢false, mod-lt, arith, lit≤, pow_pos, pow_mono, shr-shr, ltb-false, ltb-true, eq-eqb, ne_eqb, eqb-true}
+use lib.Bits.{bit_and, bit_or, and_mask, and_shr, and_mod, and_high, and_zero_r}
+use lib.Ieee.{size}
+use lib.Pow.{split, field, mod-mod-pow}
 use Rattle.words.specs.Bits.{bits}
 use Rattle.words.specs.Ones.{low_ones}
 use Rattle.words.proofs.Ones.{true_ones, ones_true, ones_width}
@@ -118,8 +119,8 @@ passes_rest side lower e =
     let (zeros, attributes) = both (eqb (bits 15 24 lower) 0 && eqb (bits 29 29 lower) 0) (not (eqb (bits 25 26 lower) 3)) front in
     let (reserved, bit_29) = both (eqb (bits 15 24 lower) 0) (eqb (bits 29 29 lower) 0) zeros in
     record {
-      reserved = eqb_true (bits 15 24 lower) 0 reserved;
-      bit_29 = eqb_true (bits 29 29 lower) 0 bit_29;
+      reserved = eqb-true (bits 15 24 lower) 0 reserved;
+      bit_29 = eqb-true (bits 29 29 lower) 0 bit_29;
       not_both = λ q. true≢false (sym attributes ∙ ap not (eq-eqb (bits 25 26 lower) 3 q));
       no_wg = by_side side sides;
     }
@@ -128,7 +129,7 @@ passes_rest side lower e =
     by_side true h q = absurd (true≢false q)
     by_side false h q =
         let (w, g) = both (eqb (bits 25 25 lower) 0) (eqb (bits 28 28 lower) 0) h in
-        (eqb_true (bits 25 25 lower) 0 w, eqb_true (bits 28 28 lower) 0 g)
+        (eqb-true (bits 25 25 lower) 0 w, eqb-true (bits 28 28 lower) 0 g)
 
 -- the length, by the tests of its parts
 module _ (long : Bool) (pair : ℕ) (fits : pair < 2 ^ 64) where
@@ -165,9 +166,9 @@ module _ (long : Bool) (pair : ℕ) (fits : pair < 2 ^ 64) where
       let (ones, zeros) = both (low_ones bl) (eqb (bit_and upper (cond long 0 0x1E000)) 0) front in
       record {
         only_ones = ones_true bl ones;
-        within = ones_width bl (bl_width long) ones (zeros_wide long (eqb_true (bit_and upper (cond long 0 0x1E000)) 0 zeros));
-        bepi = eqb_true (bit_and (bepi_of upper) bl) 0 bepi;
-        brpn = eqb_true (bit_and (brpn_of lower) bl) 0 clear;
+        within = ones_width bl (bl_width long) ones (zeros_wide long (eqb-true (bit_and upper (cond long 0 0x1E000)) 0 zeros));
+        bepi = eqb-true (bit_and (bepi_of upper) bl) 0 bepi;
+        brpn = eqb-true (bit_and (brpn_of lower) bl) 0 clear;
       }
 
   -- a pair that is on has its shape where its length is right and the rest of its lower word is
@@ -202,7 +203,7 @@ module _ (long : Bool) (pair : ℕ) (fits : pair < 2 ^ 64) where
             → (wide_upper long upper && (eqb (bit_and (brpn_of lower) bl) 0 && rest_test side lower)) ≡ true
         to e =
             let (a, b) = both (eqb (bit_and x (zero_bits side)) 0) (eqb (bit_and more (zero_bits side)) 0) e in
-            let (none, rest) = rest_left x lower x_fits x_low side (eqb_true (bit_and x (zero_bits side)) 0 a) (eqb_true (bit_and more (zero_bits side)) 0 b) in
+            let (none, rest) = rest_left x lower x_fits x_low side (eqb-true (bit_and x (zero_bits side)) 0 a) (eqb-true (bit_and more (zero_bits side)) 0 b) in
             let (good, clear) = length_tests (asked_length (bl_width long) (width_most long) pair fits none) in
             rw (good, clear, rest_passes side lower rest)
 

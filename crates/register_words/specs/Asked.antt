@@ -1,5 +1,6 @@
 -- What the check of a register page asks of a block pair as one number, its upper word in the high half.
-use Rattle.words.specs.Basics.{ℕ, ◌+◌, ◌-◌, ◌*◌, ◌^◌, Bool, cond, bit_or, size}
+use Rattle.std.specs.Prelude.{ℕ, ◌+◌, ◌-◌, ◌*◌, ◌^◌, Bool, cond, bit_or}
+use Rattle.std.specs.Float.Ieee.{size}
 use Rattle.register_words.specs.Block.{bl_of, bepi_of}
 
 -- as many ones as BL has binary digits in the places of BEPI, BL and BRPN at once, and 17 ones at the low end

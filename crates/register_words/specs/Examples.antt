@@ -1,6 +1,6 @@
 -- Tables that pin the definitions of a register word: a good and a bad row for each reserved field and each shape rule, each bit by itself, and
 -- the block edges of cases 8 to 10 (rules 9). Each closes by computation.
-use Rattle.words.specs.Basics.{◌+◌, true, false, [], ◌∷◌, ◌++◌, map, take, replicate}
+use Rattle.std.specs.Prelude.{◌+◌, true, false, [], ◌∷◌, ◌++◌, map, take, replicate}
 use Rattle.words.specs.Rows.{Hold, each_bit, all_but_each, only_at, not_at, field_of_each, field_of_all_but}
 use Rattle.register_words.specs.Sdr1.{sdr1_shape, table_length, hash_bits}
 use Rattle.register_words.specs.Segment.{segment_shape, key_of, no_execute, segment_vsid}

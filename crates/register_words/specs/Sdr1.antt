@@ -1,5 +1,6 @@
 -- SDR1: where the page table lies and how long it is (rules 3).
-use Rattle.words.specs.Basics.{ℕ, ◌+◌, ◌*◌, Bool, ◌&&◌, eqb, bit_and, size}
+use Rattle.std.specs.Prelude.{ℕ, ◌+◌, ◌*◌, Bool, ◌&&◌, ◌==◌, bit_and}
+use Rattle.std.specs.Float.Ieee.{size}
 use Rattle.words.specs.Bits.{bits}
 use Rattle.words.specs.Ones.{low_ones}
 
@@ -13,7 +14,7 @@ mask_of sdr1 = bits 23 31 sdr1
 
 -- the mask is ones only at its low end, bits 16 to 22 are zero, and the origin's bits under a mask one are zero
 unfoldable pub sdr1_shape : ℕ → Bool
-sdr1_shape sdr1 = low_ones (mask_of sdr1) && eqb (bits 16 22 sdr1) 0 && eqb (bit_and (origin_of sdr1) (mask_of sdr1)) 0
+sdr1_shape sdr1 = low_ones (mask_of sdr1) && bits 16 22 sdr1 == 0 && bit_and (origin_of sdr1) (mask_of sdr1) == 0
 
 -- the table has 65,536 × (mask + 1) bytes
 unfoldable pub table_length : ℕ → ℕ

@@ -1,6 +1,6 @@
 // One register word: SDR1, a segment register, and a block pair's upper and lower word; their shapes and what a block covers.
 ghost use Rattle.std.specs.Prelude.{◌≡◌, ◌+◌, ◌-◌, ◌*◌, ◌/◌, ◌%◌, ◌^◌, Bool, true, false, ◌==◌, bit_and};
-ghost use Rattle.register_words.specs.Sdr1.{sdr1_shape, table_length};
+ghost use Rattle.register_words.specs.Sdr1.{sdr1_shape, table_length, hash_bits};
 ghost use Rattle.register_words.specs.Asked.{pair_ones, bl_place, side_sum, zero_bits, last_of};
 ghost use Rattle.register_words.specs.Segment.{no_execute, segment_vsid};
 ghost use Rattle.register_words.specs.Block.{bl_width, off, block_attributes, block_pp, block_shape, clash, covers, in_block, block_physical};
@@ -22,6 +22,14 @@ pub fn table_length(sdr1: u32) -> usize
     ensures { result ≡ table_length sdr1 }
 {
     65536 * ((sdr1 % 512) as usize + 1)
+}
+
+// The ones that a hash is masked with: the mask of SDR1 and ten ones below it.
+pub fn hash_mask(sdr1: u32) -> u32
+    requires { sdr1_shape sdr1 ≡ true }
+    ensures { result ≡ 2 ^ hash_bits sdr1 - 1 }
+{
+    ((sdr1 & 0x1FF) << 10) | 0x3FF
 }
 
 // Whether N of a segment register is one: nothing is fetched from the segment.

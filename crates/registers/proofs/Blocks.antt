@@ -1,5 +1,9 @@
 -- The tests of blocks decide what they are meant to: two pairs that cover one address would clash, so that a checked set has at most one.
-use Rattle.words.proofs.Basics.{ℕ, ◌-◌, ◌<◌, ◌≤◌, ◌≡◌, sym, ap, ◌∙◌, Bool, true, not, true≢false, ⊎_elim, List}
+use Prim.Native.Nat.{ℕ, ◌-◌, ◌≤◌, ◌<◌}
+use mathlib.Core.Bool.{Bool, true, not, true≢false}
+use mathlib.Core.List.{List}
+use mathlib.Core.Logic.{⊎_elim}
+use mathlib.Core.Path.{◌≡◌, sym, ap, ◌∙◌}
 use Rattle.words.proofs.Below.{every_at}
 use Rattle.words.proofs.Tests.{three}
 use Rattle.register_words.specs.Block.{clash}

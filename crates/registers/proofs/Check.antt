@@ -1,8 +1,16 @@
 -- The check answers 0 exactly where the set is good: each rule that is kept says its part, and two blocks of right shape that clash would cover one
 -- address for one privilege.
-use Rattle.words.proofs.Basics.{ℕ, ◌+◌, ◌-◌, ◌*◌, ◌/◌, ◌%◌, ◌^◌, ◌<◌, ◌≤◌, ◌≡◌, sym, ap, ◌∙◌, subst, Bool, true, false, cond, not, ◌&&◌, ◌||◌, true≢false, ◌↔◌}
-use Rattle.words.proofs.Basics.{List, eqb, ltb, lit≤, set, bit_and, and_le_l, and_le_r, and_mask, and_step, mod-mod-pow, pow_mono, arith, eq-eqb, eqb-false}
-use Rattle.words.proofs.Basics.{eqb_true, lt-ltb, ne_eqb}
+use Prim.Native.Nat.{ℕ, ◌+◌, ◌-◌, ◌*◌, ◌/◌, ◌%◌, ◌^◌, ◌≤◌, ◌<◌}
+use mathlib.Core.Bool.{Bool, true, false, cond, not, ◌&&◌, ◌||◌, true≢false}
+use mathlib.Core.List.{List}
+use mathlib.Core.Logic.{◌↔◌}
+use mathlib.Core.Path.{◌≡◌, sym, ap, ◌∙◌, subst}
+use native.Mathlib.Omega.{arith}
+use lib.Bits.{bit_and, and_mask, and_step, and_le_l, and_le_r}
+use lib.Dec.{eqb, ltb, lit≤}
+use lib.ListN.{set}
+use lib.Pow.{mod-mod-pow, pow_mono}
+use borrow.Author.Tests.{eqb-true, eqb-false, eq-eqb, ne_eqb, lt-ltb}
 use Rattle.words.specs.Ones.{low_ones}
 use Rattle.words.proofs.Below.{every_at, every_all}
 use Rattle.words.specs.Bits.{bits}
@@ -12,8 +20,7 @@ use Rattle.register_words.specs.Segment.{segment_shape}
 use Rattle.register_words.specs.Block.{bl_width, off, upper_shape, lower_shape, block_shape, in_block, common_v, share_address, valid_for, clash, covers}
 use Rattle.register_words.proofs.Sdr1.{mask_is, ones_at_most_9, made_shape}
 use Rattle.register_words.proofs.Blocks.{share_witness}
-use Rattle.registers.specs.Set.{block_pairs, register_count, sdr1_of, segment_of, upper_of, lower_of, segments_shape, side_shape, pair_apart, side_apart}
-use Rattle.registers.specs.Set.{check_words, pair_covers, replacing}
+use Rattle.registers.specs.Set.{block_pairs, register_count, sdr1_of, segment_of, upper_of, lower_of, segments_shape, side_shape, pair_apart, side_apart, check_words, pair_covers, replacing}
 use Rattle.registers.specs.Check.{Sdr1Good, SetGood, CheckDecides, ReplacingDecides}
 use Rattle.registers.proofs.Set.{checked, replaced_number}
 use Rattle.registers.proofs.Blocks.{before}
@@ -27,12 +34,12 @@ module _ (sdr1 : ℕ) where
       let k = mask_ones sdr1 in
       let reserved = eqb (sdr1 / 2 ^ 9 % 2 ^ 7) 0 in
       let (low, under) = both (low_ones (mask_of sdr1) && reserved) (eqb (bit_and (origin_of sdr1) (mask_of sdr1)) 0) shape in
-      let zeros = eqb_true (sdr1 / 2 ^ 9 % 2 ^ 7) 0 (both (low_ones (mask_of sdr1)) reserved low).1 in
+      let zeros = eqb-true (sdr1 / 2 ^ 9 % 2 ^ 7) 0 (both (low_ones (mask_of sdr1)) reserved low).1 in
       let mask = mask_is sdr1 shape in
       let few = ones_at_most_9 sdr1 shape in
       let width : (16 - k) + k ≡ 16 = omega arith in
       let clear : origin_of sdr1 % 2 ^ k ≡ 0 =
-      sym (and_mask (origin_of sdr1) k) ∙ subst (λ (m : ℕ). bit_and (origin_of sdr1) m ≡ 0) mask (eqb_true (bit_and (origin_of sdr1) (mask_of sdr1)) 0 under) in
+      sym (and_mask (origin_of sdr1) k) ∙ subst (λ (m : ℕ). bit_and (origin_of sdr1) m ≡ 0) mask (eqb-true (bit_and (origin_of sdr1) (mask_of sdr1)) 0 under) in
       record { origin = o; ones = k; made = omega arith; few = few; whole = sym (rw width at (mod-mod-pow o (16 - k) k)) ∙ clear }
 
   pub good_shape : Sdr1Good sdr1 → sdr1_shape sdr1 ≡ true
@@ -43,7 +50,7 @@ one_alone : (x y : ℕ) → x < 2 → y < 2 → (x ≡ 1 → y ≡ 1 → ⊥) �
 one_alone x y hx hy n = by_test (eqb x 1) first (λ e. let z = eqb-false x 1 e in omega (arith, and_le_l x y, z))
   where
     first : eqb x 1 ≡ true → bit_and x y ≡ 0
-    first e = by_test (eqb y 1) (λ f. absurd (n (eqb_true x 1 e) (eqb_true y 1 f))) (λ f. let z = eqb-false y 1 f in omega (arith, and_le_r x y, z))
+    first e = by_test (eqb y 1) (λ f. absurd (n (eqb-true x 1 e) (eqb-true y 1 f))) (λ f. let z = eqb-false y 1 f in omega (arith, and_le_r x y, z))
 
 not_both : (x y : ℕ) → eqb x 1 && eqb y 1 ≡ false → x ≡ 1 → y ≡ 1 → ⊥
 not_both x y e p q = true≢false (rw (eq-eqb x 1 p, eq-eqb y 1 q) at e)
@@ -69,8 +76,8 @@ valid_both u₁ u₂ e =
 -- a pair with a V bit is on
 valid_on : (user : Bool) (upper : ℕ) → valid_for user upper ≡ true → off upper ≡ false
 unfolding off valid_for
-valid_on true upper e = ne_eqb (bits 30 31 upper) 0 (λ z. omega (arith, eqb_true (bits 31 31 upper) 1 e, z))
-valid_on false upper e = ne_eqb (bits 30 31 upper) 0 (λ z. omega (arith, eqb_true (bits 30 30 upper) 1 e, z))
+valid_on true upper e = ne_eqb (bits 30 31 upper) 0 (λ z. omega (arith, eqb-true (bits 31 31 upper) 1 e, z))
+valid_on false upper e = ne_eqb (bits 30 31 upper) 0 (λ z. omega (arith, eqb-true (bits 30 30 upper) 1 e, z))
 
 module _ (pairs width : ℕ) (wide : width ≤ 15) (words : List ℕ) where
   on_shape : (side : Bool) (upper lower : ℕ) → block_shape width side upper lower ≡ true → off upper ≡ false

@@ -1,5 +1,5 @@
 -- Every row of the tables of the register set holds: both sides compute to the same.
-use Rattle.words.proofs.Basics.{refl}
+use mathlib.Core.Path.{refl}
 use Rattle.registers.specs.Examples.{RegistersTables}
 use Rattle.registers.proofs.Computes.{registers_compute}
 

@@ -1,5 +1,10 @@
 -- A register page of either length as the set of 49 words: a long page's own, a short page's widened.
-use Rattle.words.proofs.Basics.{ℕ, ◌≡◌, ap, ◌∙◌, Bool, true, false, List, length, eqb-false}
+use mathlib.Core.Path.{◌≡◌, ap, ◌∙◌}
+use mathlib.Core.Bool.{Bool, true, false}
+use mathlib.Core.List.{List}
+use Prim.Native.Nat.{ℕ}
+use lib.ListN.{length}
+use borrow.Author.Tests.{eqb-false}
 use Rattle.words.proofs.Words.{length_words_at}
 use Rattle.registers.specs.Set.{is_page, is_long, register_words, widened, set_words}
 use Rattle.registers.proofs.Set.{short_page, words_short}

@@ -1,6 +1,13 @@
 -- Words that stand where a short page's stand in a set are the page's words widened.
-use Rattle.words.proofs.Basics.{ℕ, ◌+◌, ◌-◌, ◌*◌, ◌<◌, ◌≤◌, ◌≡◌, refl, sym, ap, ◌∙◌, Bool, true, false, List, ltb, length, get_or, ext_get_or, arith, ltb-false}
-use Rattle.words.proofs.Basics.{ltb-true}
+use borrow.Author.Tests.{ltb-true, ltb-false}
+use mathlib.Core.Path.{◌≡◌, refl, sym, ap, ◌∙◌}
+use mathlib.Core.Bool.{Bool, true, false}
+use mathlib.Core.List.{List}
+use Prim.Native.Nat.{ℕ, ◌≤◌, ◌<◌, ◌+◌, ◌-◌, ◌*◌}
+use native.Mathlib.Omega.{arith}
+use lib.Dec.{ltb}
+use lib.ListN.{length, get_or}
+use lib.Seq.{ext_get_or}
 use Rattle.words.specs.Words.{word_at, words_at}
 use Rattle.words.proofs.Words.{length_words_at, get_or_words_at}
 use Rattle.registers.specs.Set.{widened}

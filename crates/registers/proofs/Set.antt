@@ -1,6 +1,13 @@
 -- Laws of the register set: the words of a page, and what a set that passed the check has.
-use Rattle.words.proofs.Basics.{ℕ, ◌<◌, ◌≡◌, refl, Bool, true, false, cond, not, ◌&&◌, ◌||◌, List, eqb, ltb, length, arith, eqb_true, ltb-true, not-false}
+use mathlib.Core.Path.{◌≡◌, refl}
+use mathlib.Core.Bool.{Bool, true, false, cond, not, ◌&&◌, ◌||◌}
+use mathlib.Core.List.{List}
+use Prim.Native.Nat.{ℕ, ◌<◌}
+use native.Mathlib.Omega.{arith}
+use lib.Dec.{eqb, ltb}
+use lib.ListN.{length}
 use Rattle.words.specs.Words.{words_at}
+use borrow.Author.Tests.{not-false, ltb-true, eqb-true}
 use Rattle.words.proofs.Tests.{both}
 use Rattle.register_words.specs.Sdr1.{sdr1_shape}
 use Rattle.registers.specs.Set.{is_page, sdr1_of, segments_shape, side_shape, side_apart, check_words, register_count, register_words, replacing}
@@ -10,8 +17,8 @@ pub short_page : (size : ℕ) → is_page size ≡ true → (size ≡ 196 → �
 short_page size page long = go (eqb size 132) refl page
   where
     go : (t : Bool) → eqb size 132 ≡ t → (t || eqb size 196) ≡ true → size ≡ 132
-    go true e p = eqb_true size 132 e
-    go false e p = absurd (long (eqb_true size 196 p))
+    go true e p = eqb-true size 132 e
+    go false e p = absurd (long (eqb-true size 196 p))
 
 -- the words of a long and of a short page
 pub words_long : (registers : List ℕ) → length registers ≡ 196 → register_words registers ≡ words_at registers 0 49

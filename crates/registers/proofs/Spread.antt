@@ -1,10 +1,14 @@
 -- Laws of a list with zeros between its first part and its last and behind it: where each element stands, and a store.
-use Rattle.words.proofs.Basics.{ℕ, ◌+◌, ◌-◌, ◌<◌, ◌≡◌, refl, sym, ap, ap₂, ◌∙◌, Bool, true, false, cond, List, [], ◌∷◌, ◌++◌, ltb, length, get_or, set, take}
-use Rattle.words.proofs.Basics.{drop, replicate, List·getD-append, length-append, length-drop, length-replicate, drop-set-add, drop-set-lt, get_or-append-add}
-use Rattle.words.proofs.Basics.{get_or-drop, get_or-take, length-take-le, take-set-le, take-set-lt, suc-add, arith, ltb-false, ltb-true}
-use lib.ListN.{get_or-replicate}
-use lib.Seq.{set-append_left}
-use native.Mathlib.Nat.{zero-add}
+use mathlib.Core.Path.{◌≡◌, refl, sym, ap, ap₂, ◌∙◌}
+use mathlib.Core.Bool.{Bool, true, false, cond}
+use mathlib.Core.List.{List, [], ◌∷◌, ◌++◌}
+use Prim.Native.Nat.{ℕ, ◌+◌, ◌-◌, ◌<◌}
+use native.Mathlib.Nat.{zero-add, suc-add}
+use native.Mathlib.Omega.{arith}
+use lib.Dec.{ltb}
+use lib.ListN.{length, get_or, set, take, drop, replicate, get_or-replicate, get_or-append, length-append, length-replicate, length-drop}
+use lib.Seq.{length-take-le, take-set-lt, take-set-le, drop-set-lt, drop-set-add, set-append_left, get_or-append-add, get_or-take, get_or-drop}
+use borrow.Author.Tests.{ltb-true, ltb-false}
 use Rattle.registers.specs.Set.{spread}
 
 -- a store behind the seam of two lists
@@ -36,7 +40,7 @@ module _ (front gap : ℕ) (xs : List ℕ) (full : length xs ≡ front + gap) wh
   -- where each element stands
   pub spread_front : (k : ℕ) → k < front → get_or (spread front gap xs) k 0 ≡ get_or xs k 0
   unfolding spread
-  spread_front k l = List·getD-append (take front xs) (zeros ++ (drop front xs ++ zeros)) 0 k (omega (arith, front_length, l)) ∙ get_or-take front xs k 0 l
+  spread_front k l = get_or-append (take front xs) (zeros ++ (drop front xs ++ zeros)) 0 k (omega (arith, front_length, l)) ∙ get_or-take front xs k 0 l
 
   behind_front : (n : ℕ) → get_or (spread front gap xs) (front + n) 0 ≡ get_or (zeros ++ (drop front xs ++ zeros)) n 0
   unfolding spread
@@ -44,7 +48,7 @@ module _ (front gap : ℕ) (xs : List ℕ) (full : length xs ≡ front + gap) wh
       ap (λ (k : ℕ). get_or (spread front gap xs) (k + n) 0) (sym front_length) ∙ get_or-append-add (take front xs) (zeros ++ (drop front xs ++ zeros)) n 0
 
   pub spread_gap : (n : ℕ) → n < gap → get_or (spread front gap xs) (front + n) 0 ≡ 0
-  spread_gap n l = behind_front n ∙ List·getD-append zeros (drop front xs ++ zeros) 0 n (omega (arith, zeros_length, l)) ∙ get_or-replicate gap n 0 0 l
+  spread_gap n l = behind_front n ∙ get_or-append zeros (drop front xs ++ zeros) 0 n (omega (arith, zeros_length, l)) ∙ get_or-replicate gap n 0 0 l
 
   behind_gap : (n : ℕ) → get_or (spread front gap xs) (front + gap + n) 0 ≡ get_or (drop front xs ++ zeros) n 0
   behind_gap n =
@@ -54,7 +58,7 @@ module _ (front gap : ℕ) (xs : List ℕ) (full : length xs ≡ front + gap) wh
       ∙ get_or-append-add zeros (drop front xs ++ zeros) n 0
 
   pub spread_back : (n : ℕ) → n < gap → get_or (spread front gap xs) (front + gap + n) 0 ≡ get_or xs (front + n) 0
-  spread_back n l = behind_gap n ∙ List·getD-append (drop front xs) zeros 0 n (omega (arith, back_length, l)) ∙ get_or-drop front xs n 0
+  spread_back n l = behind_gap n ∙ get_or-append (drop front xs) zeros 0 n (omega (arith, back_length, l)) ∙ get_or-drop front xs n 0
 
   pub spread_end : (n : ℕ) → n < gap → get_or (spread front gap xs) (front + gap + gap + n) 0 ≡ 0
   spread_end n l =

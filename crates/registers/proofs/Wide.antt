@@ -1,5 +1,9 @@
 -- Laws of BL of 11 bits beside BL of 15 bits: for pairs that are off or have bits 15 to 18 zero every test of a set is the same.
-use Rattle.words.proofs.Basics.{ℕ, ◌<◌, ◌≡◌, refl, ap, Bool, true, false, not, List, arith}
+use mathlib.Core.Path.{◌≡◌, refl, ap}
+use mathlib.Core.Bool.{Bool, true, false, not}
+use mathlib.Core.List.{List}
+use Prim.Native.Nat.{ℕ, ◌<◌}
+use native.Mathlib.Omega.{arith}
 use Rattle.words.proofs.Below.{every_at, every_same, first_same}
 use Rattle.register_words.specs.Block.{bl_width, narrow, block_shape}
 use Rattle.register_words.proofs.Blocks.{shape_narrow, shape_same, clash_same, covers_same}

@@ -1,6 +1,11 @@
 -- Laws of a short page's words as those of a long one: each word stands where the definition says, the pairs that are added are off, and so every
 -- test of the set is the same.
-use Rattle.words.proofs.Basics.{ℕ, ◌+◌, ◌-◌, ◌*◌, ◌<◌, ◌≤◌, ◌≡◌, refl, sym, ap, ap₂, ◌∙◌, Bool, true, false, not, List, length, get_or, set, arith}
+use mathlib.Core.Path.{◌≡◌, refl, sym, ap, ap₂, ◌∙◌}
+use mathlib.Core.Bool.{Bool, true, false, not}
+use mathlib.Core.List.{List}
+use Prim.Native.Nat.{ℕ, ◌+◌, ◌-◌, ◌*◌, ◌<◌, ◌≤◌}
+use native.Mathlib.Omega.{arith}
+use lib.ListN.{length, get_or, set}
 use Rattle.words.specs.Below.{every_below}
 use Rattle.words.proofs.Below.{every_same, every_further, every_all, FirstOf, first_further}
 use Rattle.register_words.specs.Segment.{segment_shape}

@@ -1,5 +1,6 @@
 -- What the tests of blocks decide: refusal 4 speaks of a shared address, and after the check at most one block covers an address.
-use Rattle.words.specs.Basics.{ℕ, ◌+◌, ◌/◌, ◌^◌, ◌<◌, ◌≡◌, Bool, true, ◌↔◌, List, size}
+use Rattle.std.specs.Prelude.{ℕ, ◌+◌, ◌/◌, ◌^◌, ◌<◌, Bool, true, List, ◌↔◌, ◌≡◌}
+use Rattle.std.specs.Float.Ieee.{size}
 use Rattle.register_words.specs.Block.{bl_of, upper_shape, in_block, share_address}
 use Rattle.registers.specs.Set.{check_words, pair_covers}
 

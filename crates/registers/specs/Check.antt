@@ -1,5 +1,5 @@
 -- Exactly when the check of a register set answers 0, and when a word of it is replaced.
-use Rattle.words.specs.Basics.{ℕ, ◌+◌, ◌-◌, ◌*◌, ◌%◌, ◌^◌, ◌<◌, ◌≤◌, ◌≡◌, Bool, true, false, ◌↔◌, List, set}
+use Rattle.std.specs.Prelude.{ℕ, ◌+◌, ◌-◌, ◌*◌, ◌%◌, ◌^◌, ◌≤◌, ◌<◌, Bool, true, false, List, ◌↔◌, ◌≡◌, set}
 use Rattle.numbers.specs.Numbers.{done}
 use Rattle.register_words.specs.Segment.{segment_shape}
 use Rattle.register_words.specs.Block.{bl_width, off, upper_shape, lower_shape}

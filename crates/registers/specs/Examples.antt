@@ -1,6 +1,6 @@
 -- Tables that pin the definitions of the register set: the refusals and each adjacent pair of their order, the pair that covers an address, and the
 -- replacement of a word. Each closes by computation.
-use Rattle.words.specs.Basics.{ℕ, true, false, List, [], ◌∷◌, ◌++◌, map, set, take, drop, replicate}
+use Rattle.std.specs.Prelude.{ℕ, true, false, List, [], ◌∷◌, ◌++◌, map, set, replicate, take, drop}
 use Rattle.numbers.specs.Numbers.{done, refused_sdr1, refused_block, refused_blocks_share, refused_segment, refused_argument}
 use Rattle.words.specs.Rows.{Hold}
 use Rattle.words.specs.Words.{bytes_of}

@@ -1,6 +1,6 @@
 -- The register set as its words: SDR1, sixteen segment registers, the instruction pairs, the data pairs (upper word, then lower).
 -- Over the number of pairs a side and the width of BL (rules 3).
-use Rattle.words.specs.Basics.{ℕ, ◌+◌, ◌*◌, Bool, true, false, cond, not, ◌&&◌, ◌||◌, List, [], ◌∷◌, ◌++◌, eqb, ltb, length, get_or, set, take, drop, replicate}
+use Rattle.std.specs.Prelude.{ℕ, ◌+◌, ◌*◌, Bool, true, false, cond, not, ◌&&◌, ◌||◌, List, [], ◌∷◌, ◌++◌, eqb, ltb, length, get_or, set, take, drop, replicate}
 use Rattle.numbers.specs.Numbers.{refused_sdr1, refused_block, refused_blocks_share, refused_segment, refused_argument}
 use Rattle.numbers.specs.Numbers.{registers_size_short, registers_size_long, register_count_short, register_count_long}
 use Rattle.words.specs.Below.{every_below, first_below}

@@ -1,6 +1,14 @@
 -- What an operand ends with is what the call does, with a cache and without one. A wrong length of the cache is refused first, and with a right one the
 -- call refuses what an access without a cache refuses, and in the same words.
-use Rattle.words.proofs.Basics.{ℕ, ◌≡◌, refl, sym, ap, ap₂, ◌∙◌, subst, Bool, true, false, cond, ◌&&◌, none, List, eqb, length, arith, eq-eqb, ne_eqb}
+use mathlib.Core.Path.{◌≡◌, refl, sym, ap, ap₂, subst, ◌∙◌}
+use mathlib.Core.Bool.{Bool, true, false, cond, ◌&&◌}
+use mathlib.Core.List.{List}
+use mathlib.Core.Option.{none}
+use Prim.Native.Nat.{ℕ}
+use native.Mathlib.Omega.{arith}
+use lib.Dec.{eqb}
+use lib.ListN.{length}
+use borrow.Author.Tests.{eq-eqb, ne_eqb}
 use Rattle.registers.specs.Rules.{first_broken}
 use Rattle.register_words.specs.Sdr1.{mask_ones}
 use Rattle.register_words.specs.Block.{bl_width}

@@ -1,6 +1,12 @@
 -- What is found of a page is what the definition's search and place say, with a cache and without one.
-use Rattle.words.proofs.Basics.{ℕ, ◌+◌, ◌*◌, ◌^◌, ◌≤◌, ◌≡◌, refl, sym, ap, ap₂, ◌∙◌, subst, Bool, true, false, cond, true≢false, Option, none, some, List, []}
-use Rattle.words.proofs.Basics.{◌∷◌, List-as-Memᴰ, List·Memᴰ·head, eqb, length, arith}
+use Prim.Native.Nat.{ℕ, ◌+◌, ◌*◌, ◌^◌, ◌≤◌}
+use mathlib.Core.Path.{◌≡◌, refl, sym, ap, ap₂, subst, ◌∙◌}
+use mathlib.Core.Bool.{Bool, true, false, cond, true≢false}
+use mathlib.Core.List.{List, [], ◌∷◌, Memᴰ}
+use mathlib.Core.Option.{Option, none, some}
+use native.Mathlib.Omega.{arith}
+use lib.Dec.{eqb}
+use lib.ListN.{length}
 use Rattle.words.specs.Bits.{bits}
 use Rattle.register_words.specs.Sdr1.{table_length, mask_ones, hash_bits}
 use Rattle.groups.proofs.Hash.{group_lt, within_table}

@@ -1,5 +1,10 @@
 -- What an operand answers and leaves by a table and a cache, case by case: a part stops it, its one part is done, or both are.
-use Rattle.words.proofs.Basics.{ℕ, ◌+◌, ◌*◌, ◌≤◌, ◌≡◌, refl, sym, ap, ap₂, ◌∙◌, Bool, true, false, cond, List, length, ne_eqb}
+use Prim.Native.Nat.{ℕ, ◌*◌, ◌+◌, ◌≤◌}
+use mathlib.Core.Path.{◌≡◌, refl, sym, ap, ap₂, ◌∙◌}
+use mathlib.Core.Bool.{Bool, true, false, cond}
+use mathlib.Core.List.{List}
+use lib.ListN.{length}
+use borrow.Author.Tests.{ne_eqb}
 use Rattle.translation.specs.Operand.{first_bytes, over_edge, part_start, stopped, within, across_edge}
 use Rattle.translation.specs.declared.Answer.{Answer}
 use Rattle.translation.specs.declared.decision.Decision.{Decision}

@@ -1,7 +1,14 @@
 -- A part by what the steps before the search come to: what it answers, what decided it, that its group lies in the table, and that taking it is what
 -- the definition takes. A hit takes nothing; a part that went to the table marks the first match, which is still the first match of its page then.
-use Rattle.words.proofs.Basics.{ℕ, ◌+◌, ◌*◌, ◌^◌, ◌<◌, ◌≤◌, ◌≡◌, refl, sym, ap, ap₂, ◌∙◌, subst, Bool, true, false, cond, none, some, List, [], ◌∷◌, List-as-Memᴰ}
-use Rattle.words.proofs.Basics.{List·Memᴰ·head, lit<, length, get_or, arith, lt-ltb}
+use Prim.Native.Nat.{ℕ, ◌+◌, ◌*◌, ◌^◌, ◌≤◌, ◌<◌}
+use mathlib.Core.Path.{◌≡◌, refl, sym, ap, ap₂, subst, ◌∙◌}
+use mathlib.Core.Bool.{Bool, true, false, cond}
+use mathlib.Core.List.{List, [], ◌∷◌, Memᴰ}
+use mathlib.Core.Option.{none, some}
+use native.Mathlib.Omega.{arith}
+use borrow.Author.Tests.{lt-ltb}
+use lib.Dec.{lit<}
+use lib.ListN.{length, get_or}
 use Rattle.words.specs.Bits.{bits}
 use Rattle.entry.specs.Entry.{api_of, page_index, with_marks}
 use Rattle.entry.proofs.Matches.{matched}
@@ -85,7 +92,7 @@ module _ (k kind : ℕ) (wanted : Wanted) (u : List ℕ) (good : GoodTable k u) 
   word = with_marks true (storing kind) x.second
 
   own : MatchOf (layout k) u page x
-  own = members_of (layout k) u page x (subst (List-as-Memᴰ x) (sym are) (List·Memᴰ·head refl))
+  own = members_of (layout k) u page x (subst (Memᴰ x) (sym are) (Memᴰ.head refl))
 
   -- the first match with its marks is still the first
   marked_first : matches_of (layout k) (marked_by k kind (Search wanted) 0 u) page ≡ with_words x (x.first, word) ∷ xs

@@ -1,6 +1,6 @@
 -- A part of an operand as the code holds it, and what an operand answers and leaves, by a table and a cache and what steps 1 to 3 of its parts come to.
 -- A cache of no bytes is none: no page is a hit there, and nothing is loaded.
-use Rattle.words.specs.Basics.{ℕ, ◌+◌, ◌≡◌, Bool, true, false, cond, List, eqb, ltb, length}
+use Rattle.std.specs.Prelude.{ℕ, ◌+◌, Bool, true, false, cond, List, ◌≡◌, eqb, ltb, length}
 use Rattle.numbers.specs.Numbers.{group_entries}
 use Rattle.words.specs.Bits.{bits}
 use Rattle.entry.specs.Entry.{page_index, with_marks}

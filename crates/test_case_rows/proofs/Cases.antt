@@ -1,5 +1,6 @@
 -- Every row of the twelve cases holds: what there is to compute for it computes.
-use Rattle.words.proofs.Basics.{refl, arith}
+use mathlib.Core.Path.{refl}
+use native.Mathlib.Omega.{arith}
 use Rattle.theory_histories.proofs.Computes.{histories_compute}
 use Rattle.test_case_rows.specs.Cases.{case1, cases2to5, case6, case7, cases8to10, case11, case12, one_more, exchanged, TwelveCases}
 use Rattle.test_case_rows.proofs.Pair.{pair_marked, pair_do}

@@ -1,6 +1,14 @@
 -- What calls after a clear answer on a table's bytes, from what the finite map answers: no table is computed.
-use Rattle.words.proofs.Basics.{ℕ, ◌*◌, ◌%◌, ◌^◌, ◌≤◌, ◌≡◌, refl, sym, ap, ap₂, ◌∙◌, Bool, true, ◌&&◌, inr, Option·some-inj, Option·some-ne-none, List, [], ◌∷◌}
-use Rattle.words.proofs.Basics.{map, eqb, length, replicate, arith, eqb_true}
+use Prim.Native.Nat.{ℕ, ◌*◌, ◌%◌, ◌^◌, ◌≤◌}
+use mathlib.Core.Path.{◌≡◌, refl, sym, ap, ap₂, ◌∙◌}
+use mathlib.Core.Bool.{Bool, true, ◌&&◌}
+use mathlib.Core.List.{List, [], ◌∷◌, map}
+use mathlib.Core.Logic.{inr}
+use mathlib.Core.Option.{some_inj, some-ne-none}
+use native.Mathlib.Omega.{arith}
+use lib.Dec.{eqb}
+use lib.ListN.{length, replicate}
+use borrow.Author.Tests.{eqb-true}
 use Rattle.words.proofs.Tests.{both}
 use Rattle.register_words.specs.Sdr1.{table_length}
 use Rattle.register_words.proofs.Sdr1.{made_length, made_shape}
@@ -12,10 +20,9 @@ use Rattle.theory_calls.specs.OnMap.{Map, on_map}
 use Rattle.theory_calls.specs.FirstClear.{clearing, sdr1_with}
 use Rattle.theory_calls.proofs.FirstClear.{clear_is}
 use Rattle.theory_histories.specs.Calls.{Slices, slices, State, on_lent, calling, brought_in, Under}
-use Rattle.theory_histories.specs.Fed.{fed_asked, fed_along, map_calling, seen_in, bytes_step, map_step}
+use Rattle.theory_histories.specs.Fed.{fed_asked, fed_of, map_calling, seen_in, bytes_step, map_step}
 use Rattle.theory_histories.specs.Discipline.{Disciplined}
-use Rattle.theory_histories.specs.Histories.{History, begun}
-use Rattle.theory_histories.proofs.Sweeps.{fed_unlisted}
+use Rattle.theory_histories.specs.Histories.{History}
 use Rattle.theory_histories.proofs.Theorem.{table_refines_map}
 use Rattle.test_case_rows.specs.Cases.{OnTable, answered, Holds}
 
@@ -29,7 +36,7 @@ unfolding brought_in
 all_under sdr1 own [] e = tt
 all_under sdr1 own (request ∷ requests) e =
     let (first, rest) = both (eqb (sdr1_in request) sdr1) (all_bring sdr1 requests) e in (
-      inr (λ brought is. (sym (Option·some-inj.0 is) ∙ eqb_true (sdr1_in request) sdr1 first, λ other lent. absurd (Option·some-ne-none other (sym lent)))),
+      inr (λ brought is. (sym (some_inj.0 is) ∙ eqb-true (sdr1_in request) sdr1 first, λ other lent. absurd (some-ne-none other (sym lent)))),
       all_under sdr1 own requests rest,
     )
 
@@ -40,15 +47,14 @@ all_kept (request ∷ requests) s waiting = (λ a is. absurd (let z : ◌≡◌ 
 
 -- what the finite map answers to calls that follow a clear; they are lent no cache, so its length does not count
 abbrev pub map_answers : ℕ → List (Request (List ℕ)) → List (ℕ × List ℕ)
-map_answers size requests = run map_step (map (fed_unlisted (slices size 0)) (map OnTable requests)) []
+map_answers size requests = run map_step (map (fed_of (slices size 0)) (map OnTable requests)) []
 
-any_cache : (size cache : ℕ) (requests : List (Request (List ℕ))) (s : State) (m : Map)
-    → run map_step (fed_along (slices size cache) (map OnTable requests) s) m ≡ run map_step (map (fed_unlisted (slices size 0)) (map OnTable requests)) m
+any_cache : (size cache : ℕ) (requests : List (Request (List ℕ))) (m : Map)
+    → run map_step (map (fed_of (slices size cache)) (map OnTable requests)) m ≡ run map_step (map (fed_of (slices size 0)) (map OnTable requests)) m
 unfolding map_step map_calling fed_asked
-any_cache size cache [] s m = refl
-any_cache size cache (request ∷ requests) s m =
-    ap (λ (rest : List (ℕ × List ℕ)). (map_step (fed_unlisted (slices size 0) (OnTable request)) m).0 ∷ rest)
-    (any_cache size cache requests (calling (OnTable request) s).state (on_map (fed request) size m).state)
+any_cache size cache [] m = refl
+any_cache size cache (request ∷ requests) m =
+    ap (λ (rest : List (ℕ × List ℕ)). (map_step (fed_of (slices size 0) (OnTable request)) m).0 ∷ rest) (any_cache size cache requests (on_map (fed request) size m).state)
 
 module _ (o k : ℕ) (few : k ≤ 9) (whole : o % 2 ^ k ≡ 0) where
   -- the clear is done and leaves zeros
@@ -71,5 +77,4 @@ module _ (o k : ℕ) (few : k ≤ 9) (whole : o % 2 ^ k ≡ 0) where
       } in
       let size : length t ≡ 65536 * 2 ^ k = long ∙ made_length o k few whole in
       ap₂ (λ (a : ℕ × List ℕ) (rest : List (ℕ × List ℕ)). a ∷ rest) (rw is)
-      (table_refines_map.answers h (all_kept requests _ _) ∙ any_cache (length t) (length s.cache) requests (begun h) []
-      ∙ ap (λ (n : ℕ). map_answers n requests) size ∙ e)
+      (table_refines_map.answers h (all_kept requests _ _) ∙ any_cache (length t) (length s.cache) requests [] ∙ ap (λ (n : ℕ). map_answers n requests) size ∙ e)

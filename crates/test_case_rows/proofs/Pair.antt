@@ -1,7 +1,16 @@
 -- What calls leave in the two groups that their pages have, from those two groups' bytes alone: 128 bytes compute at once, where a table does not.
-use Rattle.words.proofs.Basics.{ℕ, suc, ◌+◌, ◌-◌, ◌*◌, ◌%◌, ◌^◌, ◌≤◌, ◌≡◌, refl, sym, ap, ap₂, ◌∙◌, subst, Bool, true, false, cond, not, ◌&&◌, ◌≢◌, Option}
-use Rattle.words.proofs.Basics.{none, some, List, [], ◌∷◌, ◌++◌, map, eqb, length, take, drop, replicate, length-replicate, replicate-append-replicate, drop_at}
-use Rattle.words.proofs.Basics.{take_at, pow-suc, arith, eqb_true, not-true}
+use Prim.Native.Nat.{ℕ, suc, ◌+◌, ◌-◌, ◌*◌, ◌%◌, ◌^◌, ◌≤◌}
+use mathlib.Core.Path.{◌≡◌, refl, sym, ap, ap₂, ◌∙◌, subst}
+use mathlib.Core.Bool.{Bool, true, false, cond, not, ◌&&◌}
+use mathlib.Core.List.{List, [], ◌∷◌, ◌++◌, map}
+use mathlib.Core.Logic.{◌≢◌}
+use mathlib.Core.Option.{Option, none, some}
+use native.Mathlib.Nat.{pow-suc}
+use native.Mathlib.Omega.{arith}
+use lib.Dec.{eqb}
+use lib.ListN.{length, take, drop, replicate, length-replicate, replicate-append-replicate}
+use lib.Seq.{take_at, drop_at}
+use borrow.Author.Tests.{eqb-true, not-true}
 use Rattle.words.specs.Words.{bytes_of}
 use Rattle.words.proofs.Tests.{both, cond_by}
 use Rattle.entry.specs.Entry.{second_word, matches, free, api_of, with_marks, with_pp}
@@ -26,8 +35,7 @@ use Rattle.theory_calls.specs.Made.{to_clear}
 use Rattle.theory_calls.specs.Request.{MapCall, AnsweredCall, Request, clear, map_page, unmap, protect, look, access, sdr1_in, fed}
 use Rattle.theory_calls.specs.Rules.{refusal}
 use Rattle.theory_calls.specs.Answers.{word_answer}
-use Rattle.theory_calls.specs.OnBytes.{layout, Ended, ended, by_matches, by_option, entry_word, start_of, early_of, part_answer, part_decision, wanted_page, searched}
-use Rattle.theory_calls.specs.OnBytes.{search_in, first_place_in, marked_by, bytes_do, on_bytes}
+use Rattle.theory_calls.specs.OnBytes.{layout, Ended, ended, by_matches, by_option, entry_word, start_of, early_of, part_answer, part_decision, wanted_page, searched, search_in, first_place_in, marked_by, bytes_do, on_bytes}
 use Rattle.theory_calls.specs.FirstClear.{sdr1_with}
 use Rattle.theory_calls.proofs.OnBytes.{taken}
 use Rattle.theory_histories.specs.Calls.{Slices, State, on_lent, calling}
@@ -150,10 +158,10 @@ module _ (k p s : ℕ) where
 
     module _ (page : Page) (own : own_page page ≡ true) where
       p_is : group_number (10 + k) false page ≡ p
-      p_is = eqb_true (group_number (10 + k) false page) p (both (eqb (group_number (10 + k) false page) p) (eqb (group_number (10 + k) true page) s) own).0
+      p_is = eqb-true (group_number (10 + k) false page) p (both (eqb (group_number (10 + k) false page) p) (eqb (group_number (10 + k) true page) s) own).0
 
       s_is : group_number (10 + k) true page ≡ s
-      s_is = eqb_true (group_number (10 + k) true page) s (both (eqb (group_number (10 + k) false page) p) (eqb (group_number (10 + k) true page) s) own).1
+      s_is = eqb-true (group_number (10 + k) true page) s (both (eqb (group_number (10 + k) false page) p) (eqb (group_number (10 + k) true page) s) own).1
 
       same_matches : (t : List ℕ) → matches_of (layout k) t page ≡ matches_of pair_layout (pair_of t) page
       unfolding matches_of matches_in first_of second_of
@@ -289,9 +297,9 @@ module _ (k p s : ℕ) where
           let (here, rest) = both (own_call request && (eqb (sdr1_in request) (sdr1_with o k) && eqb (refusal (fed request) (65536 * 2 ^ k)) 0)) (all_own (sdr1_with o k) requests) own in
           let (mine, more) = both (own_call request) (eqb (sdr1_in request) (sdr1_with o k) && eqb (refusal (fed request) (65536 * 2 ^ k)) 0) here in
           let (same, kept) = both (eqb (sdr1_in request) (sdr1_with o k)) (eqb (refusal (fed request) (65536 * 2 ^ k)) 0) more in
-          let ones : mask_ones (sdr1_in request) ≡ k = ap mask_ones (eqb_true (sdr1_in request) (sdr1_with o k) same) ∙ made_ones o k few whole in
+          let ones : mask_ones (sdr1_in request) ≡ k = ap mask_ones (eqb-true (sdr1_in request) (sdr1_with o k) same) ∙ made_ones o k few whole in
           let does : on_bytes request t ≡ bytes_do k request t =
-          taken request t (ap (refusal (fed request)) long ∙ eqb_true (refusal (fed request) (65536 * 2 ^ k)) 0 kept)
+          taken request t (ap (refusal (fed request)) long ∙ eqb-true (refusal (fed request) (65536 * 2 ^ k)) 0 kept)
           ∙ ap (λ (n : ℕ). bytes_do n request t) ones in
           let next : Shows (on_bytes request t).state (pair_do request (pair_of t)) = rw does (do_shows t long request mine) in
           let left = (calling (OnTable request) s).state in

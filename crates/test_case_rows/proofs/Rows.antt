@@ -1,6 +1,11 @@
 -- A row holds by what there is to compute for it: a number, a refusal for any lent length, the finite map's answers, or the bytes of two groups.
-use Rattle.words.proofs.Basics.{ℕ, suc, ◌+◌, ◌*◌, ◌%◌, ◌^◌, ◌≤◌, ◌≡◌, refl, sym, ap, subst, Bool, true, false, cond, ◌||◌, List, ◌∷◌, eqb, length, eqb-false}
-use Rattle.words.proofs.Basics.{eqb_true}
+use Prim.Native.Nat.{ℕ, suc, ◌+◌, ◌*◌, ◌%◌, ◌^◌, ◌≤◌}
+use mathlib.Core.Path.{◌≡◌, refl, sym, ap, subst}
+use mathlib.Core.Bool.{Bool, true, false, cond, ◌||◌}
+use mathlib.Core.List.{List, ◌∷◌}
+use lib.Dec.{eqb}
+use lib.ListN.{length}
+use borrow.Author.Tests.{eqb-true, eqb-false}
 use Rattle.words.specs.Words.{bytes_of}
 use Rattle.theory_tables.specs.Runs.{Each}
 use Rattle.theory_tables.proofs.Runs.{each_weaker}
@@ -38,8 +43,8 @@ module _ (o k p s : ℕ) where
     one_of_two : (requests : List (Request (List ℕ))) (g : ℕ) (stated : List ℕ) → all_own k p s (sdr1_with o k) (to_clear (sdr1_with o k) ∷ requests) ≡ true
         → (t : Bool) → eqb g p ≡ t → t || eqb g s ≡ true → cond t (pair_after requests zeros).0 (pair_after requests zeros).1 ≡ bytes_of stated
         → Holds (stored (sdr1_with o k) requests g stated)
-    one_of_two requests g stated own true is one e = rw (eqb_true g p is) (primary_holds k p s setting.mirror o setting.few setting.whole requests stated own e)
-    one_of_two requests g stated own false is one e = rw (eqb_true g s one) (secondary_holds k p s setting.mirror o setting.few setting.whole requests stated own e)
+    one_of_two requests g stated own true is one e = rw (eqb-true g p is) (primary_holds k p s setting.mirror o setting.few setting.whole requests stated own e)
+    one_of_two requests g stated own false is one e = rw (eqb-true g s one) (secondary_holds k p s setting.mirror o setting.few setting.whole requests stated own e)
 
     claim_holds : (claim : Claim) → Computes claim → Holds claim
     claim_holds (computes computed stated) e = e

@@ -1,5 +1,5 @@
 -- The twelve cases (rules 9) as rows: a case's number, and a claim that sets what the definitions compute beside what is stated. The calls of a row are whole calls on a table, of which only the length is known before its clear.
-use Rattle.words.specs.Basics.{ℕ, ◌+◌, ◌*◌, ◌≡◌, Bool, true, false, List, [], ◌∷◌, ◌++◌, map, length, replicate}
+use Rattle.std.specs.Prelude.{ℕ, ◌+◌, ◌*◌, Bool, true, false, List, [], ◌∷◌, ◌++◌, map, ◌≡◌, length, replicate}
 use Rattle.numbers.specs.Numbers.{done, data_storage_fault, refused_sdr1, refused_block, refused_full, answer_size, access_answer_size}
 use Rattle.words.specs.Words.{bytes_of}
 use Rattle.entry.specs.Entry.{page_index}

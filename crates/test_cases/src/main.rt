@@ -136,21 +136,11 @@ fn maps_after(one: u32, vsid: u32, index: u32) -> bool {
     full & unmapped & (map_to(0, 2, vsid, index, &mut table) == 0)
 }
 
-// Where the page's entries are in the table of an SDR1.
-fn located(sdr1: u32) -> groups::Located {
-    groups::locate(register_words::table_length(sdr1), VSID, INDEX)
-}
-
-// The address of a group: its table's, and 64 bytes for each group before it.
-fn group_address(table: usize, group: usize) -> usize {
-    table | (group << 6)
-}
-
 fn case1() -> bool {
     let hash = groups::hash_of(VSID, INDEX);
-    let page = located(0x0F980007);
-    let primary = group_address(0x0F980000, page.primary);
-    let secondary = group_address(0x0F980000, page.secondary);
+    let numbers = groups::groups_of(register_words::hash_mask(0x0F980007), hash);
+    let primary = groups::group_address(0x0F980007, numbers.primary);
+    let secondary = groups::group_address(0x0F980007, numbers.secondary);
     (hash == 0x47FE6) & (primary == 0x0F9FF980) & (secondary == 0x0F980640)
 }
 
@@ -197,8 +187,9 @@ fn case5() -> bool {
 }
 
 fn case6() -> bool {
-    let page = located(SDR1);
-    (page.primary == 0x3E6) & (page.secondary == 0x019)
+    let hash = groups::hash_of(VSID, INDEX);
+    let numbers = groups::groups_of(register_words::hash_mask(SDR1), hash);
+    (numbers.primary == 0x3E6) & (numbers.secondary == 0x019)
 }
 
 // Whether clear and check refuse an SDR1 with 2.

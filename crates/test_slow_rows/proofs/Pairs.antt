@@ -1,5 +1,5 @@
 -- Every row of matches in both groups holds: both sides compute to the same.
-use Rattle.words.proofs.Basics.{refl}
+use mathlib.Core.Path.{refl}
 use Rattle.theory_calls.proofs.Computes.{calls_compute}
 use Rattle.test_slow_rows.specs.Pairs.{PairRows}
 

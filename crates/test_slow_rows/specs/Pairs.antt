@@ -1,6 +1,6 @@
 -- Rows of matches in both groups of a page, which take long to compute since its groups lie deep in the table. Each closes by computation; the same is
 -- said of every table by `CallsOnAnyTable` and `AccessStated`.
-use Rattle.words.specs.Basics.{ℕ, List, [], ◌∷◌, ◌++◌, set, drop, replicate}
+use Rattle.std.specs.Prelude.{ℕ, List, [], ◌∷◌, ◌++◌, replicate, set, drop}
 use Rattle.numbers.specs.Numbers.{done, refused_mapped, refused_contradiction}
 use Rattle.words.specs.Rows.{Hold}
 use Rattle.words.specs.Words.{bytes_of}

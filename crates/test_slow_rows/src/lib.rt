@@ -1,1 +1,1 @@
-// No code: runs with a cache that break the discipline, as rows. They stand apart because they take long to compute.
+// No code: runs with a cache that break the discipline, as rows. They stand apart from `cached_calls` because they take half a minute to compute.

@@ -1,7 +1,15 @@
 -- An access with any cache: where it is not done, or no part goes to the table, each part's step is idle; where no part is a hit, each part's search is
 -- that of the table; and where it is done, `Loads` tells what is loaded. An invalidate zeroes one set.
-use Rattle.words.proofs.Basics.{ℕ, ◌+◌, ◌/◌, ◌^◌, ◌<◌, ◌≡◌, refl, sym, ap, ◌∙◌, Bool, true, false, not, true≢false, ◌↔◌, Option, none, List, [], ◌∷◌, eqb, ltb}
-use Rattle.words.proofs.Basics.{length, get_or, replicate, arith, eq-eqb, eqb-false, eqb_true, lt-ltb, ltb-true, ne_eqb, not-false}
+use Prim.Native.Nat.{ℕ, ◌+◌, ◌/◌, ◌^◌, ◌<◌}
+use mathlib.Core.Path.{◌≡◌, refl, sym, ap, ◌∙◌}
+use mathlib.Core.Bool.{Bool, true, false, not, true≢false}
+use mathlib.Core.List.{List, [], ◌∷◌}
+use mathlib.Core.Logic.{◌↔◌}
+use mathlib.Core.Option.{Option, none}
+use native.Mathlib.Omega.{arith}
+use lib.Dec.{eqb, ltb}
+use lib.ListN.{length, get_or, replicate}
+use borrow.Author.Tests.{not-false, eqb-true, eqb-false, eq-eqb, ne_eqb, ltb-true, lt-ltb}
 use Rattle.words.proofs.Tests.{by_test}
 use Rattle.words.specs.Bits.{bits}
 use Rattle.words.specs.Words.{bytes_of}
@@ -24,8 +32,7 @@ use Rattle.cache.proofs.Hits.{zeroed_none, zeroed_apart}
 use Rattle.theory_calls.specs.Request.{AccessCall, access, sdr1_in, fed}
 use Rattle.theory_calls.specs.Rules.{rules}
 use Rattle.theory_calls.specs.Answers.{refused_bytes, answer_refused, access_answer}
-use Rattle.theory_calls.specs.OnBytes.{Ended, ended, by_option, start_of, early_of, part_answer, part_decision, whole_answer, each_part, wanted_page, search_in}
-use Rattle.theory_calls.specs.OnBytes.{first_place_in, marked_by, bytes_do, on_bytes}
+use Rattle.theory_calls.specs.OnBytes.{Ended, ended, by_option, start_of, early_of, part_answer, part_decision, whole_answer, each_part, wanted_page, search_in, first_place_in, marked_by, bytes_do, on_bytes}
 use Rattle.theory_calls.specs.Represents.{GoodTable}
 use Rattle.theory_calls.specs.AnyTable.{HasPart}
 use Rattle.theory_calls.specs.Arguments.{PastRules, AccessGood}
@@ -34,8 +41,7 @@ use Rattle.theory_calls.proofs.TakenCalls.{good_table}
 use Rattle.theory_calls.proofs.Refusals.{whole_past, whole_zeros}
 use Rattle.theory_calls.proofs.Arguments.{past_kept, kept_none, none_kept, low, eleven, numbered, access_decides}
 use Rattle.theory_calls.proofs.Access.{by_early, unmarked, unmarked_decided}
-use Rattle.theory_cache.specs.Cached.{cached_search, cached_place, missed, loaded_by, taken as takenFrom, taken_part, cached_does, cached_refusal, on_cached}
-use Rattle.theory_cache.specs.Cached.{invalidate_call, invalidate_refusal}
+use Rattle.theory_cache.specs.Cached.{cached_search, cached_place, missed, loaded_by, taken as takenFrom, taken_part, cached_does, cached_refusal, on_cached, invalidate_call, invalidate_refusal}
 use Rattle.theory_cache.specs.Shown.{is_hit}
 use Rattle.theory_cache.specs.AnyCache.{goes_to_table, FromTable, IsLoaded, answered_by, shown_by, PartHeld, CallsOnAnyCache}
 use Rattle.theory_cache.proofs.Found.{by_cases}
@@ -127,13 +133,13 @@ module _ (c : AccessCall (List ℕ)) (t cache : List ℕ) where
       → ((number ≡ 0 → ⊥) → P (ended number (t, cache) (answer_refused (λ answer. answer) (access c) number))) → P (on_cached c (t, cache))
   by_refusal P does refuses =
       by_test (eqb number 0)
-      (λ z. let e = eqb_true number 0 z in rw (cached_taken c t cache e) (does e))
+      (λ z. let e = eqb-true number 0 z in rw (cached_taken c t cache e) (does e))
       (λ z. let n = eqb-false number 0 z in rw (cached_refused c t cache number refl n) (refuses n))
 
   -- the cache's length, of an access that is not refused
   right_size : number ≡ 0 → length cache ≡ 2048
   right_size z =
-      by_test (eqb (length cache) 2048) (λ e. eqb_true (length cache) 2048 e)
+      by_test (eqb (length cache) 2048) (λ e. eqb-true (length cache) 2048 e)
       (λ e. absurd (let q : ◌≡◌ {A = ℕ} 11 0 = sym (wrong_refusal c t cache (length t) (length cache) (eqb-false (length cache) 2048 e)) ∙ z in omega arith))
 
   -- past its rules it is not refused by them
@@ -249,7 +255,7 @@ module _ (index : ℕ) (cache : List ℕ) where
   invalidate_where = (
     (λ z.
         let (long, (small, end)) = none_kept own (eleven, (low 6 refl refl, tt)) z in
-        (eqb_true (length cache) 2048 (not-false (eqb (length cache) 2048) long), ltb-true index 65536 (not-false (ltb index 65536) small))),
+        (eqb-true (length cache) 2048 (not-false (eqb (length cache) 2048) long), ltb-true index 65536 (not-false (ltb index 65536) small))),
     (λ (long, small). rw (eq-eqb (length cache) 2048 long, lt-ltb index 65536 small)),
   )
     where

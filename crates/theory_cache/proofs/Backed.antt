@@ -5,8 +5,12 @@
 --   backed_marked: a mark of any page keeps them backed
 --   contradict_marks: marks of the first match do not count where matches are compared
 --   marks_idle: marks that a word has already change nothing
-use Rattle.words.proofs.Basics.{ℕ, ◌+◌, ◌^◌, ◌<◌, ◌≡◌, refl, sym, ap, ap₂, ◌∙◌, subst, Bool, true, false, cond, not, ◌||◌, List, [], ◌∷◌, eqb, lit<, lit≤}
-use Rattle.words.proofs.Basics.{eq-eqb, eqb-false, eqb_true}
+use Prim.Native.Nat.{ℕ, ◌+◌, ◌^◌, ◌<◌}
+use mathlib.Core.Path.{◌≡◌, refl, sym, ap, ap₂, ◌∙◌, subst}
+use mathlib.Core.Bool.{Bool, true, false, not, cond, ◌||◌}
+use mathlib.Core.List.{List, [], ◌∷◌}
+use lib.Dec.{eqb, lit<, lit≤}
+use borrow.Author.Tests.{eqb-true, eqb-false, eq-eqb}
 use Rattle.words.specs.Bits.{bits}
 use Rattle.words.proofs.Tests.{both, by_test}
 use Rattle.entry.specs.Entry.{api_of, rpn_of, wimg_of, pp_of, referenced, changed, with_marks}
@@ -102,7 +106,7 @@ module _ {k : ℕ} {t : List ℕ} {page : Page} {first second : ℕ} (b : Backed
             let m = own_match k kind wanted t x b.xs are in
             let (f, s) = fits k kind wanted t good x m in
             let now = overwrite_first (layout_laws k) t (wanted_page wanted) good x b.xs x.first (with_marks true (storing kind) x.second) are f s m.passes in
-            rw (eqb_true result 0 e)
+            rw (eqb-true result 0 e)
             (record {
               x = with_words x (x.first, with_marks true (storing kind) x.second);
               xs = b.xs;

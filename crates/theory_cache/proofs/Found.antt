@@ -1,6 +1,11 @@
 -- A page that a done part took from the table: its search found a first match that no other contradicts, and the mark of step 7 leaves the page the
 -- same matches, with R of the first set and C as the kind asks.
-use Rattle.words.proofs.Basics.{ℕ, ◌≡◌, refl, sym, ap, ◌∙◌, Bool, true, false, true≢false, Option, none, some, List, [], ◌∷◌, arith}
+use Prim.Native.Nat.{ℕ}
+use mathlib.Core.Path.{◌≡◌, refl, sym, ap, ◌∙◌}
+use mathlib.Core.Bool.{Bool, true, false, true≢false}
+use mathlib.Core.List.{List, [], ◌∷◌}
+use mathlib.Core.Option.{Option, none, some}
+use native.Mathlib.Omega.{arith}
 use Rattle.entry.specs.Entry.{api_of, with_marks}
 use Rattle.entry.proofs.Addresses.{api_lt}
 use Rattle.entry.proofs.Matches.{matched}

@@ -1,7 +1,12 @@
 -- A part of an operand by a backed hit answers as by the search: the entry agrees in RPN, WIMG and PP, which is all that steps 5 to 7 and the record
 -- read of it, and stands in the group that its H names. Only the entry number is another.
-use Rattle.words.proofs.Basics.{ℕ, ◌+◌, ◌≡◌, refl, sym, ap, ap₂, ◌∙◌, subst, Bool, true, false, cond, not, ◌&&◌, Option, none, some, List, [], ◌∷◌, eqb}
-use Rattle.words.proofs.Basics.{eqb-false, eqb_true}
+use Prim.Native.Nat.{ℕ, ◌+◌}
+use mathlib.Core.Path.{◌≡◌, refl, sym, ap, ap₂, ◌∙◌, subst}
+use mathlib.Core.Bool.{Bool, true, false, not, cond, ◌&&◌}
+use mathlib.Core.List.{List, [], ◌∷◌}
+use mathlib.Core.Option.{Option, none, some}
+use lib.Dec.{eqb}
+use borrow.Author.Tests.{eqb-true, eqb-false}
 use Rattle.words.specs.Bits.{bits}
 use Rattle.words.specs.Words.{word_bytes, with_word, bytes_of}
 use Rattle.words.proofs.Tests.{both, by_test}
@@ -45,7 +50,7 @@ module _ (v w : ℕ) (same : agree v w ≡ true) where
   fields =
       let (front, p) = both (eqb (rpn_of v) (rpn_of w) && eqb (wimg_of v) (wimg_of w)) (eqb (pp_of v) (pp_of w)) same in
       let (r, a) = both (eqb (rpn_of v) (rpn_of w)) (eqb (wimg_of v) (wimg_of w)) front in
-      (eqb_true (rpn_of v) (rpn_of w) r, eqb_true (wimg_of v) (wimg_of w) a, eqb_true (pp_of v) (pp_of w) p)
+      (eqb-true (rpn_of v) (rpn_of w) r, eqb-true (wimg_of v) (wimg_of w) a, eqb-true (pp_of v) (pp_of w) p)
 
   module _ (kind : ℕ) (key : Bool) where
     -- an access answers alike by them
@@ -98,6 +103,6 @@ module _ (k : ℕ) (t : List ℕ) (wanted : Wanted) (first second : ℕ) (b : Ba
           let g = group_number (10 + k) x.secondary (wanted_page wanted) in
           let words : (x.first ≡ first_of t g x.entry) × (with_marks true (storing kind) x.second ≡ second_of t g x.entry)
           = (m.first_word_law, marks_idle (storing kind) x.second b.r_set (λ s. b.c_set (has_c s)) ∙ m.second_word) in
-          rw (eqb_true result 0 e)
+          rw (eqb-true result 0 e)
           (mark_first k kind wanted t x b.xs b.are ∙ ap₂ (put_at t g x.entry) words.0 words.1 ∙ stored_own t g x.entry good.bytes)
       go false e = unmarked k kind (Search wanted) result t (eqb-false result 0 e)

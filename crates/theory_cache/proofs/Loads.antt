@@ -1,7 +1,12 @@
 -- What a done access loads into any cache: each part that goes to the table loads its page, with the words of its first match as the mark left them. The
 -- pages of two parts lie in two sets, so the second part leaves what the first loaded.
-use Rattle.words.proofs.Basics.{ℕ, ◌/◌, ◌%◌, ◌≡◌, refl, sym, ap, ap₂, ◌∙◌, subst, Bool, true, false, true≢false, Option, none, some, List, ◌∷◌, eqb, length}
-use Rattle.words.proofs.Basics.{get_or}
+use Prim.Native.Nat.{ℕ, ◌/◌, ◌%◌}
+use mathlib.Core.Path.{◌≡◌, refl, sym, ap, ap₂, ◌∙◌, subst}
+use mathlib.Core.Bool.{Bool, true, false, true≢false}
+use mathlib.Core.List.{List, ◌∷◌}
+use mathlib.Core.Option.{Option, none, some}
+use lib.Dec.{eqb}
+use lib.ListN.{length, get_or}
 use Rattle.words.proofs.Tests.{by_test}
 use Rattle.register_words.specs.Block.{bl_width}
 use Rattle.registers.specs.Set.{block_pairs, register_words}

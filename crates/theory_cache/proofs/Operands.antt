@@ -1,6 +1,10 @@
 -- The answer of an operand of which a part was hit: where every part answers alike and shows the same but for a hit's entry number, the bytes of the
 -- answers are the same but for the last word, which is 8 where the part that answers was hit.
-use Rattle.words.proofs.Basics.{ℕ, ◌≡◌, refl, sym, ap, ◌∙◌, Bool, true, false, cond, not, ◌&&◌, List, eqb}
+use Prim.Native.Nat.{ℕ}
+use mathlib.Core.Path.{◌≡◌, refl, sym, ap, ◌∙◌}
+use mathlib.Core.Bool.{Bool, true, false, not, cond, ◌&&◌}
+use mathlib.Core.List.{List}
+use lib.Dec.{eqb}
 use Rattle.words.specs.Words.{word_bytes, with_word, bytes_of}
 use Rattle.translation.specs.Operand.{over_edge, stopped, within, across_edge, first_bytes, operand_answer}
 use Rattle.translation.specs.declared.Answer.{Answer}

@@ -1,7 +1,14 @@
 -- The parts of an access with a cache whose places are backed by the table: each answers as without the cache and shows the same but for a hit's entry
 -- number; the table is left as without it; and the places of the cache that is left are backed by the table that is left.
-use Rattle.words.proofs.Basics.{ℕ, ◌+◌, ◌≡◌, refl, sym, ap, ap₂, ◌∙◌, subst, Bool, true, false, cond, not, ◌&&◌, ◌⊎◌, inl, inr, none, some, List, eqb, length}
-use Rattle.words.proofs.Basics.{eqb_true}
+use Prim.Native.Nat.{ℕ, ◌+◌}
+use mathlib.Core.Path.{◌≡◌, refl, sym, ap, ap₂, ◌∙◌, subst}
+use mathlib.Core.Bool.{Bool, true, false, not, cond, ◌&&◌}
+use mathlib.Core.List.{List}
+use mathlib.Core.Logic.{◌⊎◌, inl, inr}
+use mathlib.Core.Option.{none, some}
+use lib.Dec.{eqb}
+use lib.ListN.{length}
+use borrow.Author.Tests.{eqb-true}
 use Rattle.words.specs.Bits.{bits}
 use Rattle.words.proofs.Tests.{by_test}
 use Rattle.entry.specs.Entry.{wimg_of, pp_of, changed}
@@ -33,8 +40,7 @@ use Rattle.cache.proofs.Cache.{hit_place, length_loaded, loaded_holds}
 use Rattle.theory_calls.specs.Request.{AccessCall}
 use Rattle.theory_calls.specs.Rules.{on_long_page}
 use Rattle.theory_calls.specs.Answers.{access_answer, without_place, compared}
-use Rattle.theory_calls.specs.OnBytes.{layout, by_matches, start_of, early_of, part_answer, used_by, part_decision, whole_answer, each_part, wanted_page, search_in}
-use Rattle.theory_calls.specs.OnBytes.{first_place_in, marked_by}
+use Rattle.theory_calls.specs.OnBytes.{layout, by_matches, start_of, early_of, part_answer, used_by, part_decision, whole_answer, each_part, wanted_page, search_in, first_place_in, marked_by}
 use Rattle.theory_calls.specs.Represents.{GoodTable}
 use Rattle.theory_calls.proofs.Access.{by_early, wanted_valid, unmarked_decided}
 use Rattle.theory_calls.proofs.Compared.{compared_same}
@@ -217,7 +223,7 @@ module _ (k : ℕ) (c : AccessCall (List ℕ)) (t cache : List ℕ) (good : Good
 
         go : (z : Bool) → eqb result 0 ≡ z → Left
         go true z =
-            let zero = eqb_true result 0 z in
+            let zero = eqb-true result 0 z in
             let told = own-done zero in
             let found = found_at (matches_of (layout k) t (wanted_page wanted)) (done_at kind wanted.key (start_of c second) (search_in k t wanted) (rw e at told)) in
             let here : Found (matches_of (layout k) u (wanted_page wanted)) = subst Found (sym (fresh wanted e)) found in

@@ -1,5 +1,9 @@
 -- The cases of an access with a cache: its refusal by the cache's length, and what it is where it is refused and where not.
-use Rattle.words.proofs.Basics.{ℕ, ◌≡◌, List, length, eq-eqb, ne_eqb}
+use Prim.Native.Nat.{ℕ}
+use mathlib.Core.Path.{◌≡◌}
+use mathlib.Core.List.{List}
+use lib.ListN.{length}
+use borrow.Author.Tests.{eq-eqb, ne_eqb}
 use Rattle.register_words.specs.Sdr1.{mask_ones}
 use Rattle.theory_calls.specs.Request.{AccessCall, access, sdr1_in, fed}
 use Rattle.theory_calls.specs.Rules.{refusal}

@@ -1,5 +1,5 @@
 -- Every row of calls with a cache holds: both sides compute to the same.
-use Rattle.words.proofs.Basics.{refl}
+use mathlib.Core.Path.{refl}
 use Rattle.theory_cache.specs.Rows.{CachedRows}
 use Rattle.theory_cache.proofs.Computes.{cached_calls_compute}
 

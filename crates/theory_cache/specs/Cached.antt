@@ -1,6 +1,7 @@
 -- What an access with a cache does to a lent table and a lent cache, for any bytes, and what an invalidate does to a cache (request 7). A hit takes
 -- the place of the search (step 4); all other steps are those of an access without a cache.
-use Rattle.words.specs.Basics.{ℕ, ◌+◌, ◌^◌, Bool, true, false, cond, not, Option, List, [], ◌∷◌, eqb, ltb, length}
+use Rattle.std.specs.Prelude.{ℕ, ◌+◌, ◌^◌, Bool, true, false, cond, not, List, [], ◌∷◌, eqb, ltb, length}
+use Rattle.std.proofs.Math.Option.{Option}
 use Rattle.numbers.specs.Numbers.{done, refused_argument, refused_lent_length}
 use Rattle.words.specs.Bits.{bits}
 use Rattle.register_words.specs.Sdr1.{mask_ones}

@@ -1,7 +1,8 @@
 -- Rows of whole calls with a cache (request 7): what an access answers, every byte that it leaves in table and cache, and what an invalidate zeroes.
 -- Each closes by computation.
 -- In most rows a table is group 0, or groups 0 and 1; what lies past its end reads as zero. The access is then one that its arguments do not refuse.
-use Rattle.words.specs.Basics.{ℕ, List, [], ◌∷◌, ◌++◌, map, foldl, take, drop, replicate}
+use Rattle.std.specs.Prelude.{ℕ, replicate, take, drop}
+use mathlib.Core.List.{List, [], ◌∷◌, ◌++◌, map, foldl}
 use Rattle.numbers.specs.Numbers.{done, data_storage_fault, instruction_storage_fault, refused_table_length, refused_sdr1, refused_segment, refused_argument}
 use Rattle.numbers.specs.Numbers.{refused_contradiction, refused_lent_length, refused_operand_length}
 use Rattle.words.specs.Rows.{Hold}

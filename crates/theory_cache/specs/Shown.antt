@@ -1,5 +1,5 @@
 -- What is told of an access with a cache: which part of its operand answers, and whether that part is a hit.
-use Rattle.words.specs.Basics.{ℕ, Bool, true, false, not, ◌&&◌, List, eqb, length}
+use Rattle.std.specs.Prelude.{ℕ, Bool, true, false, not, ◌&&◌, List, eqb, length}
 use Rattle.numbers.specs.Numbers.{done}
 use Rattle.register_words.specs.Sdr1.{mask_ones}
 use Rattle.translation.specs.Operand.{over_edge}

@@ -10,8 +10,14 @@
 --   unmarked, parts_unmarked: an access that is not done marks nothing, by one part and by all parts
 --   unmarked_decided: nor does a part decided before the search
 --   access_wrong_length, access_refused, access_taken: what the call leaves after rule 11, after another rule, and where none is broken
-use Rattle.words.proofs.Basics.{ℕ, ◌+◌, ◌≡◌, refl, sym, ap, ◌∙◌, Bool, true, false, cond, not, ◌&&◌, true≢false, List, [], ◌∷◌, ◌++◌, eqb, ltb, length, arith}
-use Rattle.words.proofs.Basics.{eq-eqb, eqb_true, ne_eqb}
+use mathlib.Core.Path.{◌≡◌, refl, sym, ap, ◌∙◌}
+use mathlib.Core.Bool.{Bool, true, false, cond, not, ◌&&◌, true≢false}
+use mathlib.Core.List.{List, [], ◌∷◌, ◌++◌}
+use Prim.Native.Nat.{ℕ, ◌+◌}
+use native.Mathlib.Omega.{arith}
+use lib.Dec.{eqb, ltb}
+use lib.ListN.{length}
+use borrow.Author.Tests.{eq-eqb, ne_eqb, eqb-true}
 use Rattle.register_words.specs.Block.{bl_width}
 use Rattle.registers.specs.Rules.{first_broken}
 use Rattle.register_words.specs.Sdr1.{sdr1_shape, table_length, mask_ones}
@@ -103,7 +109,7 @@ module _ (pairs width : ℕ) (words : List ℕ) (mode kind operand lent : ℕ) w
           → cond range (cond bytes (cond passed (cond long 0 1) (check_words pairs width words)) 12) 6 ≡ 0
           → (operand_in_range operand ≡ true) × (sdr1_shape (sdr1_of words) ≡ true) × (lent ≡ table_length (sdr1_of words)) × (check_words pairs width words ≡ 0)
       go true true true true b p l z =
-          (b, (checked pairs width words (eqb_true _ 0 p)).sdr1, eqb_true lent (table_length (sdr1_of words)) l, eqb_true (check_words pairs width words) 0 p)
+          (b, (checked pairs width words (eqb-true _ 0 p)).sdr1, eqb-true lent (table_length (sdr1_of words)) l, eqb-true (check_words pairs width words) 0 p)
       go true true true false b p l z = absurd (omega arith)
       go true true false long b p l z = absurd (true≢false (sym (eq-eqb _ 0 z) ∙ p))
       go true false passed long b p l z = absurd (omega arith)

@@ -1,7 +1,14 @@
 -- What an access does to any table of bytes: each part answers by the list of its page's matches on the table as lent, and a done operand marks the
 -- first match of each part.
-use Rattle.words.proofs.Basics.{ℕ, ◌+◌, ◌-◌, ◌%◌, ◌^◌, ◌<◌, ◌≤◌, ◌≡◌, refl, sym, ap, ap₂, ◌∙◌, subst, Bool, true, false, cond, true≢false, ◌↔◌, List, [], ◌∷◌}
-use Rattle.words.proofs.Basics.{◌++◌, eqb, lit<, lit≤, length, take, arith, eq-eqb, eqb-false, eqb_true, ne_eqb}
+use Prim.Native.Nat.{ℕ, ◌+◌, ◌-◌, ◌%◌, ◌^◌, ◌≤◌, ◌<◌}
+use mathlib.Core.Path.{◌≡◌, refl, sym, ap, ap₂, ◌∙◌, subst}
+use mathlib.Core.Bool.{Bool, true, false, cond, true≢false}
+use mathlib.Core.Logic.{◌↔◌}
+use mathlib.Core.List.{List, [], ◌∷◌, ◌++◌}
+use native.Mathlib.Omega.{arith}
+use lib.Dec.{eqb, lit<, lit≤}
+use lib.ListN.{length, take}
+use borrow.Author.Tests.{eqb-true, eqb-false, eq-eqb, ne_eqb}
 use Rattle.words.proofs.Tests.{by_test}
 use Rattle.register_words.specs.Block.{bl_width}
 use Rattle.theory_calls.specs.Rules.{on_long_page}
@@ -34,8 +41,7 @@ use Rattle.translation.proofs.Steps.{page_by, after_nothing}
 use Rattle.translation.proofs.Parts.{one_part, two_parts, first_bytes_are, first_stops, one_done, second_stops, both_done, one_answers}
 use Rattle.theory_calls.specs.Request.{AccessCall, access, sdr1_in}
 use Rattle.theory_calls.specs.Answers.{part_words, access_answer}
-use Rattle.theory_calls.specs.OnBytes.{ended, start_of, early_of, whole_answer, each_part, wanted_page, searched, search_in, first_place_in, marked_by, bytes_do}
-use Rattle.theory_calls.specs.OnBytes.{on_bytes}
+use Rattle.theory_calls.specs.OnBytes.{ended, start_of, early_of, whole_answer, each_part, wanted_page, searched, search_in, first_place_in, marked_by, bytes_do, on_bytes}
 use Rattle.theory_calls.specs.Represents.{GoodTable}
 use Rattle.theory_calls.specs.AnyTable.{SameEntry, group_at, first_here, second_here, Matching, SomeMatch, Disagreeing, FirstMatch, Marked, Taken}
 use Rattle.theory_calls.specs.AnyTable.{HasPart, answered, left_by, decided_by, SearchOnAny, FirstOfPart, AccessOnAny}
@@ -330,11 +336,11 @@ module _ (c : AccessCall (List ℕ)) (t : List ℕ) (a : Taken (access c) t) whe
   parts_done : (on_bytes (access c) t).number ≡ 0 → ((parts false).result ≡ 0) × (HasPart c t true → (parts true).result ≡ 0)
   parts_done z =
       let first : (parts false).result ≡ 0 =
-      by_test (eqb (parts false).result 0) (λ e. eqb_true (parts false).result 0 e)
+      by_test (eqb (parts false).result 0) (λ e. eqb-true (parts false).result 0 e)
       (λ e. let n = eqb-false (parts false).result 0 e in absurd (n (sym (result_is _ (first_stops c.address c.length parts decisions n)) ∙ z))) in (
         first,
         λ has.
-            by_test (eqb (parts true).result 0) (λ e. eqb_true (parts true).result 0 e)
+            by_test (eqb (parts true).result 0) (λ e. eqb-true (parts true).result 0 e)
             (λ e. let n = eqb-false (parts true).result 0 e in absurd (n (sym (result_is _ (second_stops c.address c.length parts decisions first (has refl) n)) ∙ z))),
       )
 

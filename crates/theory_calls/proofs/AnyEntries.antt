@@ -1,7 +1,6 @@
 -- Entries of any table, by group and number: a match is a member of the list of a page's matches, the first match is its head, the first free entry is
 -- the one that map takes, and what an edit of all matches or of one entry leaves.
 --   by_matches_law: a proof by the cases of a list of matches, none or a first one
---   groups_are: how many groups a table has
 --   own: the list of a page's matches in the table
 --   as_match: the entry at a group and number as a member; matching-member: it is in the list where it matches
 --   member_matching, member_second: a member is an entry that matches, and its second word is the entry's
@@ -13,8 +12,15 @@
 --   none_free: where it names none, no entry of the page's groups is free
 --   match_edited, others_kept: after an edit of all matches each has its new words, and every other entry is as before
 --   entry_put, all_but_kept: an entry written has its new words, and every other entry is as before
-use Rattle.words.proofs.Basics.{ℕ, suc, ◌+◌, ◌*◌, ◌^◌, ◌<◌, ◌≤◌, ◌≡◌, refl, sym, ap, ap₂, ◌∙◌, subst, Bool, true, false, true≢false, Option, none, some, List}
-use Rattle.words.proofs.Basics.{[], ◌∷◌, List-as-Memᴰ, List·Memᴰ·head, List·Memᴰ·not-nil, List·Memᴰ·tail, eqb, pow-suc, arith, eqb-false, eqb_true}
+use Prim.Native.Nat.{ℕ, suc, ◌+◌, ◌*◌, ◌^◌, ◌≤◌, ◌<◌}
+use mathlib.Core.Path.{◌≡◌, refl, sym, ap, ap₂, ◌∙◌, subst}
+use mathlib.Core.Bool.{Bool, true, false, true≢false}
+use mathlib.Core.List.{List, [], ◌∷◌, Memᴰ}
+use mathlib.Core.Option.{Option, none, some}
+use native.Mathlib.Nat.{pow-suc}
+use native.Mathlib.Omega.{arith}
+use lib.Dec.{eqb}
+use borrow.Author.Tests.{eqb-true, eqb-false}
 use Rattle.matches.specs.Search.{agree, contradict}
 use Rattle.matches.proofs.Agreement.{contradicted, agreeing}
 use Rattle.groups.specs.Page.{Page}
@@ -27,8 +33,7 @@ use Rattle.theory_tables.proofs.First.{first_match_least, first_free_least}
 use Rattle.theory_tables.proofs.Edits.{Edited, each_edited, reads_edited, reads_kept}
 use Rattle.theory_calls.specs.OnBytes.{layout}
 use Rattle.theory_calls.specs.Represents.{GoodTable}
-use Rattle.theory_calls.specs.AnyTable.{SameEntry, in_order, group_at, first_here, second_here, Matching, SomeMatch, Disagreeing, FirstMatch, Free, FirstFree}
-use Rattle.theory_calls.specs.AnyTable.{OthersKept, AllButKept}
+use Rattle.theory_calls.specs.AnyTable.{SameEntry, in_order, group_at, first_here, second_here, Matching, SomeMatch, Disagreeing, FirstMatch, Free, FirstFree, OthersKept, AllButKept}
 use Rattle.theory_calls.proofs.TableLaws.{Word, layout_laws}
 
 -- by a list of matches, keeping the equation
@@ -48,7 +53,7 @@ at_place b c i j l m p q = same_place b c i j l m (omega arith)
 
 module _ (k : ℕ) where
   -- there are 2 ^ (10 + k) groups
-  pub groups_are : groups (layout k) ≡ 2 ^ (10 + k)
+  groups_are : groups (layout k) ≡ 2 ^ (10 + k)
   groups_are = let e : 10 + k ≡ suc (9 + k) = omega arith in rw (e, pow-suc) (omega arith)
 
   module _ (t : List ℕ) (page : Page) where
@@ -57,29 +62,29 @@ module _ (k : ℕ) where
 
     -- ---- matches
 
-    pub member_matching : (x : Match) → List-as-Memᴰ x own → Matching k t page x.secondary x.entry
+    pub member_matching : (x : Match) → Memᴰ x own → Matching k t page x.secondary x.entry
     member_matching x at =
         let m = members_of (layout k) t page x at in
         (m.in_range_law, ap ((layout k).matching x.secondary page) (sym m.first_word_law) ∙ m.passes)
 
-    pub member_second : (x : Match) → List-as-Memᴰ x own → x.second ≡ second_here k t page x.secondary x.entry
+    pub member_second : (x : Match) → Memᴰ x own → x.second ≡ second_here k t page x.secondary x.entry
     member_second x at = (members_of (layout k) t page x at).second_word
 
     -- an entry that matches, as a member
     abbrev pub as_match : Bool → ℕ → Match
     as_match b i = record { secondary = b; entry = i; first = first_here k t page b i; second = second_here k t page b i }
 
-    pub matching_member : (b : Bool) (i : ℕ) → Matching k t page b i → List-as-Memᴰ (as_match b i) own
+    pub matching_member : (b : Bool) (i : ℕ) → Matching k t page b i → Memᴰ (as_match b i) own
     matching_member b i m = member_of (layout k) t page b i m.0 m.1
 
-    head_member : (x : Match) (xs : List Match) → own ≡ x ∷ xs → List-as-Memᴰ x own
-    head_member x xs e = subst (List-as-Memᴰ x) (sym e) (List·Memᴰ·head refl)
+    head_member : (x : Match) (xs : List Match) → own ≡ x ∷ xs → Memᴰ x own
+    head_member x xs e = subst (Memᴰ x) (sym e) (mathlib.Core.List.Memᴰ.head refl)
 
     pub some_match : (x : Match) (xs : List Match) → own ≡ x ∷ xs → SomeMatch k t page
     some_match x xs e = (x.secondary, x.entry, member_matching x (head_member x xs e))
 
     pub no_match_law : own ≡ [] → SomeMatch k t page → ⊥
-    no_match_law e (b, i, m) = List·Memᴰ·not-nil (subst (List-as-Memᴰ (as_match b i)) e (matching_member b i m))
+    no_match_law e (b, i, m) = mathlib.Core.List.Memᴰ.not-nil (subst (Memᴰ (as_match b i)) e (matching_member b i m))
 
     -- the head of the list is the first match
     pub first_of_law : (x : Match) (xs : List Match) → own ≡ x ∷ xs → FirstMatch k t page x.secondary x.entry
@@ -121,7 +126,7 @@ module _ (k : ℕ) where
     disagree x xs e c =
         let (y, at, differ) = contradicted x xs c in
         let here = head_member x xs e in
-        let there : List-as-Memᴰ y own = subst (List-as-Memᴰ y) (sym e) (List·Memᴰ·tail at) in (
+        let there : Memᴰ y own = subst (Memᴰ y) (sym e) (mathlib.Core.List.Memᴰ.tail at) in (
           x.secondary,
           x.entry,
           y.secondary,
@@ -137,8 +142,8 @@ module _ (k : ℕ) where
         go : (d : Bool) → contradict x xs ≡ d → d ≡ true
         go true q = refl
         go false q =
-            absurd (true≢false (sym (agreeing x xs q (as_match b i) (as_match c j) (subst (List-as-Memᴰ (as_match b i)) e (matching_member b i m))
-            (subst (List-as-Memᴰ (as_match c j)) e (matching_member c j n))) ∙ differ))
+            absurd (true≢false (sym (agreeing x xs q (as_match b i) (as_match c j) (subst (Memᴰ (as_match b i)) e (matching_member b i m))
+            (subst (Memᴰ (as_match c j)) e (matching_member c j n))) ∙ differ))
 
     pub disagreeing_some : Disagreeing k t page → SomeMatch k t page
     disagreeing_some (b, i, c, j, m, n, differ) = (b, i, m)
@@ -191,8 +196,8 @@ module _ (k : ℕ) where
 
             go : (p : Bool) → eqb g (group_at k page false) ≡ p → (s : Bool) → eqb g (group_at k page true) ≡ s
                 → SameEntry t (overwrite_each (layout k) page edit own t) g i
-            go true e s f = kept false (eqb_true g (group_at k page false) e) ((layout k).matching false page (first_here k t page false i)) refl
-            go false e true f = kept true (eqb_true g (group_at k page true) f) ((layout k).matching true page (first_here k t page true i)) refl
+            go true e s f = kept false (eqb-true g (group_at k page false) e) ((layout k).matching false page (first_here k t page false i)) refl
+            go false e true f = kept true (eqb-true g (group_at k page true) f) ((layout k).matching true page (first_here k t page true i)) refl
             go false e false f =
                 edited.elsewhere g i (rw groups_are lg) l (eqb-false g (group_at k page false) e) (eqb-false g (group_at k page true) f)
 
@@ -209,7 +214,7 @@ module _ (k : ℕ) where
           where
             go : (p : Bool) → eqb g (group_at k page b) ≡ p → SameEntry t ((layout k).put t (group_at k page b) i u v) g j
             go true e =
-                let is = eqb_true g (group_at k page b) e in
+                let is = eqb-true g (group_at k page b) e in
                 rw is ((layout_laws k).put_other_entry t (group_at k page b) i j u v good (group_in_range (layout_laws k) b page) l lj (λ q. not is q))
             go false e =
                 (layout_laws k).put_other_group t (group_at k page b) g i j u v good (group_in_range (layout_laws k) b page) (rw groups_are lg) l lj

@@ -1,6 +1,12 @@
 -- The rule that decided a part of an access, on any table: each case of the steps is the first whose condition holds, and shows what it went by.
-use Rattle.words.proofs.Basics.{ℕ, ◌+◌, ◌*◌, ◌<◌, ◌≤◌, ◌≡◌, refl, sym, ap, ap₂, ◌∙◌, subst, Bool, true, false, cond, ◌&&◌, true≢false, ⊎_elim, ◌↔◌, List, []}
-use Rattle.words.proofs.Basics.{◌∷◌, eqb, ltb, lit<, arith, eq-eqb, ltb-false, ltb-true}
+use Prim.Native.Nat.{ℕ, ◌+◌, ◌*◌, ◌≤◌, ◌<◌}
+use mathlib.Core.Path.{◌≡◌, refl, sym, ap, ap₂, ◌∙◌, subst}
+use mathlib.Core.Bool.{Bool, true, false, cond, ◌&&◌, true≢false}
+use mathlib.Core.Logic.{◌↔◌, ⊎_elim}
+use mathlib.Core.List.{List, [], ◌∷◌}
+use native.Mathlib.Omega.{arith}
+use lib.Dec.{eqb, ltb, lit<}
+use borrow.Author.Tests.{ltb-true, ltb-false, eq-eqb}
 use Rattle.register_words.specs.Block.{bl_width}
 use Rattle.theory_calls.specs.Rules.{on_long_page}
 use Rattle.words.proofs.Below.{first_passes, first_before}
@@ -29,8 +35,7 @@ use Rattle.translation.specs.declared.decision.Used.{Used}
 use Rattle.translation.proofs.Steps.{fetch_is, block_by, before_real, before_block, before_no_execute, before_search_law, page_by}
 use Rattle.theory_calls.specs.Request.{AccessCall}
 use Rattle.theory_calls.specs.OnBytes.{by_matches, early_of, used_by, wanted_page, searched, search_in, first_place_in}
-use Rattle.theory_calls.specs.AnyTable.{group_at, second_here, SomeMatch, FirstMatch, answered, decided_by, segment_here, page_here, key_here, Covered}
-use Rattle.theory_calls.specs.AnyTable.{Condition, RuleStated}
+use Rattle.theory_calls.specs.AnyTable.{group_at, second_here, SomeMatch, FirstMatch, answered, decided_by, segment_here, page_here, key_here, Covered, Condition, RuleStated}
 use Rattle.theory_calls.specs.AnyTable.{untranslated, by_block, not_executable, unmatched, guarded_fetch, forbidden, allowed}
 use Rattle.theory_calls.proofs.Access.{refused_words}
 use Rattle.theory_calls.proofs.AnyEntries.{by_matches_law, own, some_match, no_match_law, head_is, first_of_law}

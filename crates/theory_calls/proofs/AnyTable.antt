@@ -1,6 +1,14 @@
 -- What each call does to any table of bytes: by the list of the page's matches, whose members are the entries that match and whose head is the first.
-use Rattle.words.proofs.Basics.{ℕ, ◌+◌, ◌*◌, ◌/◌, ◌^◌, ◌<◌, ◌≡◌, refl, sym, ap, ap₂, ◌∙◌, subst, Bool, true, false, cond, ◌||◌, true≢false, ◌↔◌, Option, none}
-use Rattle.words.proofs.Basics.{some, List, [], ◌∷◌, List-as-Memᴰ, List·Memᴰ·head, eqb, lit<, lit≤, length, arith, eq-eqb, eqb-false, eqb_true, ne_eqb}
+use Prim.Native.Nat.{ℕ, ◌+◌, ◌*◌, ◌/◌, ◌^◌, ◌<◌}
+use mathlib.Core.Path.{◌≡◌, refl, sym, ap, ap₂, ◌∙◌, subst}
+use mathlib.Core.Bool.{Bool, true, false, cond, true≢false, ◌||◌}
+use mathlib.Core.Logic.{◌↔◌}
+use mathlib.Core.List.{List, [], ◌∷◌, Memᴰ}
+use mathlib.Core.Option.{Option, none, some}
+use native.Mathlib.Omega.{arith}
+use lib.Dec.{eqb, lit<, lit≤}
+use lib.ListN.{length}
+use borrow.Author.Tests.{eqb-true, eqb-false, eq-eqb, ne_eqb}
 use Rattle.words.specs.Bits.{bits}
 use Rattle.entry.specs.Entry.{second_word, referenced, changed, with_marks, with_pp}
 use Rattle.entry.proofs.Marks.{marks_lt, marks_above, marks_below, marks_referenced, marks_changed}
@@ -28,15 +36,12 @@ use Rattle.translation.specs.declared.Wanted.{Wanted}
 use Rattle.translation.proofs.Stated.{access_as_stated}
 use Rattle.translation.proofs.Steps.{page_by, after_nothing, after_at, outcome_searched}
 use Rattle.theory_calls.specs.Made.{fed_answered}
-use Rattle.theory_calls.specs.Request.{ClearCall, MapCall, ProtectCall, AnsweredCall, AccessCall, Request, clear, map_page, unmap, protect, look, access}
-use Rattle.theory_calls.specs.Request.{sdr1_in, fed}
+use Rattle.theory_calls.specs.Request.{ClearCall, MapCall, ProtectCall, AnsweredCall, AccessCall, Request, clear, map_page, unmap, protect, look, access, sdr1_in, fed}
 use Rattle.theory_calls.specs.Answers.{word_answer, access_answer}
 use Rattle.theory_calls.specs.OnBytes.{layout, Ended, ended, by_matches, entry_word, early_of, wanted_page, searched, marked_by, bytes_do, on_bytes}
 use Rattle.theory_calls.specs.Represents.{GoodTable}
-use Rattle.theory_calls.specs.AnyTable.{group_at, first_here, second_here, Matching, SomeMatch, SomeMatchHas, Disagreeing, FirstMatch, Free, FirstFree}
-use Rattle.theory_calls.specs.AnyTable.{Marked, Taken}
-use Rattle.theory_calls.specs.AnyTable.{ClearOnAny, MapOnAny, UnmapOnAny, ProtectOnAny, LookOnAny, SearchOnAny, AccessOnAny, CallsOnAnyTable}
-use Rattle.theory_calls.specs.AnyTable.{AccessStated}
+use Rattle.theory_calls.specs.AnyTable.{group_at, first_here, second_here, Matching, SomeMatch, SomeMatchHas, Disagreeing, FirstMatch, Free, FirstFree, Marked, Taken}
+use Rattle.theory_calls.specs.AnyTable.{ClearOnAny, MapOnAny, UnmapOnAny, ProtectOnAny, LookOnAny, SearchOnAny, AccessOnAny, CallsOnAnyTable, AccessStated}
 use Rattle.theory_calls.proofs.TakenCalls.{good_table, does, number_of, state_of, answer_of_law, bit_set, r_is, c_is}
 use Rattle.theory_calls.proofs.Rules.{fitting, map_kept, unmap_kept, look_kept, protect_kept}
 use Rattle.theory_calls.proofs.Histories.{sdr1_fed}
@@ -44,8 +49,7 @@ use Rattle.theory_calls.proofs.TableLaws.{Word, layout_laws}
 use Rattle.theory_calls.proofs.Step.{own_fits}
 use Rattle.theory_calls.proofs.AnyAccess.{access_on_any}
 use Rattle.theory_calls.proofs.AnyEntries.{by_matches_law, own, member_matching, member_second, as_match, matching_member, some_match, no_match_law, head_is}
-use Rattle.theory_calls.proofs.AnyEntries.{disagree, contradicts, disagreeing_some, place_free, free_is, none_free, match_edited, others_kept, entry_put}
-use Rattle.theory_calls.proofs.AnyEntries.{all_but_kept}
+use Rattle.theory_calls.proofs.AnyEntries.{disagree, contradicts, disagreeing_some, place_free, free_is, none_free, match_edited, others_kept, entry_put, all_but_kept}
 
 -- by an option, keeping the equation
 by_place : {A X : Type 0} (o : Option A) → (o ≡ none → X) → ((a : A) → o ≡ some a → X) → X

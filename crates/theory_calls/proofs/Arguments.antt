@@ -1,7 +1,13 @@
 -- Each call gets past its rules exactly where what it brings is good: no rule of its list is broken, and each rule's test is read as arithmetic.
-use Rattle.words.proofs.Basics.{ℕ, ◌+◌, ◌-◌, ◌*◌, ◌/◌, ◌^◌, ◌<◌, ◌≤◌, ◌≡◌, refl, sym, ap, ◌∙◌, subst, Bool, true, false, cond, not, ◌&&◌, true≢false, ◌↔◌, List}
-use Rattle.words.proofs.Basics.{[], ◌∷◌, ◌++◌, eqb, ltb, leb, lit≤, length, set, arith, eq-eqb, eqb-false, eqb_true, le-leb, leb-true, lt-ltb, ltb-true, ne_eqb}
-use Rattle.words.proofs.Basics.{not-false}
+use Prim.Native.Nat.{ℕ, ◌+◌, ◌-◌, ◌*◌, ◌/◌, ◌^◌, ◌≤◌, ◌<◌}
+use mathlib.Core.Bool.{Bool, true, false, cond, not, ◌&&◌, true≢false}
+use mathlib.Core.List.{List, [], ◌∷◌, ◌++◌}
+use mathlib.Core.Logic.{◌↔◌}
+use mathlib.Core.Path.{◌≡◌, refl, sym, ap, ◌∙◌, subst}
+use native.Mathlib.Omega.{arith}
+use lib.Dec.{eqb, ltb, leb, lit≤}
+use lib.ListN.{length, set}
+use borrow.Author.Tests.{not-false, eqb-true, eqb-false, eq-eqb, ne_eqb, ltb-true, lt-ltb, leb-true, le-leb}
 use Rattle.words.specs.Words.{word_at, words_at}
 use Rattle.words.proofs.Tests.{both, by_test}
 use Rattle.words.proofs.Words.{get_or_words_at}
@@ -19,8 +25,7 @@ use Rattle.registers.proofs.Set.{short_page}
 use Rattle.registers.proofs.Check.{shape_good, good_shape, check_decides, at_most_15, replacing_decides}
 use Rattle.theory_tables.specs.Runs.{Each}
 use Rattle.theory_calls.specs.Lent.{of_length}
-use Rattle.theory_calls.specs.Request.{ClearCall, MapCall, ProtectCall, AnsweredCall, AccessCall, Request, clear, map_page, unmap, protect, look, access}
-use Rattle.theory_calls.specs.Request.{sdr1_in, fed}
+use Rattle.theory_calls.specs.Request.{ClearCall, MapCall, ProtectCall, AnsweredCall, AccessCall, Request, clear, map_page, unmap, protect, look, access, sdr1_in, fed}
 use Rattle.theory_calls.specs.Made.{fed_answered, fed_access}
 use Rattle.theory_calls.specs.Rules.{on_long_page, page_in_range, write_through_inhibited, map_in_range, operand_in_range, table_rules, rules, refusal}
 use Rattle.theory_calls.specs.WithoutTable.{check_call, set_register_call, pack_call, unpack_call}
@@ -84,7 +89,7 @@ module _ (request : Request (List ℕ)) (t : List ℕ) where
   past_taken : PastRules (on_bytes request t).number ↔ (refuses ≡ 0)
   unfolding refusal
   past_taken = (
-    (λ p. by_test (eqb refuses 0) (λ e. eqb_true refuses 0 e) (λ e.
+    (λ p. by_test (eqb refuses 0) (λ e. eqb-true refuses 0 e) (λ e.
         kept_none (rules (fed request) (length t))
         (past_kept (rules (fed request) (length t)) (numbered (fed request) (length t)) (subst PastRules (number_of (refused request t refuses refl (eqb-false refuses 0 e))) p)))),
     (λ e. rw (number_of (taken request t e)) (does_past (mask_ones (sdr1_in request)) request t)),
@@ -100,15 +105,15 @@ past_iff request t to from = ((λ p. to ((past_taken request t).0 p)), λ g. (pa
 good_length : (sdr1 : ℕ) (g : Sdr1Good sdr1) → table_length sdr1 ≡ 65536 * 2 ^ g.ones
 good_length sdr1 g = ap table_length g.made ∙ made_length g.origin g.ones g.few g.whole
 
-pub table_fits : (sdr1 lent : ℕ) → TableGood sdr1 lent → Fitting sdr1 lent
+table_fits : (sdr1 lent : ℕ) → TableGood sdr1 lent → Fitting sdr1 lent
 table_fits sdr1 lent g = record { shape = good_shape sdr1 g.shape; long = g.long ∙ sym (good_length sdr1 g.shape) }
 
-pub fits_table : (sdr1 lent : ℕ) → Fitting sdr1 lent → TableGood sdr1 lent
+fits_table : (sdr1 lent : ℕ) → Fitting sdr1 lent → TableGood sdr1 lent
 fits_table sdr1 lent f = let g = shape_good sdr1 f.shape in record { shape = g; long = f.long ∙ good_length sdr1 g }
 
 -- a page's length tells whether it is long
 page_size_law : (n : ℕ) → is_page n ≡ true → n ≡ cond (is_long n) 196 132
-page_size_law n e = by_test (eqb n 196) (λ l. rw l (eqb_true n 196 l)) (λ s. rw s (short_page n e (eqb-false n 196 s)))
+page_size_law n e = by_test (eqb n 196) (λ l. rw l (eqb-true n 196 l)) (λ s. rw s (short_page n e (eqb-false n 196 s)))
 
 size_page : (long : Bool) (n : ℕ) → n ≡ cond long 196 132 → (is_page n ≡ true) × (is_long n ≡ long)
 size_page true n e = rw e (refl, refl)
@@ -178,7 +183,7 @@ module _ (lent : ℕ) where
   unmap_good : (c : AnsweredCall (List ℕ)) → refusal (unmap (fed_answered c)) lent ≡ 0 → AnsweredGood c lent
   unfolding refusal rules sdr1_in
   unmap_good c e = record {
-    answer = eqb_true (length c.answer) 16 (not-false (eqb (length c.answer) 16) (none_kept (rules (unmap (fed_answered c)) lent) (numbered (unmap (fed_answered c)) lent) e).0);
+    answer = eqb-true (length c.answer) 16 (not-false (eqb (length c.answer) 16) (none_kept (rules (unmap (fed_answered c)) lent) (numbered (unmap (fed_answered c)) lent) e).0);
     page = unmap_kept lent (fed_answered c) e;
     table = fits_table c.sdr1 lent (fitting (unmap (fed_answered c)) lent e);
   }
@@ -207,7 +212,7 @@ module _ (lent : ℕ) where
       let (some, few) = both (ltb 0 c.length) (leb c.length 128) (not-false _ operand) in
       let passed = kept_none (register_rules (block_pairs (on_long_page c)) (bl_width (on_long_page c)) words) (k₂, (k₃, (k₄, (k₅, tt)))) in
       record {
-        answer = eqb_true (length c.answer) 48 answer;
+        answer = eqb-true (length c.answer) 48 answer;
         kind_lt = ltb-true c.kind 3 kind;
         some = ltb-true 0 c.length some;
         few = leb-true c.length 128 few;
@@ -283,7 +288,7 @@ set_iff registers number word = (
 lent_iff : (n : ℕ) (lent : List ℕ) (given : ℕ × List ℕ) (P : Type 0) → (given.0 ≡ 0) ↔ P → ((of_length n lent given).0 ≡ 0) ↔ ((length lent ≡ n) × P)
 lent_iff n lent given P iff = (
   (λ e. by_test (eqb (length lent) n)
-      (λ q. let h = eqb_true (length lent) n q in (h, iff.0 (sym (ap (λ (x : ℕ × List ℕ). x.0) (right_length n lent given h)) ∙ e)))
+      (λ q. let h = eqb-true (length lent) n q in (h, iff.0 (sym (ap (λ (x : ℕ × List ℕ). x.0) (right_length n lent given h)) ∙ e)))
       (λ q. absurd (let z : ◌≡◌ {A = ℕ} 11 0 = sym (ap (λ (x : ℕ × List ℕ). x.0) (wrong_length n lent given (eqb-false (length lent) n q))) ∙ e in omega arith))),
   (λ g. ap (λ (x : ℕ × List ℕ). x.0) (right_length n lent given g.0) ∙ iff.1 g.1),
 )

@@ -1,5 +1,12 @@
 -- What is compared of an access's answer: the rule is read where it was written, and where an entry was used its place is not seen.
-use Rattle.words.proofs.Basics.{ℕ, ◌<◌, ◌≤◌, ◌≡◌, refl, sym, ap, ap₂, ◌∙◌, Bool, true, false, cond, List, [], eqb, leb, take, arith, leb-false}
+use Prim.Native.Nat.{ℕ, ◌<◌, ◌≤◌}
+use mathlib.Core.Path.{◌≡◌, refl, sym, ap, ap₂, ◌∙◌}
+use mathlib.Core.Bool.{Bool, true, false, cond}
+use mathlib.Core.List.{List, []}
+use native.Mathlib.Omega.{arith}
+use lib.Dec.{eqb, leb}
+use lib.ListN.{take}
+use borrow.Author.Tests.{leb-false}
 use Rattle.words.specs.Words.{word_bytes, word_at, bytes_of}
 use Rattle.words.proofs.Words.{own_bytes}
 use Rattle.translation.specs.declared.Answer.{Answer}

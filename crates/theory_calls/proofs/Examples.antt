@@ -1,5 +1,5 @@
 -- Every row of the calls holds: both sides compute to the same.
-use Rattle.words.proofs.Basics.{refl}
+use mathlib.Core.Path.{refl}
 use Rattle.theory_calls.specs.Examples.{WithoutTableTables}
 use Rattle.theory_calls.specs.PageRows.{PageRows}
 use Rattle.theory_calls.specs.OperandRows.{OperandRows}

@@ -1,5 +1,8 @@
 -- The second entry word of a page's fields follows the fields: it fits, marks and protection change both alike.
-use Rattle.words.proofs.Basics.{ℕ, ◌^◌, ◌<◌, ◌≡◌, refl, ap, ◌∙◌, Bool, true, false, cond, ◌||◌, lit<}
+use Prim.Native.Nat.{ℕ, ◌^◌, ◌<◌}
+use mathlib.Core.Path.{◌≡◌, refl, ap, ◌∙◌}
+use mathlib.Core.Bool.{Bool, true, false, cond, ◌||◌}
+use lib.Dec.{lit<}
 use Rattle.entry.specs.Entry.{second_word, with_marks, with_pp}
 use Rattle.entry.proofs.Packing.{second_lt}
 use Rattle.entry.proofs.Marks.{marks_packed, pp_packed}

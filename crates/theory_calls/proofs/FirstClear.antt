@@ -1,6 +1,13 @@
 -- A clear that was done: its SDR1 has its shape and the lent slice the SDR1's length; an SDR1 of 32 bits is then an origin and some ones.
-use Rattle.words.proofs.Basics.{ℕ, ◌+◌, ◌-◌, ◌*◌, ◌/◌, ◌%◌, ◌^◌, ◌<◌, ◌≤◌, ◌≡◌, refl, sym, ap, ◌∙◌, subst, Bool, true, false, ◌&&◌, List, [], eqb, length}
-use Rattle.words.proofs.Basics.{replicate, bit_and, and_mask, arith, eqb-false, eqb_true}
+use Prim.Native.Nat.{ℕ, ◌+◌, ◌-◌, ◌*◌, ◌/◌, ◌%◌, ◌^◌, ◌≤◌, ◌<◌}
+use mathlib.Core.Path.{◌≡◌, refl, sym, ap, ◌∙◌, subst}
+use mathlib.Core.Bool.{Bool, true, false, ◌&&◌}
+use mathlib.Core.List.{List, []}
+use native.Mathlib.Omega.{arith}
+use lib.Bits.{bit_and, and_mask}
+use lib.Dec.{eqb}
+use lib.ListN.{length, replicate}
+use borrow.Author.Tests.{eqb-true, eqb-false}
 use Rattle.words.specs.Ones.{low_ones}
 use Rattle.words.proofs.Tests.{both}
 use Rattle.register_words.specs.Sdr1.{origin_of, mask_of, sdr1_shape, table_length, mask_ones}
@@ -35,7 +42,7 @@ module _ (sdr1 : ℕ) (t : List ℕ) (was_done : (clearing sdr1 t).number ≡ 0)
       number = refusal (clear (record { sdr1 = sdr1 })) (length t)
 
       go : (b : Bool) → eqb number 0 ≡ b → number ≡ 0
-      go true e = eqb_true number 0 e
+      go true e = eqb-true number 0 e
       go false e =
           sym (ap (λ (x : Ended (List ℕ)). x.number) (refused (clear (record { sdr1 = sdr1 })) t number refl (eqb-false number 0 e))) ∙ was_done
 
@@ -55,12 +62,12 @@ module _ (sdr1 : ℕ) (t : List ℕ) (was_done : (clearing sdr1 t).number ≡ 0)
   unfolding sdr1_shape
   reserved =
       let parts = both (low_ones (mask_of sdr1) && eqb (sdr1 / 2 ^ 9 % 2 ^ 7) 0) (eqb (bit_and (origin_of sdr1) (mask_of sdr1)) 0) done_fits.shape in
-      eqb_true (sdr1 / 2 ^ 9 % 2 ^ 7) 0 (both (low_ones (mask_of sdr1)) (eqb (sdr1 / 2 ^ 9 % 2 ^ 7) 0) parts.0).1
+      eqb-true (sdr1 / 2 ^ 9 % 2 ^ 7) 0 (both (low_ones (mask_of sdr1)) (eqb (sdr1 / 2 ^ 9 % 2 ^ 7) 0) parts.0).1
 
   under_mask : bit_and (origin_of sdr1) (mask_of sdr1) ≡ 0
   unfolding sdr1_shape
   under_mask =
-      eqb_true (bit_and (origin_of sdr1) (mask_of sdr1)) 0
+      eqb-true (bit_and (origin_of sdr1) (mask_of sdr1)) 0
       (both (low_ones (mask_of sdr1) && eqb (sdr1 / 2 ^ 9 % 2 ^ 7) 0) (eqb (bit_and (origin_of sdr1) (mask_of sdr1)) 0) done_fits.shape).1
 
   pub done_made : sdr1 < 2 ^ 32 → sdr1 ≡ sdr1_with (origin_of sdr1) (mask_ones sdr1)

@@ -1,5 +1,11 @@
 -- One request keeps "this table represents this map" and answers what the map answers, refused or not.
-use Rattle.words.proofs.Basics.{ℕ, ◌≡◌, refl, sym, ap, ◌∙◌, true, List, [], eqb, length, eq-eqb, eqb-false, eqb_true, ne_eqb}
+use Prim.Native.Nat.{ℕ}
+use mathlib.Core.Path.{◌≡◌, refl, sym, ap, ◌∙◌}
+use mathlib.Core.Bool.{true}
+use mathlib.Core.List.{List, []}
+use lib.Dec.{eqb}
+use lib.ListN.{length}
+use borrow.Author.Tests.{eqb-true, eqb-false, eq-eqb, ne_eqb}
 use Rattle.words.proofs.Tests.{by_test}
 use Rattle.register_words.specs.Sdr1.{sdr1_shape, table_length, mask_ones}
 use Rattle.register_words.proofs.Sdr1.{length_is}
@@ -76,7 +82,7 @@ module _ (sdr1 size : ℕ) (shape : sdr1_shape sdr1 ≡ true) (long : size ≡ t
       let here : refusal (fed request) (length t) ≡ number = ap (refusal (fed request)) (size_is t m r) in
       by_test (eqb number 0)
       (λ z.
-      let e = eqb_true number 0 z in
+      let e = eqb-true number 0 z in
       rw (map_taken (fed request) size m e, ap mask_ones (sdr1_fed request ∙ brings e)) (done_plain request t m r (brings e) e))
       (λ z.
       let n = eqb-false number 0 z in

@@ -1,5 +1,9 @@
 -- The two cases of a slice that must have a stated length.
-use Rattle.words.proofs.Basics.{ℕ, ◌≡◌, ap, List, length, eq-eqb, ne_eqb}
+use mathlib.Core.Path.{◌≡◌, ap}
+use mathlib.Core.List.{List}
+use Prim.Native.Nat.{ℕ}
+use lib.ListN.{length}
+use borrow.Author.Tests.{eq-eqb, ne_eqb}
 use Rattle.theory_calls.specs.Lent.{of_length}
 
 module _ (n : ℕ) (lent : List ℕ) (done : ℕ × List ℕ) where

@@ -1,5 +1,10 @@
 -- The cases of a call on bytes: refused by its arguments or not, and a page's matches by the two groups of 64 bytes that the code searches.
-use Rattle.words.proofs.Basics.{ℕ, ◌+◌, ◌≡◌, refl, true, false, List, length, eq-eqb, ne_eqb}
+use mathlib.Core.Path.{◌≡◌, refl}
+use mathlib.Core.Bool.{true, false}
+use mathlib.Core.List.{List}
+use Prim.Native.Nat.{ℕ, ◌+◌}
+use lib.ListN.{length}
+use borrow.Author.Tests.{eq-eqb, ne_eqb}
 use Rattle.entry.specs.Entry.{api_of}
 use Rattle.register_words.specs.Sdr1.{mask_ones}
 use Rattle.groups.specs.Page.{Page}

@@ -12,8 +12,15 @@
 --   unmap_missing, protect_missing, look_missing: these calls on a page with no match
 --   look_contradicted, look_done: look at a page whose matches contradict, and at one whose matches do not
 --   unmap_done, protect_done: the work of unmap and of protect is the edit of all matches
-use Rattle.words.proofs.Basics.{ℕ, ◌+◌, ◌*◌, ◌^◌, ◌<◌, ◌≤◌, ◌≡◌, refl, sym, ap, ◌∙◌, Bool, true, false, cond, not, ◌&&◌, Option, none, some, List, [], ◌∷◌, eqb}
-use Rattle.words.proofs.Basics.{ltb, length, replicate, arith, eqb_true, ltb-true, ne_eqb, not-false}
+use mathlib.Core.Path.{◌≡◌, refl, sym, ap, ◌∙◌}
+use mathlib.Core.Bool.{Bool, true, false, cond, not, ◌&&◌}
+use mathlib.Core.List.{List, [], ◌∷◌}
+use mathlib.Core.Option.{Option, none, some}
+use Prim.Native.Nat.{ℕ, ◌+◌, ◌*◌, ◌^◌, ◌≤◌, ◌<◌}
+use native.Mathlib.Omega.{arith}
+use lib.Dec.{eqb, ltb}
+use lib.ListN.{length, replicate}
+use borrow.Author.Tests.{eqb-true, ltb-true, ne_eqb, not-false}
 use Rattle.words.proofs.Tests.{both}
 use Rattle.entry.specs.Entry.{second_word, api_of}
 use Rattle.registers.specs.Rules.{first_broken}
@@ -63,7 +70,7 @@ kept in_range sdr1 lent passed =
     record {
       in_range_law = not-false in_range kept₆;
       shape = not-false shape kept₂;
-      right_length = eqb_true lent (table_length sdr1) (not-false right kept₁);
+      right_length = eqb-true lent (table_length sdr1) (not-false right kept₁);
     }
 
 -- 11 is none of their numbers

@@ -1,6 +1,14 @@
 -- A call that is not done leaves the table: its arguments refuse it, or the work finds a reason; only an argument's length is refused as one.
-use Rattle.words.proofs.Basics.{ℕ, ◌*◌, ◌<◌, ◌≤◌, ◌≡◌, refl, sym, ap, ap₂, ◌∙◌, Bool, true, false, cond, true≢false, ◌⊎◌, inl, inr, ⊎_elim, Option, none, some}
-use Rattle.words.proofs.Basics.{List, [], ◌∷◌, eqb, lit≤, length, replicate, arith, eq-eqb, eqb-false, eqb_true, ne_eqb}
+use Prim.Native.Nat.{ℕ, ◌*◌, ◌≤◌, ◌<◌}
+use mathlib.Core.Path.{◌≡◌, refl, sym, ap, ap₂, ◌∙◌}
+use mathlib.Core.Bool.{Bool, true, false, cond, true≢false}
+use mathlib.Core.List.{List, [], ◌∷◌}
+use mathlib.Core.Logic.{◌⊎◌, inl, inr, ⊎_elim}
+use mathlib.Core.Option.{Option, none, some}
+use native.Mathlib.Omega.{arith}
+use lib.Dec.{eqb, lit≤}
+use lib.ListN.{length, replicate}
+use borrow.Author.Tests.{eqb-true, eqb-false, eq-eqb, ne_eqb}
 use Rattle.words.specs.Words.{with_word, bytes_of}
 use Rattle.entry.specs.Entry.{first_word, second_word, within_widths, packed}
 use Rattle.entry.specs.declared.Fields.{Fields}
@@ -27,13 +35,11 @@ use Rattle.translation.specs.declared.Searched.TheVariants.{Nothing, At, Contrad
 use Rattle.translation.proofs.Stated.{access_as_stated}
 use Rattle.translation.proofs.Parts.{result_of, not_done_stops}
 use Rattle.translation.proofs.Steps.{page_by}
-use Rattle.theory_calls.specs.Request.{ClearCall, MapCall, ProtectCall, AnsweredCall, AccessCall, Request, clear, map_page, unmap, protect, look, access}
-use Rattle.theory_calls.specs.Request.{sdr1_in, fed}
+use Rattle.theory_calls.specs.Request.{ClearCall, MapCall, ProtectCall, AnsweredCall, AccessCall, Request, clear, map_page, unmap, protect, look, access, sdr1_in, fed}
 use Rattle.theory_calls.specs.Rules.{on_long_page, refusal}
 use Rattle.theory_calls.specs.Answers.{word_answer, access_answer, refused_bytes, answer_refused}
 use Rattle.theory_calls.specs.WithoutTable.{set_register_call, pack_call, unpack_call}
-use Rattle.theory_calls.specs.OnBytes.{layout, Ended, ended, by_matches, by_option, early_of, bytes_do, on_bytes, start_of, part_answer, used_by, part_decision}
-use Rattle.theory_calls.specs.OnBytes.{whole_answer, search_in, first_place_in}
+use Rattle.theory_calls.specs.OnBytes.{layout, Ended, ended, by_matches, by_option, early_of, bytes_do, on_bytes, start_of, part_answer, used_by, part_decision, whole_answer, search_in, first_place_in}
 use Rattle.theory_calls.specs.Refusals.{RefusalsLeave}
 use Rattle.theory_calls.specs.Arguments.{PastRules}
 use Rattle.theory_calls.proofs.Lent.{right_length, wrong_length}
@@ -152,7 +158,7 @@ module _ (request : Request (List ℕ)) (t : List ℕ) where
     where
       go : (b : Bool) → eqb number 0 ≡ b → (on_bytes request t).state ≡ t
       go true e =
-          let does = taken request t (eqb_true number 0 e) in
+          let does = taken request t (eqb-true number 0 e) in
           ap (λ (x : Ended (List ℕ)). x.state) does
           ∙ does_keep (mask_ones (sdr1_in request)) request t (λ z. n (ap (λ (x : Ended (List ℕ)). x.number) does ∙ z))
       go false e = ap (λ (x : Ended (List ℕ)). x.state) (refused request t number refl (eqb-false number 0 e))
@@ -162,7 +168,7 @@ module _ (request : Request (List ℕ)) (t : List ℕ) where
   left_answer z = go (eqb number 0) refl
     where
       go : (b : Bool) → eqb number 0 ≡ b → (on_bytes request t).answer ≡ answer_refused (λ lent. lent) request 11
-      go true e = absurd ((does_past (mask_ones (sdr1_in request)) request t).not_11 (sym (ap (λ (x : Ended (List ℕ)). x.number) (taken request t (eqb_true number 0 e))) ∙ z))
+      go true e = absurd ((does_past (mask_ones (sdr1_in request)) request t).not_11 (sym (ap (λ (x : Ended (List ℕ)). x.number) (taken request t (eqb-true number 0 e))) ∙ z))
       go false e =
           let q = refused request t number refl (eqb-false number 0 e) in
           let eleven : number ≡ 11 = sym (ap (λ (x : Ended (List ℕ)). x.number) q) ∙ z in
@@ -185,7 +191,7 @@ module _ (zeros : ℕ) (Fault : ℕ → Type 0) (request : Request (List ℕ)) (
       refuses = refusal (fed request) (length t)
 
       go : (b : Bool) → eqb refuses 0 ≡ b → Zeros zeros Fault (on_bytes request t)
-      go true e = rw (taken request t (eqb_true refuses 0 e)) (does (mask_ones (sdr1_in request)))
+      go true e = rw (taken request t (eqb-true refuses 0 e)) (does (mask_ones (sdr1_in request)))
       go false e = rw (refused request t refuses refl (eqb-false refuses 0 e)) (λ done fault long. answers refuses ∙ rw (ne_eqb refuses 11 long))
 
 -- unmap and look have no faults
@@ -230,7 +236,7 @@ set_left registers n word not_done = go (is_page (length registers)) refl not_do
     result = replacing (is_long (length registers)) (register_words registers) n word
 
     kept : (b : Bool) → eqb result 0 ≡ b → (result ≡ 0 → ⊥) → cond (eqb result 0) (with_word registers (4 * n) word) registers ≡ registers
-    kept true e m = absurd (m (eqb_true result 0 e))
+    kept true e m = absurd (m (eqb-true result 0 e))
     kept false e m = rw e
 
     both_ways : Bool → ℕ × List ℕ
@@ -246,7 +252,7 @@ lent_left : (n : ℕ) (lent : List ℕ) (given : ℕ × List ℕ) (e : ℕ × Li
 lent_left n lent given e right wrong fits z = go (eqb (length lent) n) refl
   where
     go : (b : Bool) → eqb (length lent) n ≡ b → e.1 ≡ lent
-    go true q = absurd (fits (sym (ap (λ (x : ℕ × List ℕ). x.0) (right (eqb_true (length lent) n q))) ∙ z))
+    go true q = absurd (fits (sym (ap (λ (x : ℕ × List ℕ). x.0) (right (eqb-true (length lent) n q))) ∙ z))
     go false q = ap (λ (x : ℕ × List ℕ). x.1) (wrong (eqb-false (length lent) n q))
 
 pack_fits : (f : Fields) → (packed f).0 ≡ 11 → ⊥

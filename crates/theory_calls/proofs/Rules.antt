@@ -1,6 +1,11 @@
 -- What the rules of a call say where none of them is broken: its arguments are in range.
-use Rattle.words.proofs.Basics.{ℕ, ◌/◌, ◌^◌, ◌<◌, ◌≡◌, Bool, true, false, cond, not, ◌&&◌, eqb, ltb, length, arith, eq-eqb, eqb_true, lt-ltb, ltb-true, ne_eqb}
-use Rattle.words.proofs.Basics.{not-false}
+use Prim.Native.Nat.{ℕ, ◌/◌, ◌^◌, ◌<◌}
+use mathlib.Core.Path.{◌≡◌}
+use mathlib.Core.Bool.{Bool, true, false, cond, not, ◌&&◌}
+use native.Mathlib.Omega.{arith}
+use lib.Dec.{eqb, ltb}
+use lib.ListN.{length}
+use borrow.Author.Tests.{not-false, ltb-true, lt-ltb, eqb-true, eq-eqb, ne_eqb}
 use Rattle.register_words.specs.Block.{bl_width}
 use Rattle.words.proofs.Tests.{both}
 use Rattle.register_words.specs.Sdr1.{sdr1_shape, table_length}
@@ -69,7 +74,7 @@ table_kept : (sdr1 lent : ℕ) → first_broken (table_rules sdr1 lent) ≡ 0 �
 table_kept sdr1 lent e =
     let (shape, more) = kept (sdr1_shape sdr1) 2 _ (λ z. omega arith) e in
     let (long, last) = kept (eqb lent (table_length sdr1)) 1 _ (λ z. omega arith) more in
-    record { shape = shape; long = eqb_true lent (table_length sdr1) long }
+    record { shape = shape; long = eqb-true lent (table_length sdr1) long }
 
 -- a call that its arguments do not refuse is lent a table of its SDR1
 pub fitting : (request : Request ℕ) (lent : ℕ) → refusal request lent ≡ 0 → Fitting (sdr1_in request) lent
@@ -92,7 +97,7 @@ fitting (access c) lent e =
     let (d, r₅) = kept (side_shape (block_pairs (on_long_page c)) (bl_width (on_long_page c)) words false && side_shape (block_pairs (on_long_page c)) (bl_width (on_long_page c)) words true) 3 _ (λ z. omega arith) r₄ in
     let (f, r₆) = kept (side_apart (block_pairs (on_long_page c)) (bl_width (on_long_page c)) words false && side_apart (block_pairs (on_long_page c)) (bl_width (on_long_page c)) words true) 4 _ (λ z. omega arith) r₅ in
     let (g, r₇) = kept (segments_shape words) 5 _ (λ z. omega arith) r₆ in
-    record { shape = shape; long = eqb_true lent (table_length (sdr1_of words)) (kept (eqb lent (table_length (sdr1_of words))) 1 _ (λ z. omega arith) r₇).0 }
+    record { shape = shape; long = eqb-true lent (table_length (sdr1_of words)) (kept (eqb lent (table_length (sdr1_of words))) 1 _ (λ z. omega arith) r₇).0 }
 
 -- the other way round: arguments in range, an SDR1 of right shape and a table of right length are not refused
 pub clear_taken : (c : ClearCall) (lent : ℕ) → Fitting c.sdr1 lent → refusal (clear c) lent ≡ 0

@@ -1,5 +1,11 @@
 -- One call on a table that represents a map answers what the map answers, and leaves a table that represents the map left: a lemma for each call.
-use Rattle.words.proofs.Basics.{ℕ, ◌^◌, ◌<◌, ◌≡◌, refl, ap, ◌∙◌, subst, Bool, true, false, Option, none, some, List, [], ◌∷◌, eqb, lit<, length}
+use Prim.Native.Nat.{ℕ, ◌^◌, ◌<◌}
+use mathlib.Core.Path.{◌≡◌, refl, ap, ◌∙◌, subst}
+use mathlib.Core.Bool.{Bool, true, false}
+use mathlib.Core.List.{List, [], ◌∷◌}
+use mathlib.Core.Option.{Option, none, some}
+use lib.Dec.{eqb, lit<}
+use lib.ListN.{length}
 use Rattle.words.proofs.Tests.{by_test}
 use Rattle.theory_placement.specs.FiniteMap.{fields_at, take_out, revise, mapped_pages}
 use Rattle.theory_placement.proofs.FiniteMap.{revise_unmapped}
@@ -29,12 +35,10 @@ use Rattle.translation.specs.declared.Wanted.{Wanted}
 use Rattle.translation.proofs.Steps.{wanted_in_range}
 use Rattle.translation.proofs.Parts.{SameButPlace, operand_same, operand_related, decisions_agree}
 use Rattle.theory_calls.specs.Made.{fed_answered, fed_access}
-use Rattle.theory_calls.specs.Request.{ClearCall, MapCall, ProtectCall, AnsweredCall, AccessCall, Request, clear, map_page, unmap, protect, look, access}
-use Rattle.theory_calls.specs.Request.{fed}
+use Rattle.theory_calls.specs.Request.{ClearCall, MapCall, ProtectCall, AnsweredCall, AccessCall, Request, clear, map_page, unmap, protect, look, access, fed}
 use Rattle.theory_calls.specs.Rules.{refusal}
 use Rattle.theory_calls.specs.Answers.{word_answer, access_answer, without_place, seen_of, compared}
-use Rattle.theory_calls.specs.OnBytes.{layout, Ended, entry_word, start_of, early_of, part_answer, used_by, part_decision, each_part, wanted_page, searched}
-use Rattle.theory_calls.specs.OnBytes.{search_in, first_place_in, marked_by, bytes_do}
+use Rattle.theory_calls.specs.OnBytes.{layout, Ended, entry_word, start_of, early_of, part_answer, used_by, part_decision, each_part, wanted_page, searched, search_in, first_place_in, marked_by, bytes_do}
 use Rattle.theory_calls.specs.OnMap.{PageFields, Map, fields_word, mark_fields, protect_fields, arranged?, found_in, map_marked, map_does}
 use Rattle.theory_calls.specs.Represents.{FieldsInRange, TableRepresents}
 use Rattle.theory_calls.proofs.TableLaws.{Word, layout_laws, represents_zeros}

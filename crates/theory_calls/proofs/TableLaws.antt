@@ -1,5 +1,10 @@
 -- Our table is a table in the sense of the crate `tables`: its layout has the laws that are asked of one.
-use Rattle.words.proofs.Basics.{ℕ, suc, ◌+◌, ◌*◌, ◌^◌, ◌<◌, ◌≤◌, ◌≡◌, ap, ◌∙◌, List, [], length, replicate, length-replicate, pow-suc, arith}
+use Prim.Native.Nat.{ℕ, suc, ◌+◌, ◌*◌, ◌^◌, ◌≤◌, ◌<◌}
+use mathlib.Core.Path.{◌≡◌, ap, ◌∙◌}
+use mathlib.Core.List.{List, []}
+use native.Mathlib.Omega.{arith}
+use native.Mathlib.Nat.{pow-suc}
+use lib.ListN.{length, replicate, length-replicate}
 use Rattle.entry.specs.Entry.{free}
 use Rattle.entry.proofs.Matches.{free_zero}
 use Rattle.groups.specs.Page.{InRange, same_page}

@@ -1,5 +1,12 @@
 -- A call that its arguments do not refuse: what it does, and that its table has its length.
-use Rattle.words.proofs.Basics.{ℕ, ◌*◌, ◌^◌, ◌≡◌, refl, sym, ap, ◌∙◌, Bool, true, ◌↔◌, List, eqb, length, eq-eqb, eqb_true}
+use Prim.Native.Nat.{ℕ, ◌*◌, ◌^◌}
+use mathlib.Core.Path.{◌≡◌, refl, sym, ap, ◌∙◌}
+use mathlib.Core.Bool.{Bool, true}
+use mathlib.Core.Logic.{◌↔◌}
+use mathlib.Core.List.{List}
+use lib.Dec.{eqb}
+use lib.ListN.{length}
+use borrow.Author.Tests.{eqb-true, eq-eqb}
 use Rattle.words.specs.Bits.{bits}
 use Rattle.entry.specs.Entry.{referenced, changed}
 use Rattle.register_words.specs.Sdr1.{mask_ones}
@@ -33,7 +40,7 @@ answer_of_law q = ap (λ (x : Ended (List ℕ)). x.answer) q
 
 -- a mark, as a bit of a second word and as a test
 pub bit_set : (n : ℕ) (test : ℕ → Bool) → ((w : ℕ) → test w ≡ eqb (bits n n w) 1) → (w : ℕ) → (bits n n w ≡ 1) ↔ (test w ≡ true)
-bit_set n test is w = (λ e. is w ∙ eq-eqb (bits n n w) 1 e, λ e. eqb_true (bits n n w) 1 (sym (is w) ∙ e))
+bit_set n test is w = (λ e. is w ∙ eq-eqb (bits n n w) 1 e, λ e. eqb-true (bits n n w) 1 (sym (is w) ∙ e))
 
 pub r_is : (w : ℕ) → referenced w ≡ eqb (bits 23 23 w) 1
 unfolding referenced

@@ -12,8 +12,13 @@
 --   match_kept, first_kept: where two tables have the same matches of a page, a match and the first match of one are those of the other
 --   no_common: no entry matches two pages
 --   marks_commute: the marks of two pages may be made in either order
-use Rattle.words.proofs.Basics.{ℕ, ◌+◌, ◌^◌, ◌<◌, ◌≡◌, refl, sym, ap, ap₂, ◌∙◌, subst, Bool, true, false, cond, true≢false, inr, List, [], ◌∷◌, List-as-Memᴰ}
-use Rattle.words.proofs.Basics.{List·Memᴰ·head, eqb, eqb-false, eqb_true}
+use Prim.Native.Nat.{ℕ, ◌+◌, ◌^◌, ◌<◌}
+use mathlib.Core.Path.{◌≡◌, refl, sym, ap, ap₂, ◌∙◌, subst}
+use mathlib.Core.Bool.{Bool, true, false, cond, true≢false}
+use mathlib.Core.Logic.{inr}
+use mathlib.Core.List.{List, [], ◌∷◌, Memᴰ}
+use lib.Dec.{eqb}
+use borrow.Author.Tests.{eqb-true, eqb-false}
 use Rattle.entry.specs.Entry.{page_index, with_marks}
 use Rattle.entry.proofs.Marks.{marks_lt}
 use Rattle.groups.specs.Page.{Page, InRange, same_page}
@@ -94,12 +99,12 @@ module _ (k kind : ℕ) (wanted : Wanted) (t : List ℕ) where
     where
       go : (d : Bool) → eqb result 0 ≡ d → P (marked_by k kind (Search wanted) result t)
       go true e =
-          rw (eqb_true result 0 e)
+          rw (eqb-true result 0 e)
           (by_matches_law (own k t page) (λ none. rw (mark_none 0 none) left) (λ x xs some. rw (mark_first x xs some) (first x xs some)))
       go false e = rw (unmarked k kind (Search wanted) result t (eqb-false result 0 e)) left
 
   pub own_match : (x : Match) (xs : List Match) → own k t page ≡ x ∷ xs → MatchOf (layout k) t page x
-  own_match x xs e = members_of (layout k) t page x (subst (List-as-Memᴰ x) (sym e) (List·Memᴰ·head refl))
+  own_match x xs e = members_of (layout k) t page x (subst (Memᴰ x) (sym e) (Memᴰ.head refl))
 
   module _ (good : GoodTable k t) where
     -- what is written fits an entry's words
@@ -175,7 +180,7 @@ module _ (k : ℕ) (t u : List ℕ) (page : Page) (kept : own k u page ≡ own k
 
   pub match_kept : (b : Bool) (i : ℕ) → Matching k t page b i → KeptMatch b i
   match_kept b i h =
-      let m = members_of (layout k) u page (as_match k t page b i) (subst (List-as-Memᴰ (as_match k t page b i)) (sym kept) (matching_member k t page b i h)) in
+      let m = members_of (layout k) u page (as_match k t page b i) (subst (Memᴰ (as_match k t page b i)) (sym kept) (matching_member k t page b i h)) in
       record {
         matching = (m.in_range_law, ap ((layout k).matching b page) (sym m.first_word_law) ∙ m.passes);
         first_word_law = sym m.first_word_law;
@@ -240,7 +245,7 @@ module _ (k kind : ℕ) (v w : Wanted) (t : List ℕ) (good : GoodTable k t) (va
           (λ y ys f. both x y xs ys e f))
 
       go : (d : Bool) → eqb result 0 ≡ d → after result w (after result v t) ≡ after result v (after result w t)
-      go true e = rw (eqb_true result 0 e) done
+      go true e = rw (eqb-true result 0 e) done
       go false e =
           let n = eqb-false result 0 e in
           unmarked k kind (Search w) result (after result v t) n ∙ unmarked k kind (Search v) result t n

@@ -1,8 +1,15 @@
 -- A short register page and the same page widened answer alike: each word of the widened page is the widened words' own, and for pairs without bits
 -- 15 to 18 the limits of either page are the same.
-use Rattle.words.proofs.Basics.{ℕ, suc, ◌+◌, ◌-◌, ◌*◌, ◌<◌, ◌≤◌, ◌≡◌, refl, sym, ap, ap₂, ◌∙◌, Bool, true, false, cond, not, ◌&&◌, true≢false, List, [], ◌∷◌}
-use Rattle.words.proofs.Basics.{◌++◌, eqb, ltb, leb, length, get_or, set, length-set, sets, ext_get_or, length-sets, add-zero, suc-add, arith, eqb-false, eqb_true}
-use Rattle.words.proofs.Basics.{le-ltb, lt-ltb, ltb-false, ltb-true, not-true}
+use mathlib.Core.Path.{◌≡◌, refl, sym, ap, ap₂, ◌∙◌}
+use mathlib.Core.Bool.{Bool, true, false, cond, not, ◌&&◌, true≢false}
+use mathlib.Core.List.{List, [], ◌∷◌, ◌++◌}
+use Prim.Native.Nat.{ℕ, suc, ◌+◌, ◌-◌, ◌*◌, ◌<◌, ◌≤◌}
+use native.Mathlib.Nat.{add-zero, suc-add}
+use native.Mathlib.Omega.{arith}
+use lib.Dec.{eqb, ltb, leb}
+use lib.ListN.{length, get_or, set, length-set}
+use lib.Seq.{ext_get_or, sets, length-sets}
+use borrow.Author.Tests.{ltb-true, ltb-false, lt-ltb, le-ltb, eqb-true, eqb-false, not-true}
 use Rattle.words.specs.Bits.{bits}
 use Rattle.words.specs.Words.{word_at, words_at, with_word, word_bytes}
 use Rattle.words.proofs.Words.{length_words_at, get_or_words_at}
@@ -10,13 +17,11 @@ use Rattle.words.proofs.Below.{every_at, every_not}
 use Rattle.register_words.specs.Sdr1.{sdr1_shape, table_length, mask_ones}
 use Rattle.register_words.specs.Block.{bl_width, narrow, block_shape}
 use Rattle.register_words.proofs.Blocks.{shape_narrow}
-use Rattle.registers.specs.Set.{is_page, is_long, block_pairs, register_count, sdr1_of, upper_of, lower_of, side_shape, check_words, register_rules, register_words}
-use Rattle.registers.specs.Set.{replacing, spread, widened, place_in_set}
+use Rattle.registers.specs.Set.{is_page, is_long, block_pairs, register_count, sdr1_of, upper_of, lower_of, side_shape, check_words, register_rules, register_words, replacing, spread, widened, place_in_set}
 use Rattle.registers.proofs.Set.{words_long, words_short}
 use Rattle.registers.proofs.Placed.{Read, widened_is}
 use Rattle.registers.proofs.Wide.{Narrow, check_same, side_shape_same, side_apart_same}
-use Rattle.registers.proofs.Widened.{zero_off, widened_length, at_front, at_gap, at_data, at_end, upper_first, upper_last, sdr1_widened, check_widened}
-use Rattle.registers.proofs.Widened.{set_widened}
+use Rattle.registers.proofs.Widened.{zero_off, widened_length, at_front, at_gap, at_data, at_end, upper_first, upper_last, sdr1_widened, check_widened, set_widened}
 use Rattle.registers.proofs.Spread.{spread_length, spread_front, spread_gap, spread_back, spread_end, spread_set}
 use Rattle.translation.specs.Steps.{before_search}
 use Rattle.translation.proofs.Widened.{before_same, before_widened}

@@ -1,5 +1,5 @@
 -- The answers that the calls on bytes and the finite map give alike.
-use Rattle.words.specs.Basics.{ℕ, cond, List, [], ◌∷◌, ◌++◌, eqb, leb, take, replicate}
+use Rattle.std.specs.Prelude.{ℕ, cond, List, [], ◌∷◌, ◌++◌, eqb, leb, replicate, take}
 use Rattle.numbers.specs.Numbers.{refused_lent_length, rule_guarded}
 use Rattle.words.specs.Words.{word_at, bytes_of}
 use Rattle.translation.specs.declared.Answer.{Answer}

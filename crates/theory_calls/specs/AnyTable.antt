@@ -1,6 +1,6 @@
 -- What each call does to any table of bytes, whoever wrote it (rules 4 to 6). An entry is named by its group and its number, and a match is an
 -- entry that matches: nothing here goes by the list of matches that the calls go by.
-use Rattle.words.specs.Basics.{ℕ, ◌+◌, ◌*◌, ◌/◌, ◌%◌, ◌^◌, ◌<◌, ◌≤◌, ◌≡◌, Bool, true, false, cond, ◌↔◌, List, [], ◌∷◌, ◌++◌, length, get_or, take, replicate}
+use Rattle.std.specs.Prelude.{ℕ, ◌+◌, ◌*◌, ◌/◌, ◌%◌, ◌^◌, ◌≤◌, ◌<◌, Bool, true, false, cond, List, [], ◌∷◌, ◌++◌, ◌↔◌, ◌≡◌, length, get_or, take, replicate}
 use Rattle.numbers.specs.Numbers.{done, refused_mapped, refused_no_match, refused_full, refused_contradiction, fetch, store, group_entries, answer_size, page_size}
 use Rattle.numbers.specs.Numbers.{rule_real, rule_block, rule_no_execute, rule_no_match, rule_guarded, rule_protection, rule_done}
 use Rattle.words.specs.Bits.{bits}
@@ -27,8 +27,7 @@ use Rattle.translation.specs.declared.Outcome.{Outcome}
 use Rattle.translation.specs.declared.Outcome.TheVariants.{NoMatch}
 use Rattle.translation.specs.declared.Searched.TheVariants.{At}
 use Rattle.translation.specs.declared.Wanted.{Wanted}
-use Rattle.theory_calls.specs.Request.{ClearCall, MapCall, ProtectCall, AnsweredCall, AccessCall, Request, clear, map_page, unmap, protect, look, access}
-use Rattle.theory_calls.specs.Request.{sdr1_in, fed}
+use Rattle.theory_calls.specs.Request.{ClearCall, MapCall, ProtectCall, AnsweredCall, AccessCall, Request, clear, map_page, unmap, protect, look, access, sdr1_in, fed}
 use Rattle.theory_calls.specs.Rules.{on_long_page, refusal}
 use Rattle.theory_calls.specs.Answers.{word_answer, part_words, rule_words, access_answer}
 use Rattle.theory_calls.specs.OnBytes.{Ended, on_bytes, start_of, early_of, part_answer, part_decision, wanted_page, search_in, first_place_in, marked_by}

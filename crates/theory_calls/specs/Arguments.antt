@@ -1,5 +1,5 @@
 -- Exactly when none of the refusals that come before the search is given (rules 7: 11, 6, 12, 2, 3, 4, 5, 1), by what a call brings and is lent.
-use Rattle.words.specs.Basics.{ℕ, ◌*◌, ◌/◌, ◌^◌, ◌<◌, ◌≤◌, ◌≡◌, Bool, cond, ◌↔◌, List, length, set}
+use Rattle.std.specs.Prelude.{ℕ, ◌*◌, ◌/◌, ◌^◌, ◌≤◌, ◌<◌, Bool, cond, List, ◌↔◌, ◌≡◌, length, set}
 use Rattle.numbers.specs.Numbers.{done, refused_lent_length, refused_operand_length}
 use Rattle.words.specs.Words.{word_at, words_at}
 use Rattle.entry.specs.declared.Fields.{Fields}

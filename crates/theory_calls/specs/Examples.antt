@@ -1,5 +1,5 @@
 -- Rows that pin what the calls without a table answer and leave (rules 2 to 4), each closed by computation.
-use Rattle.words.specs.Basics.{ℕ, List, [], ◌∷◌, set, replicate}
+use Rattle.std.specs.Prelude.{ℕ, List, [], ◌∷◌, replicate, set}
 use Rattle.numbers.specs.Numbers.{done, refused_sdr1, refused_block, refused_blocks_share, refused_segment, refused_argument, refused_lent_length}
 use Rattle.words.specs.Rows.{Hold}
 use Rattle.words.specs.Words.{bytes_of}

@@ -1,5 +1,5 @@
 -- A clear of a table, and of which SDR1 and length it is done: with it demand 3's histories begin.
-use Rattle.words.specs.Basics.{ℕ, ◌+◌, ◌-◌, ◌*◌, ◌%◌, ◌^◌, ◌≤◌, ◌≡◌, List, length}
+use Rattle.std.specs.Prelude.{ℕ, ◌+◌, ◌-◌, ◌*◌, ◌%◌, ◌^◌, ◌≤◌, List, ◌≡◌, length}
 use Rattle.theory_calls.specs.Request.{clear}
 use Rattle.theory_calls.specs.OnBytes.{Ended, on_bytes}
 

@@ -1,5 +1,5 @@
 -- What a call hands back: its result number, and a lent slice as the call leaves it.
-use Rattle.words.specs.Basics.{ℕ, cond, List, eqb, length}
+use Rattle.std.specs.Prelude.{ℕ, cond, List, eqb, length}
 use Rattle.numbers.specs.Numbers.{refused_lent_length}
 
 -- a slice that must have n bytes is refused at any other length, and left as it was

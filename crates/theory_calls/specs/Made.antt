@@ -1,5 +1,5 @@
 -- Requests made of their values in order, and fed ones, for rows and proofs.
-use Rattle.words.specs.Basics.{ℕ, List, length}
+use Rattle.std.specs.Prelude.{ℕ, List, length}
 use Rattle.groups.specs.Page.{Page}
 use Rattle.theory_calls.specs.Request.{AnsweredCall, AccessCall, Request, clear, map_page, unmap, protect, look, access}
 

@@ -1,5 +1,6 @@
 -- What each call does to a lent table, for any bytes, one clause a call.
-use Rattle.words.specs.Basics.{ℕ, ◌+◌, ◌^◌, Bool, true, false, cond, Option, none, some, List, [], ◌∷◌, eqb, length, replicate}
+use Rattle.std.specs.Prelude.{ℕ, ◌+◌, ◌^◌, Bool, true, false, cond, List, [], ◌∷◌, eqb, length, replicate}
+use Rattle.std.proofs.Math.Option.{Option, none, some}
 use Rattle.numbers.specs.Numbers.{done, refused_mapped, refused_no_match, refused_full, refused_contradiction, group_entries}
 use Rattle.entry.specs.Entry.{first_word, second_word, matches, free, api_of, with_marks, with_pp}
 use Rattle.register_words.specs.Sdr1.{mask_ones}

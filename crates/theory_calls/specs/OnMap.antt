@@ -1,6 +1,6 @@
 -- The plain finite map (rules 8), one clause a call. It is fed arguments and lent lengths, and no table byte; so of what decides an access it does not
 -- tell the group and the entry number, which follow from the table.
-use Rattle.words.specs.Basics.{ℕ, ◌+◌, ◌^◌, Bool, true, false, cond, ◌||◌, List, [], ◌∷◌, eqb}
+use Rattle.std.specs.Prelude.{ℕ, ◌+◌, ◌^◌, Bool, true, false, cond, ◌||◌, List, [], ◌∷◌, eqb}
 use Rattle.std.proofs.Math.Logic.{ite}
 use Rattle.numbers.specs.Numbers.{done, refused_mapped, refused_no_match, refused_full, group_entries}
 use Rattle.entry.specs.Entry.{second_word}

@@ -1,6 +1,6 @@
 -- Rows of operands over a page edge (rules 5): the bytes and the address of each part, which part answers, and what is marked. Each closes by
 -- computation. A table here is one or two groups, groups 0 and 1; what lies past their end reads as zero.
-use Rattle.words.specs.Basics.{ℕ, List, [], ◌∷◌, ◌++◌, replicate}
+use Rattle.std.specs.Prelude.{ℕ, List, [], ◌∷◌, ◌++◌, replicate}
 use Rattle.numbers.specs.Numbers.{done, data_storage_fault, instruction_storage_fault, refused_contradiction, refused_lent_length}
 use Rattle.words.specs.Rows.{Hold}
 use Rattle.words.specs.Words.{with_word, bytes_of}

@@ -1,7 +1,7 @@
 -- Rows that pin what the theorem over histories cannot see of single calls: refusals and their order, contradicting and equal duplicates, merged
 -- marks, ignored bits, which free entry is taken, and that nothing else is written (rules 4 to 7). Each closes by computation.
 -- Most tables here are one group of 64 bytes, group 0; what lies past their end reads as zero.
-use Rattle.words.specs.Basics.{ℕ, List, [], ◌∷◌, ◌++◌, set, replicate}
+use Rattle.std.specs.Prelude.{ℕ, List, [], ◌∷◌, ◌++◌, replicate, set}
 use Rattle.numbers.specs.Numbers.{done, data_storage_fault, instruction_storage_fault, refused_table_length, refused_sdr1, refused_block, refused_blocks_share}
 use Rattle.numbers.specs.Numbers.{refused_segment, refused_argument, refused_mapped, refused_no_match, refused_contradiction, refused_lent_length, refused_operand_length}
 use Rattle.words.specs.Rows.{Hold}

@@ -1,5 +1,5 @@
 -- Demand 1: a call that is refused tells so by its number and leaves what it was lent (rules 2). That every call returns is shown by the checker.
-use Rattle.words.specs.Basics.{ℕ, ◌≡◌, List, ◌∷◌, replicate}
+use Rattle.std.specs.Prelude.{ℕ, List, ◌∷◌, ◌≡◌, replicate}
 use Rattle.numbers.specs.Numbers.{done, data_storage_fault, instruction_storage_fault, refused_lent_length}
 use Rattle.words.specs.Words.{bytes_of}
 use Rattle.entry.specs.declared.Fields.{Fields}

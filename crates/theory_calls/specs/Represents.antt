@@ -1,6 +1,6 @@
 -- The relation "this table represents this finite map" for a mask of k ones: the matches of every page are its lookup, and the used entries of a
 -- pair of groups are its mapped pages. It has no history in it.
-use Rattle.words.specs.Basics.{ℕ, ◌*◌, ◌^◌, ◌<◌, ◌≡◌, List, length, get_or}
+use Rattle.std.specs.Prelude.{ℕ, ◌*◌, ◌^◌, ◌<◌, List, ◌≡◌, length, get_or}
 use Rattle.groups.specs.Page.{InRange, same_page}
 use Rattle.theory_tables.specs.Represents.{Represents}
 use Rattle.theory_calls.specs.OnBytes.{layout}

@@ -1,5 +1,5 @@
 -- What each call on a table brings, by name (rules 5 and 6).
-use Rattle.words.specs.Basics.{ℕ, List, length}
+use Rattle.std.specs.Prelude.{ℕ, List, length}
 use Rattle.groups.specs.Page.{Page}
 use Rattle.registers.specs.Set.{sdr1_of, register_words}
 

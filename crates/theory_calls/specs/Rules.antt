@@ -1,5 +1,5 @@
 -- The rules of each call in their order; the refusal is the first that is broken (rules 7).
-use Rattle.words.specs.Basics.{ℕ, ◌/◌, ◌^◌, Bool, not, ◌&&◌, List, [], ◌∷◌, ◌++◌, eqb, ltb, leb, length}
+use Rattle.std.specs.Prelude.{ℕ, ◌/◌, ◌^◌, Bool, not, ◌&&◌, List, [], ◌∷◌, ◌++◌, eqb, ltb, leb, length}
 use Rattle.numbers.specs.Numbers.{refused_table_length, refused_sdr1, refused_argument, refused_lent_length, refused_operand_length}
 use Rattle.numbers.specs.Numbers.{answer_size, access_answer_size, longest_operand}
 use Rattle.registers.specs.Rules.{first_broken}

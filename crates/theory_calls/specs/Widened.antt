@@ -1,5 +1,5 @@
 -- A short register page beside the same page widened: pairs 4 to 7 of each side zero, the data pairs moved to their place.
-use Rattle.words.specs.Basics.{ℕ, ◌<◌, ◌≡◌, Bool, true, false, cond, List, length, set}
+use Rattle.std.specs.Prelude.{ℕ, ◌<◌, Bool, true, false, cond, List, ◌≡◌, length, set}
 use Rattle.numbers.specs.Numbers.{refused_sdr1, refused_block, registers_size_short}
 use Rattle.register_words.specs.Sdr1.{sdr1_shape}
 use Rattle.register_words.specs.Block.{narrow}

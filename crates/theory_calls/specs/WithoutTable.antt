@@ -1,5 +1,5 @@
 -- The four calls that are lent no table: check, set_register, pack and unpack.
-use Rattle.words.specs.Basics.{ℕ, ◌*◌, cond, List, [], ◌∷◌, eqb, length}
+use Rattle.std.specs.Prelude.{ℕ, ◌*◌, cond, List, [], ◌∷◌, eqb, length}
 use Rattle.numbers.specs.Numbers.{done, refused_lent_length, fields_size, entry_size}
 use Rattle.words.specs.Words.{with_word, bytes_of}
 use Rattle.entry.specs.declared.Fields.{Fields}

@@ -1,6 +1,9 @@
 -- The four acts on the list of mapped pages, over any pages and groups: to leave it, to empty it, to insert a page where an arrangement exists with it,
 -- and to delete one.
-use Rattle.words.proofs.Basics.{ℕ, Bool, false, cond, not, ◌||◌, ite, List, [], ◌∷◌}
+use mathlib.Core.Bool.{Bool, false, not, cond, ◌||◌}
+use mathlib.Core.List.{List, [], ◌∷◌}
+use mathlib.Core.Logic.{ite}
+use Prim.Native.Nat.{ℕ}
 use Rattle.theory_placement.specs.Lists.{selected}
 use Rattle.theory_placement.specs.Placement.{Arrangement}
 

@@ -1,11 +1,17 @@
 -- Along a history whose cache is kept, table and finite map stay related, every place of the cache is backed or waits, and each call answers what the map
 -- answers: first for the call without the cache, then for the call itself, then for every list.
-use Rattle.words.proofs.Basics.{ℕ, ◌+◌, ◌*◌, ◌^◌, ◌<◌, ◌≡◌, refl, sym, ap, ap₂, ◌∙◌, subst, Bool, true, cond, inl, inr, Option, none, some, List, [], ◌∷◌, ◌++◌}
-use Rattle.words.proofs.Basics.{eqb, length, arith, eqb-false, eqb_true}
+use Prim.Native.Nat.{ℕ}
+use mathlib.Core.Path.{◌≡◌, refl, sym, ap, ap₂, ◌∙◌, subst}
+use mathlib.Core.Bool.{Bool, true}
+use mathlib.Core.List.{List, [], ◌∷◌, ◌++◌, map}
+use mathlib.Core.Logic.{inl, inr}
+use mathlib.Core.Option.{Option, some}
+use native.Mathlib.Omega.{arith}
+use lib.Dec.{eqb}
+use lib.ListN.{length}
+use borrow.Author.Tests.{eqb-true, eqb-false}
 use Rattle.words.proofs.Tests.{by_test}
 use Rattle.register_words.specs.Sdr1.{sdr1_shape, table_length, mask_ones}
-use Rattle.register_words.proofs.Sdr1.{length_is}
-use Rattle.groups.specs.Page.{Page}
 use Rattle.theory_tables.specs.Runs.{run, after, Each}
 use Rattle.theory_calls.specs.Request.{AccessCall, Request, access, sdr1_in, fed}
 use Rattle.theory_calls.specs.Rules.{refusal}
@@ -18,15 +24,10 @@ use Rattle.theory_cache.specs.Cached.{invalidate_call}
 use Rattle.theory_cache.proofs.Refusals.{right_refusal, wrong_refusal, cached_refused}
 use Rattle.access_rights.specs.Rights.{RightsCall, asking, rights_refusal, rights_call}
 use Rattle.access_rights.proofs.Stated.{lengths_right}
-use Rattle.theory_sweep.specs.Sweep.{SweepCall, fed_sweep, sweep_refusal}
-use Rattle.theory_sweep.proofs.Refusals.{SweepKept, sweep_kept, sweep_taken, sweep_refused}
-use Rattle.theory_sweep.proofs.OnMap.{SweepAlike, sweep_step}
-use Rattle.theory_histories.specs.Calls.{Asked, plain, cached, invalidate, rights, sweep, Slices, slices, Call, State, on_lent, lent_for, calling}
-use Rattle.theory_histories.specs.Calls.{lengths_of, lent_lengths, refusal_of, brought_in, Under, listed_on, listed_by}
-use Rattle.theory_histories.specs.Fed.{fed_asked, fed_of, fed_along, map_calling, seen_in, bytes_step, map_step}
+use Rattle.theory_histories.specs.Calls.{Asked, plain, cached, invalidate, rights, Slices, slices, Call, State, on_lent, lent_for, calling, lengths_of, lent_lengths, refusal_of, brought_in, Under}
+use Rattle.theory_histories.specs.Fed.{fed_asked, fed_of, map_calling, seen_in, bytes_step, map_step}
 use Rattle.theory_histories.specs.Discipline.{waiting_after, Invalidated, Disciplined}
 use Rattle.theory_histories.specs.Invisible.{plainly, without_cache}
-use Rattle.theory_histories.proofs.Sweeps.{step_refusal, map_swept, map_unswept, count_seen}
 use Rattle.theory_histories.proofs.Invisible.{Sound, Goes, goes, length_left, length_lent, left_lent}
 use Rattle.theory_histories.proofs.Follows.{Brings, TableFollows, table_follows}
 use Rattle.theory_histories.proofs.Rights.{rights_seen}
@@ -50,9 +51,8 @@ module _ (sdr1 : ℕ) (own : Slices ℕ) (shape : sdr1_shape sdr1 ≡ true) (lon
   abbrev FollowsMap : Call → List ℕ → List ℕ → Map → Type 0
   FollowsMap c t other m =
       let d = calling (without_cache own.cache c) (slices t other) in
-      let e = map_calling (fed_asked c.asked) (lent_lengths own c) (listed_by c (slices t other)) m in
-      (compared (seen_in (without_cache own.cache c).asked d.number) d.number d.answer
-      ≡ compared (seen_in (fed_asked c.asked) e.number) e.number e.answer)
+      let e = map_calling (fed_asked c.asked) (lent_lengths own c) m in
+      (compared (seen_in (without_cache own.cache c).asked) d.number d.answer ≡ compared (seen_in (fed_asked c.asked)) e.number e.answer)
       × TableRepresents k d.state.table e.state
 
   module _ (t other : List ℕ) (m : Map) (same : length other ≡ own.cache) (r : TableRepresents k t m) (o : Slices (Option (List ℕ))) where
@@ -78,7 +78,7 @@ module _ (sdr1 : ℕ) (own : Slices ℕ) (shape : sdr1_shape sdr1 ≡ true) (lon
     cached_follows c under =
         by_test (eqb lent_cache 2048)
         (λ z.
-        let right = right_refusal c [] [] (lent_lengths own (made (cached c) o)).table lent_cache (eqb_true lent_cache 2048 z) in
+        let right = right_refusal c [] [] (lent_lengths own (made (cached c) o)).table lent_cache (eqb-true lent_cache 2048 z) in
         let f = table_follows sdr1 own.table shape long (access c) o.table t m r
         (under_brings (made (cached c) o) under (access c) refl (λ zero eleven. let q : ◌≡◌ {A = ℕ} 0 11 = sym zero ∙ sym right ∙ eleven in omega arith)) in
         rw z (f.told, f.related))
@@ -107,79 +107,15 @@ module _ (sdr1 : ℕ) (own : Slices ℕ) (shape : sdr1_shape sdr1 ≡ true) (lon
         let page = (lengths_right c answer table (λ e. eqb-false number 11 z (ap (rights_refusal c (length answer)) (sym is) ∙ e))).0 in
         rw z (
           ap (λ (seen : List ℕ). (number, seen)) (rights_seen sdr1 own.table shape long c page m o.table t r
-              (λ kind. under_brings (made (rights c answer) o) under (access (asking c kind)) refl (λ zero eleven. eqb-false number 11 z eleven)) answer number),
+              (λ kind. under_brings (made (rights c answer) o) under (access (asking c kind)) refl (λ zero eleven. eqb-false number 11 z eleven)) answer),
           r,
         )))
-
-    -- a step of a sweep, and the lengths of what it is lent
-    module _ (c : SweepCall (List ℕ)) (under : Under sdr1 own (made (sweep c) o)) where
-      abbrev lent_table : ℕ
-      lent_table = by_option o.table own.table length
-
-      table_is : length (lent_for o.table t) ≡ lent_table
-      table_is = length_lent o.table t ∙ ap (λ (n : ℕ). by_option o.table n length) (size_is sdr1 own.table shape long t m r)
-
-      abbrev lengths : Slices ℕ
-      lengths = slices lent_table lent_cache
-
-      abbrev listed : List Page
-      listed = listed_by (made (sweep c) o) (slices t other)
-
-      abbrev pub refusal_of_law : ℕ
-      refusal_of_law = sweep_refusal (fed_sweep c) lent_table lent_cache
-
-      refusal_is : step_refusal c (lent_for o.table t) (lent_for o.cache other) ≡ refusal_of_law
-      refusal_is = ap₂ (sweep_refusal (fed_sweep c)) table_is lent_is
-
-      sweep_fits : refusal_of_law ≡ 0 → SweepKept c (lent_for o.table t) (lent_for o.cache other)
-      sweep_fits zero = sweep_kept c (lent_for o.table t) (lent_for o.cache other) (refusal_is ∙ zero)
-
-      -- the table that it is lent, where it is not refused, is the list's own
-      pub sweep_brings : refusal_of_law ≡ 0 → (c.sdr1 ≡ sdr1) × (o.table ≡ none)
-      unfolding refusal_of brought_in
-      sweep_brings zero = pick under
-        where
-          own_table : (x : Option (List ℕ)) → by_option x own.table length ≡ own.table
-              → ((other : List ℕ) → x ≡ some other → length other ≡ own.table → ⊥) → x ≡ none
-          own_table none same n = refl
-          own_table (some slice) same n = absurd (n slice refl same)
-
-          pick : Under sdr1 own (made (sweep c) o) → (c.sdr1 ≡ sdr1) × (o.table ≡ none)
-          pick (inl eleven) = absurd (let z : ◌≡◌ {A = ℕ} 0 11 = sym zero ∙ eleven in omega arith)
-          pick (inr brings) =
-              let (same, others) = brings c.sdr1 refl in
-              let right = (sweep_fits zero).table_right ∙ ap (λ (n : ℕ). 65536 * 2 ^ mask_ones n) same ∙ sym (length_is sdr1 shape) ∙ sym long in
-              (same, own_table o.table (sym table_is ∙ right) others)
-
-      step_follows : refusal_of_law ≡ 0 → FollowsMap (made (sweep c) o) t other m
-      unfolding calling on_lent plainly fed_asked seen_in listed_on refusal_of
-      step_follows zero =
-          let (same, is-own) = sweep_brings zero in
-          let table = lent_for o.table t in
-          let cache = lent_for o.cache other in
-          let here = refusal_is ∙ zero in
-          rw (sweep_taken c table cache here, map_swept (fed_sweep c) lengths listed m zero, here, is-own, same)
-          (let lt : c.group < 2 ^ (10 + k) = subst (λ (n : ℕ). c.group < 2 ^ (10 + mask_ones n)) same (sweep_fits zero).in_groups in
-          let alike = sweep_step k c.group t cache m r lt in
-          (ap₂ (λ (n : ℕ) (answer : List ℕ). compared (seen_in (sweep c) n) n answer) alike.number alike.answer, alike.related))
-
-      sweep_follows : FollowsMap (made (sweep c) o) t other m
-      unfolding calling on_lent plainly fed_asked
-      sweep_follows =
-          let table = lent_for o.table t in
-          let cache = lent_for o.cache other in
-          by_test (eqb refusal_of_law 0) (λ z. step_follows (eqb_true refusal_of_law 0 z))
-          (λ z.
-          let n = eqb-false refusal_of_law 0 z in
-          rw (sweep_refused c table cache (λ e. n (sym refusal_is ∙ e)), map_unswept (fed_sweep c) lengths listed m n, refusal_is, left_lent o.table t)
-          (ap (λ (seen : List ℕ). (refusal_of_law, cond (eqb refusal_of_law 11) [] seen)) (count_seen c refusal_of_law n), r))
 
     pub follows : (asked : Asked (List ℕ)) → Under sdr1 own (made asked o) → FollowsMap (made asked o) t other m
     follows (plain request) under = plain_follows request under
     follows (cached c) under = cached_follows c under
     follows (invalidate index) under = invalidate_follows index
     follows (rights c answer) under = rights_follows c answer under
-    follows (sweep c) under = sweep_follows c under
 
   -- ---- the call itself
 
@@ -192,13 +128,13 @@ module _ (sdr1 : ℕ) (own : Slices ℕ) (shape : sdr1_shape sdr1 ≡ true) (lon
   module _ (c : Call) (s : State) (m : Map) where
     -- what the map tells of the call, and the sets that wait behind it
     abbrev pub tells : Ended Map
-    tells = map_calling (fed_asked c.asked) (lent_lengths own c) (listed_by c s) m
+    tells = map_calling (fed_asked c.asked) (lent_lengths own c) m
 
     abbrev pub waiting_behind : (ℕ → Bool) → ℕ → Bool
     waiting_behind waiting = waiting_after c.asked c.other.cache (eqb (calling c s).number 0) waiting
 
     pub record Steps (waiting : ℕ → Bool) : Type 0 where
-      pub told : (bytes_step c s).0 ≡ (map_step (fed_of own c s) m).0
+      pub told : (bytes_step c s).0 ≡ (map_step (fed_of own c) m).0
       pub number : (calling c s).number ≡ tells.number
       pub linked : Linked (calling c s).state tells.state (waiting_behind waiting)
 
@@ -221,9 +157,9 @@ module _ (sdr1 : ℕ) (own : Slices ℕ) (shape : sdr1_shape sdr1 ≡ true) (lon
   -- ---- a list of calls, and what is left of a longer one
 
   pub record GoesAlong (calls rest : List Call) (s : State) (m : Map) : Type 0 where
-    pub told : run bytes_step calls s ≡ run map_step (fed_along own calls s) m
+    pub told : run bytes_step calls s ≡ run map_step (map (fed_of own) calls) m
     pub waits : ℕ → Bool
-    pub linked : Linked (after bytes_step calls s) (after map_step (fed_along own calls s) m) waits
+    pub linked : Linked (after bytes_step calls s) (after map_step (map (fed_of own) calls) m) waits
     pub kept : Disciplined rest (after bytes_step calls s) waits
 
   pub along : (calls rest : List Call) → Each (Under sdr1 own) calls → (s : State) (m : Map) (waiting : ℕ → Bool) → Linked s m waiting

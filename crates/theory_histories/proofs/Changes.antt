@@ -1,7 +1,12 @@
--- What a call does to the finite map: it leaves it, empties it, puts a page in, takes one out, or revises pages' marks or protection; a step of a sweep
--- revises marks.
-use Rattle.words.proofs.Basics.{ℕ, ◌≡◌, refl, sym, subst, Bool, true, false, cond, ite, if_pos, if_neg, Option, none, some, List, [], ◌∷◌, foldl, eqb}
-use Rattle.words.proofs.Basics.{eqb-false, eqb_true}
+-- What a call does to the finite map: it leaves it, empties it, puts a page in, takes one out, or revises pages' marks or protection.
+use Prim.Native.Nat.{ℕ}
+use mathlib.Core.Path.{◌≡◌, refl, sym, subst}
+use mathlib.Core.Bool.{Bool, true, false, cond}
+use mathlib.Core.List.{[], ◌∷◌}
+use mathlib.Core.Logic.{ite, if_pos, if_neg}
+use mathlib.Core.Option.{Option, none, some}
+use lib.Dec.{eqb}
+use borrow.Author.Tests.{eqb-true, eqb-false}
 use Rattle.theory_placement.specs.FiniteMap.{fields_at, put_in, take_out, revise, mapped_pages}
 use Rattle.register_words.specs.Sdr1.{mask_ones}
 use Rattle.groups.specs.Page.{Page, same_page}
@@ -15,8 +20,6 @@ use Rattle.theory_calls.specs.Answers.{word_answer}
 use Rattle.theory_calls.specs.OnBytes.{Ended, ended, by_option, early_of, whole_answer, wanted_page}
 use Rattle.theory_calls.specs.OnMap.{PageFields, Map, fields_word, mark_fields, protect_fields, Arranged, arranged?, found_in, map_marked, map_does, on_map}
 use Rattle.theory_calls.proofs.Histories.{map_taken, map_refused}
-use Rattle.theory_sweep.specs.Sweep.{Swept}
-use Rattle.theory_sweep.specs.OnMap.{unreferenced_fields, swept_page, map_sweeps}
 use Rattle.theory_histories.specs.Theorem.{Maps, by_map, TakesOut, by_clear, by_unmap}
 
 -- marks and protection leave frame and attributes
@@ -51,17 +54,6 @@ mark_revises kind (Search wanted) result m n so = go (eqb result 0)
     go : (t : Bool) → Revisions m (cond t (revise same_page (wanted_page wanted) (mark_fields (storing kind)) n) n)
     go true = revising n so (wanted_page wanted) (mark_fields (storing kind)) (mark_keeps (storing kind)) refl
     go false = so
-
--- the pages of a step of a sweep, one after the other
-listed_revise : (listed : List Page) (m : Map) (s : Swept Map) → Revisions m s.state → Revisions m (foldl swept_page s listed).state
-unfolding swept_page
-listed_revise [] m s so = so
-listed_revise (page ∷ listed) m s so =
-    listed_revise listed m (swept_page s page) (revising s.state so page unreferenced_fields (record { frame = λ f. refl; attributes = λ f. refl }) refl)
-
-pub sweep_revises : (listed : List Page) (m : Map) → Revisions m (map_sweeps listed m).state
-unfolding map_sweeps
-sweep_revises listed m = listed_revise listed m (record { state = m; told = [] }) (kept refl)
 
 module _ (k : ℕ) (m : Map) where
   -- a call that its arguments do not refuse
@@ -126,5 +118,5 @@ pub changed : (request : Request ℕ) (lent : ℕ) (m : Map) → Changed request
 changed request lent m = go (eqb (refusal request lent) 0) refl
   where
     go : (t : Bool) → eqb (refusal request lent) 0 ≡ t → Changed request m (on_map request lent m)
-    go true e = rw (map_taken request lent m (eqb_true (refusal request lent) 0 e)) (does (mask_ones (sdr1_in request)) m request)
+    go true e = rw (map_taken request lent m (eqb-true (refusal request lent) 0 e)) (does (mask_ones (sdr1_in request)) m request)
     go false e = rw (map_refused request lent m (refusal request lent) refl (eqb-false (refusal request lent) 0 e)) (left refl)

@@ -1,7 +1,13 @@
 -- What the theorem means for one page: after a done unmap or clear it is found no more until it is mapped again, and an access that is done by it, with or
 -- without the cache, gives the frame and the attributes of its last done map. Both are shown on the finite map, call by call, and carried to the bytes.
-use Rattle.words.proofs.Basics.{ℕ, ◌+◌, ◌^◌, ◌<◌, ◌≡◌, refl, sym, ap, ap₂, ◌∙◌, subst, Bool, true, false, cond, ◌&&◌, none, some, List, [], ◌∷◌, ◌++◌}
-use Rattle.words.proofs.Basics.{append_assoc, cons≢nil, eqb, length, arith, eqb-false, eqb_true}
+use Prim.Native.Nat.{ℕ, ◌+◌, ◌^◌, ◌<◌}
+use mathlib.Core.Path.{◌≡◌, refl, sym, ap, ap₂, ◌∙◌, subst}
+use mathlib.Core.Bool.{Bool, true, false, cond, ◌&&◌}
+use mathlib.Core.List.{List, [], ◌∷◌, ◌++◌, map, append_assoc, cons≢nil}
+use mathlib.Core.Option.{none, some}
+use native.Mathlib.Omega.{arith}
+use lib.Dec.{eqb}
+use lib.ListN.{length}
 use Rattle.words.specs.Bits.{bits, placed}
 use Rattle.words.specs.Words.{word_bytes, word_at, bytes_of}
 use Rattle.words.proofs.Words.{own_bytes}
@@ -51,18 +57,13 @@ use Rattle.theory_cache.proofs.Found.{by_cases}
 use Rattle.theory_cache.proofs.Refusals.{cached_taken}
 use Rattle.theory_cache.proofs.Parts as cached-parts
 use Rattle.theory_cache.proofs.Parts.{AllBacked}
-use Rattle.theory_sweep.specs.Sweep.{SweepCall, fed_sweep, sweep_refusal}
-use Rattle.theory_sweep.specs.OnMap.{map_sweeps}
-use Rattle.theory_histories.specs.Calls.{Asked, plain, cached, invalidate, rights, sweep, Slices, Call, State, on_lent, calling, lent_lengths, refusal_of}
-use Rattle.theory_histories.specs.Calls.{Under, listed_by}
-use Rattle.theory_histories.specs.Fed.{fed_asked, fed_of, fed_along, map_calling, bytes_step, map_step}
+use Rattle.theory_histories.specs.Calls.{Asked, plain, cached, invalidate, rights, Slices, Call, State, on_lent, calling, lent_lengths, refusal_of, Under}
+use Rattle.theory_histories.specs.Fed.{fed_asked, fed_of, map_calling, bytes_step, map_step}
 use Rattle.theory_histories.specs.Discipline.{Disciplined, filled}
 use Rattle.theory_histories.specs.Histories.{own_call, History, own, begun, state_after, map_after, next}
-use Rattle.theory_histories.specs.Theorem.{mapped_to, Maps, by_map, TakesOut, by_clear, by_unmap, NoneDone, DoneSince, Accesses, by_table, with_cache}
-use Rattle.theory_histories.specs.Theorem.{Reaches, answered_after, address_byte, attributes_byte, AccessFollowsHistory}
-use Rattle.theory_histories.proofs.Sweeps.{map_swept, map_unswept}
-use Rattle.theory_histories.proofs.Changes.{sweep_revises, changed}
-use Rattle.theory_histories.proofs.Pages.{Has, revisions_out, revisions_in, stays_out, stays_in, maps_fed, takes_fed, fed_takes, taken_out, put_in_law}
+use Rattle.theory_histories.specs.Theorem.{mapped_to, Maps, by_map, TakesOut, by_clear, by_unmap, NoneDone, DoneSince, Accesses, by_table, with_cache, Reaches, answered_after, address_byte, attributes_byte, AccessFollowsHistory}
+use Rattle.theory_histories.proofs.Changes.{changed}
+use Rattle.theory_histories.proofs.Pages.{Has, stays_out, stays_in, maps_fed, takes_fed, fed_takes, taken_out, put_in_law}
 use Rattle.theory_histories.proofs.Along.{Linked, GoesAlong, along, Steps, steps, tells}
 use Rattle.theory_histories.proofs.Theorem.{ones, fits, begins, all_along}
 
@@ -76,70 +77,54 @@ takes_not : {page : Page} (request : Request ℕ) (c : AccessCall ℕ) → Takes
 takes_not request c (by_clear d) e = let z : ◌≡◌ {A = ℕ} 0 1 = cc in omega arith
 takes_not request c (by_unmap d is) e = let z : ◌≡◌ {A = ℕ} 0 1 = cc in omega arith
 
--- a step of a sweep is refused and leaves the map, or goes on
-by_sweep : (c : SweepCall ℕ) (lent : Slices ℕ) (listed : List Page) (m : Map) (P : Map → Type 0) → P (map_sweeps listed m).state → P m
-    → P (map_calling (sweep c) lent listed m).state
-by_sweep c lent listed m P does leaves =
-    let number = sweep_refusal c lent.table lent.cache in
-    by_test (eqb number 0) (λ z. rw (map_swept c lent listed m (eqb_true number 0 z)) does)
-    (λ z. rw (map_unswept c lent listed m (eqb-false number 0 z)) leaves)
-
 -- a call keeps a page out unless it is a done request that maps it
-call_out : (page : Page) (asked : Asked (List ℕ)) (lent : Slices ℕ) (listed : List Page) (m : Map) → fields_at same_page page m ≡ none
-    → ((request : Request (List ℕ)) → asked ≡ plain request → Maps page request → (map_calling (fed_asked asked) lent listed m).number ≡ 0 → ⊥)
-    → fields_at same_page page (map_calling (fed_asked asked) lent listed m).state ≡ none
+call_out : (page : Page) (asked : Asked (List ℕ)) (lent : Slices ℕ) (m : Map) → fields_at same_page page m ≡ none
+    → ((request : Request (List ℕ)) → asked ≡ plain request → Maps page request → (map_calling (fed_asked asked) lent m).number ≡ 0 → ⊥)
+    → fields_at same_page page (map_calling (fed_asked asked) lent m).state ≡ none
 unfolding map_calling fed_asked
-call_out page (plain request) lent listed m e n =
+call_out page (plain request) lent m e n =
     stays_out page (fed request) m (on_map (fed request) lent.table m) e (λ a z. n request refl (maps_fed page request a) z) (changed (fed request) lent.table m)
-call_out page (cached c) lent listed m e n =
+call_out page (cached c) lent m e n =
     let asks = access (fed_access c) in
     by_test (eqb lent.cache 2048)
     (λ z. rw z (stays_out page asks m (on_map asks lent.table m) e (λ a q. maps_not asks (fed_access c) a refl) (changed asks lent.table m))) (λ z. rw z e)
-call_out page (invalidate index) lent listed m e n = e
-call_out page (rights c answer) lent listed m e n = e
-call_out page (sweep c) lent listed m e n =
-    by_sweep (fed_sweep c) lent listed m (λ x. fields_at same_page page x ≡ none) (revisions_out page m (map_sweeps listed m).state e (sweep_revises listed m)) e
+call_out page (invalidate index) lent m e n = e
+call_out page (rights c answer) lent m e n = e
 
 -- and keeps a mapped page's frame and attributes unless it is a done request that takes it out
-call_in : (page : Page) (rpn wimg : ℕ) (asked : Asked (List ℕ)) (lent : Slices ℕ) (listed : List Page) (m : Map) → Has rpn wimg page m
-    → ((request : Request (List ℕ)) → asked ≡ plain request → TakesOut page request → (map_calling (fed_asked asked) lent listed m).number ≡ 0 → ⊥)
-    → Has rpn wimg page (map_calling (fed_asked asked) lent listed m).state
+call_in : (page : Page) (rpn wimg : ℕ) (asked : Asked (List ℕ)) (lent : Slices ℕ) (m : Map) → Has rpn wimg page m
+    → ((request : Request (List ℕ)) → asked ≡ plain request → TakesOut page request → (map_calling (fed_asked asked) lent m).number ≡ 0 → ⊥)
+    → Has rpn wimg page (map_calling (fed_asked asked) lent m).state
 unfolding map_calling fed_asked
-call_in page rpn wimg (plain request) lent listed m has n =
+call_in page rpn wimg (plain request) lent m has n =
     stays_in page (fed request) m (on_map (fed request) lent.table m) rpn wimg has (λ a z. n request refl (takes_fed page request a) z) (changed (fed request) lent.table m)
-call_in page rpn wimg (cached c) lent listed m has n =
+call_in page rpn wimg (cached c) lent m has n =
     let asks = access (fed_access c) in
     by_test (eqb lent.cache 2048)
     (λ z. rw z (stays_in page asks m (on_map asks lent.table m) rpn wimg has (λ a q. takes_not asks (fed_access c) a refl) (changed asks lent.table m))) (λ z. rw z has)
-call_in page rpn wimg (invalidate index) lent listed m has n = has
-call_in page rpn wimg (rights c answer) lent listed m has n = has
-call_in page rpn wimg (sweep c) lent listed m has n =
-    by_sweep (fed_sweep c) lent listed m (Has rpn wimg page) (revisions_in page m rpn wimg has (map_sweeps listed m).state (sweep_revises listed m)) has
+call_in page rpn wimg (invalidate index) lent m has n = has
+call_in page rpn wimg (rights c answer) lent m has n = has
 
 -- a done request that takes a page out leaves it out, and a done map of it leaves it with the map's frame and attributes
-call_takes : (page : Page) (asked : Asked (List ℕ)) (request : Request (List ℕ)) → asked ≡ plain request → TakesOut page request
-    → (lent : Slices ℕ) (listed : List Page) (m : Map)
-    → (map_calling (fed_asked asked) lent listed m).number ≡ 0 → fields_at same_page page (map_calling (fed_asked asked) lent listed m).state ≡ none
+call_takes : (page : Page) (asked : Asked (List ℕ)) (request : Request (List ℕ)) → asked ≡ plain request → TakesOut page request → (lent : Slices ℕ) (m : Map)
+    → (map_calling (fed_asked asked) lent m).number ≡ 0 → fields_at same_page page (map_calling (fed_asked asked) lent m).state ≡ none
 unfolding map_calling fed_asked
-call_takes page asked request is takes lent listed m =
-    let end : Asked (List ℕ) → Ended Map = λ a. map_calling (fed_asked a) lent listed m in
-    subst (λ (a : Asked (List ℕ)). (end a).number ≡ 0 → fields_at same_page page (end a).state ≡ none) (sym is)
+call_takes page asked request is takes lent m =
+    subst (λ (a : Asked (List ℕ)). (map_calling (fed_asked a) lent m).number ≡ 0 → fields_at same_page page (map_calling (fed_asked a) lent m).state ≡ none) (sym is)
     (taken_out lent.table m page (fed request) (fed_takes page request takes))
 
-call_maps : (c : MapCall) (asked : Asked (List ℕ)) → asked ≡ plain (map_page c) → (lent : Slices ℕ) (listed : List Page) (m : Map)
-    → (map_calling (fed_asked asked) lent listed m).number ≡ 0 → Has c.rpn c.wimg c.page (map_calling (fed_asked asked) lent listed m).state
+call_maps : (c : MapCall) (asked : Asked (List ℕ)) → asked ≡ plain (map_page c) → (lent : Slices ℕ) (m : Map)
+    → (map_calling (fed_asked asked) lent m).number ≡ 0 → Has c.rpn c.wimg c.page (map_calling (fed_asked asked) lent m).state
 unfolding map_calling fed_asked fed
-call_maps c asked is lent listed m =
-    let end : Asked (List ℕ) → Ended Map = λ a. map_calling (fed_asked a) lent listed m in
-    subst (λ (a : Asked (List ℕ)). (end a).number ≡ 0 → Has c.rpn c.wimg c.page (end a).state) (sym is)
+call_maps c asked is lent m =
+    subst (λ (a : Asked (List ℕ)). (map_calling (fed_asked a) lent m).number ≡ 0 → Has c.rpn c.wimg c.page (map_calling (fed_asked a) lent m).state) (sym is)
     (put_in_law lent.table m c)
 
 -- the finite map over a list of calls in two parts
-map_parts : (lengths : Slices ℕ) (cs ds : List Call) (s : State) (m : Map)
-    → after map_step (fed_along lengths (cs ++ ds) s) m ≡ after map_step (fed_along lengths ds (after bytes_step cs s)) (after map_step (fed_along lengths cs s) m)
-unfolding bytes_step
-map_parts lengths [] ds s m = refl
-map_parts lengths (c ∷ cs) ds s m = map_parts lengths cs ds (calling c s).state (map_step (fed_of lengths c s) m).1
+map_parts : (own : Slices ℕ) (cs ds : List Call) (m : Map)
+    → after map_step (map (fed_of own) (cs ++ ds)) m ≡ after map_step (map (fed_of own) ds) (after map_step (map (fed_of own) cs) m)
+map_parts own [] ds m = refl
+map_parts own (c ∷ cs) ds m = map_parts own cs ds (map_step (fed_of own c) m).1
 
 module _ (h : History) where
   abbrev Joint : State → Map → (ℕ → Bool) → Type 0
@@ -155,23 +140,22 @@ module _ (h : History) where
 
   module _ (page : Page) (rest : List Call) where
     out_along : (ds : List Call) → Each (Under h.sdr1 (own h)) ds → (s : State) (m : Map) (waiting : ℕ → Bool) → Joint s m waiting → Disciplined (ds ++ rest) s waiting
-        → fields_at same_page page m ≡ none → NoneDone (Maps page) ds s → fields_at same_page page (after map_step (fed_along (own h) ds s) m) ≡ none
+        → fields_at same_page page m ≡ none → NoneDone (Maps page) ds s → fields_at same_page page (after map_step (map (fed_of (own h)) ds) m) ≡ none
     unfolding map_step
     out_along [] each s m waiting l kept e n = e
     out_along (c ∷ ds) (under, each) s m waiting l kept e (n, none_behind) =
         let step = step_of c under (ds ++ rest) s m waiting l kept in
         out_along ds each (calling c s).state (told c s m).state _ step.linked kept.1
-        (call_out page c.asked (lent_lengths (own h) c) (listed_by c s) m e (λ request is maps z. n request is maps (step.number ∙ z))) none_behind
+        (call_out page c.asked (lent_lengths (own h) c) m e (λ request is maps z. n request is maps (step.number ∙ z))) none_behind
 
     in_along : (rpn wimg : ℕ) (ds : List Call) → Each (Under h.sdr1 (own h)) ds → (s : State) (m : Map) (waiting : ℕ → Bool) → Joint s m waiting → Disciplined (ds ++ rest) s waiting
-        → Has rpn wimg page m → NoneDone (TakesOut page) ds s → Has rpn wimg page (after map_step (fed_along (own h) ds s) m)
+        → Has rpn wimg page m → NoneDone (TakesOut page) ds s → Has rpn wimg page (after map_step (map (fed_of (own h)) ds) m)
     unfolding map_step
     in_along rpn wimg [] each s m waiting l kept has n = has
     in_along rpn wimg (c ∷ ds) (under, each) s m waiting l kept has (n, none_behind) =
         let step = step_of c under (ds ++ rest) s m waiting l kept in
         in_along rpn wimg ds each (calling c s).state (told c s m).state _ step.linked kept.1
-        (call_in page rpn wimg c.asked (lent_lengths (own h) c) (listed_by c s) m has
-        (λ request is takes z. n request is takes (step.number ∙ z))) none_behind
+        (call_in page rpn wimg c.asked (lent_lengths (own h) c) m has (λ request is takes z. n request is takes (step.number ∙ z))) none_behind
 
 -- ---- a history in which one of these requests was done and none of those since
 
@@ -194,7 +178,7 @@ module _ (h : History) (These Those : Request (List ℕ) → Type 0) (since : Do
   before_state = after bytes_step since.before (begun h)
 
   abbrev before_map : Map
-  before_map = after map_step (fed_along (own h) since.before (begun h)) []
+  before_map = after map_step (map (fed_of (own h)) since.before) []
 
   step : Steps h.sdr1 (own h) (fits h).shape (fits h).long call before_state before_map up_to.waits
   step = step_of h call each_part.1.0 (since.behind ++ rest) before_state before_map up_to.waits up_to.linked up_to.kept
@@ -202,11 +186,10 @@ module _ (h : History) (These Those : Request (List ℕ) → Type 0) (since : Do
   told_done : (told h call before_state before_map).number ≡ 0
   told_done = sym step.number ∙ since.was_done
 
-  rest_is : map_after h ≡ after map_step (fed_along (own h) since.behind (calling call before_state).state) (told h call before_state before_map).state
+  rest_is : map_after h ≡ after map_step (map (fed_of (own h)) since.behind) (told h call before_state before_map).state
   unfolding map_step
   rest_is =
-      ap (λ (cs : List Call). after map_step (fed_along (own h) cs (begun h)) []) since.parts
-      ∙ map_parts (own h) since.before (call ∷ since.behind) (begun h) []
+      ap (λ (cs : List Call). after map_step (map (fed_of (own h)) cs) []) since.parts ∙ map_parts (own h) since.before (call ∷ since.behind) []
 
 out_after : (h : History) (page : Page) (since : DoneSince h (TakesOut page) (Maps page)) (rest : List Call)
     → Disciplined (h.calls ++ rest) (begun h) (filled h.start.cache) → mapped_to h page ≡ none
@@ -214,12 +197,10 @@ out_after h page since rest kept =
     let These = TakesOut page in
     let Those = Maps page in
     let m = before_map h These Those since rest kept in
-    let listed = listed_by since.call (before_state h These Those since rest kept) in
     rw (rest_is h These Those since rest kept)
     (out_along h page rest since.behind (each_part h These Those since rest kept).1.1 _ _ _ (step h These Those since rest kept).linked
     (up_to h These Those since rest kept).kept.1
-    (call_takes page since.call.asked since.request since.asks since.one_of_these (lent_lengths (own h) since.call) listed m
-    (told_done h These Those since rest kept))
+    (call_takes page since.call.asked since.request since.asks since.one_of_these (lent_lengths (own h) since.call) m (told_done h These Those since rest kept))
     since.none_of_those)
 
 in_after : (h : History) (c : MapCall) (since : DoneSince h (λ request. request ≡ map_page c) (TakesOut c.page)) (rest : List Call)
@@ -228,12 +209,10 @@ in_after h c since rest kept =
     let These : Request (List ℕ) → Type 0 = λ request. request ≡ map_page c in
     let Those = TakesOut c.page in
     let m = before_map h These Those since rest kept in
-    let listed = listed_by since.call (before_state h These Those since rest kept) in
     rw (rest_is h These Those since rest kept)
     (in_along h c.page rest c.rpn c.wimg since.behind (each_part h These Those since rest kept).1.1 _ _ _ (step h These Those since rest kept).linked
     (up_to h These Those since rest kept).kept.1
-    (call_maps c since.call.asked (since.asks ∙ ap plain since.one_of_these) (lent_lengths (own h) since.call) listed m
-    (told_done h These Those since rest kept))
+    (call_maps c since.call.asked (since.asks ∙ ap plain since.one_of_these) (lent_lengths (own h) since.call) m (told_done h These Those since rest kept))
     since.none_of_those)
 
 -- ---- the answer of an access

@@ -12,8 +12,6 @@ use Rattle.theory_calls.proofs.WidenedPages.{pages_widen}
 use Rattle.theory_calls.proofs.Examples.{without_table_tables, page_rows, operand_rows}
 use Rattle.theory_cache.proofs.AnyCache.{calls_on_any_cache}
 use Rattle.theory_cache.proofs.Rows.{cached_rows}
-use Rattle.theory_sweep.proofs.AnyTable.{sweep_on_any_table}
-use Rattle.theory_sweep.proofs.Rows.{sweep_rows}
 use Rattle.access_rights.proofs.Stated.{rights_stated}
 use Rattle.theory_histories.specs.Demands.{Demands}
 use Rattle.theory_histories.proofs.Theorem.{table_refines_map, cache_invisible, rights_follow_history}
@@ -31,7 +29,6 @@ all_demands = record {
   invisible = cache_invisible;
   any_table = calls_on_any_table;
   any_cache = calls_on_any_cache;
-  any_sweep = sweep_on_any_table;
   rights = rights_stated;
   rights_follow = rights_follow_history;
   register_pages = pages_widen;
@@ -45,7 +42,6 @@ all_demands = record {
   page_calls = page_rows;
   operands = operand_rows;
   cached_calls = cached_rows;
-  sweeps = sweep_rows;
   slices = slice_rows;
   waiting = waiting_rows;
   instances = instance_rows;

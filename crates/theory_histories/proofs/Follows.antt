@@ -1,5 +1,10 @@
 -- One request of a history on the list's own table, or on a slice of another length, answers what the finite map answers, and table and map stay related.
-use Rattle.words.proofs.Basics.{ℕ, ◌≡◌, refl, true, Option, none, some, List, length}
+use Prim.Native.Nat.{ℕ}
+use mathlib.Core.Path.{◌≡◌, refl}
+use mathlib.Core.Bool.{true}
+use mathlib.Core.List.{List}
+use mathlib.Core.Option.{Option, none, some}
+use lib.ListN.{length}
 use Rattle.register_words.specs.Sdr1.{sdr1_shape, table_length, mask_ones}
 use Rattle.theory_calls.specs.Request.{Request, sdr1_in, fed}
 use Rattle.theory_calls.specs.Rules.{refusal}

@@ -1,8 +1,14 @@
 -- Every instance is met: its calls are under SDR1 0 and keep the cache's discipline by the tests on the finite map, and a call of it was done where the map
 -- has it done.
-use Rattle.words.proofs.Basics.{ℕ, ◌≡◌, refl, sym, ap, ap₂, ◌∙◌, subst, Bool, true, false, true≢false, ite, if_pos, if_neg, none, List, [], ◌∷◌, ◌++◌, map}
-use Rattle.words.proofs.Basics.{lit<, lit≤, replicate, arith}
-use Rattle.words.proofs.Tests.{both}
+use Prim.Native.Nat.{ℕ}
+use mathlib.Core.Path.{◌≡◌, refl, sym, ap, ◌∙◌, subst}
+use mathlib.Core.Bool.{Bool, true, false, true≢false}
+use mathlib.Core.List.{List, [], ◌∷◌, ◌++◌, map}
+use mathlib.Core.Logic.{ite, if_pos, if_neg}
+use mathlib.Core.Option.{none}
+use native.Mathlib.Omega.{arith}
+use lib.Dec.{lit≤, lit<}
+use lib.ListN.{replicate}
 use Rattle.theory_placement.specs.FiniteMap.{fields_at, mapped_pages}
 use Rattle.theory_placement.proofs.Decision.{arrangement?}
 use Rattle.register_words.specs.Sdr1.{mask_ones}
@@ -12,22 +18,16 @@ use Rattle.theory_calls.specs.Request.{AnsweredCall, Request, map_page, unmap}
 use Rattle.theory_calls.specs.OnBytes.{Ended}
 use Rattle.theory_calls.specs.OnMap.{Map, Arranged, arranged?}
 use Rattle.theory_calls.proofs.FirstClear.{start_done}
-use Rattle.theory_calls.proofs.Histories.{size_is}
 use Rattle.theory_cache.specs.Rows.{load}
-use Rattle.theory_sweep.specs.Sweep.{SweepCall, fed_sweep, sweep_refusal}
-use Rattle.theory_sweep.proofs.Refusals.{number_is}
-use Rattle.theory_histories.specs.Calls.{Asked, plain, cached, invalidate, sweep, Slices, slices, State, Call, on_lent, calling, lent_to, lengths_of}
-use Rattle.theory_histories.specs.Calls.{lent_lengths, refusal_of, Under}
-use Rattle.theory_histories.specs.Fed.{fed_asked, Fed, fed_along, map_calling, bytes_step, map_step}
+use Rattle.theory_histories.specs.Calls.{Asked, plain, cached, invalidate, Slices, slices, State, Call, calling, lengths_of, lent_lengths, refusal_of, Under}
+use Rattle.theory_histories.specs.Fed.{fed_asked, fed_of, map_calling, bytes_step, map_step}
 use Rattle.theory_histories.specs.Discipline.{Disciplined, filled}
-use Rattle.theory_histories.specs.Histories.{own_call, History, own, begun, state_after, map_after, CacheKept, next}
+use Rattle.theory_histories.specs.Histories.{own_call, History, own, begun, CacheKept}
 use Rattle.theory_histories.specs.Theorem.{mapped_to, ArrangedWith, MapInRange, Maps, by_map, TakesOut, by_unmap, DoneSince, Reaches, with_cache}
-use Rattle.theory_histories.specs.Rows.{on, invalidate_set_of, step_of, sweep_of}
-use Rattle.theory_histories.specs.Instances.{page_at, maps_at, unmaps_at, invalidates_below, unmapped_both, disciplined, exceptions, swept, map_of, maps_below}
-use Rattle.theory_histories.specs.Instances.{Met, InstanceRows}
-use Rattle.theory_histories.proofs.Sweeps.{no_sweep, no_sweeps, fed_unlisted, lists_none, fed_unlisted_law}
-use Rattle.theory_histories.proofs.Along.{GoesAlong, Linked, along, steps}
-use Rattle.theory_histories.proofs.Theorem.{fits, begins, nothing_left}
+use Rattle.theory_histories.specs.Rows.{on, invalidate_set_of}
+use Rattle.theory_histories.specs.Instances.{page_at, maps_at, unmaps_at, invalidates_below, unmapped_both, disciplined, exceptions, map_of, maps_below, Met, InstanceRows}
+use Rattle.theory_histories.proofs.Along.{along, steps}
+use Rattle.theory_histories.proofs.Theorem.{fits, begins}
 use Rattle.theory_histories.proofs.Tested.{every_under, all_under, kept_test, kept_tested}
 use Rattle.theory_histories.proofs.Computes.{histories_compute}
 
@@ -42,12 +42,12 @@ TestedUnder calls = every_under 0 sizes calls ≡ true
 abbrev TestedKept : List Call → Type 0
 TestedKept calls = kept_test 0 sizes calls [] (λ set. true) ≡ true
 
--- the finite map after a list of calls of which none is a step of a sweep, and what it tells of a call that follows and lists nothing
+-- the finite map after a list of calls, and what it tells of a call that follows
 abbrev pub map_behind : Slices ℕ → List Call → Map
-map_behind lengths calls = after map_step (map (fed_unlisted lengths) calls) []
+map_behind lengths calls = after map_step (map (fed_of lengths) calls) []
 
 abbrev number_behind : Slices ℕ → List Call → Call → ℕ
-number_behind lengths calls c = (map_calling (fed_asked c.asked) (lent_lengths lengths c) [] (map_behind lengths calls)).number
+number_behind lengths calls c = (map_calling (fed_asked c.asked) (lent_lengths lengths c) (map_behind lengths calls)).number
 
 -- what a decision that computes says
 not_arranged : {P : Type 0} (d : Dec P) → ite {C = ℕ} d 0 9 ≡ 9 → P → ⊥
@@ -84,14 +84,6 @@ exceptions_tested : TestedKept exceptions
 unfolding histories_compute arrangement?
 exceptions_tested = refl
 
-swept_under : TestedUnder swept
-unfolding histories_compute
-swept_under = refl
-
-swept_tested : TestedKept swept
-unfolding histories_compute arrangement?
-swept_tested = refl
-
 -- a table and a cache of these lengths
 module _ (s : State) (long : lengths_of s ≡ sizes) where
   pub under_each : (calls : List Call) → TestedUnder calls → Each (Under 0 (lengths_of s)) calls
@@ -118,16 +110,11 @@ module _ (s : State) (long : lengths_of s ≡ sizes) where
         (λ set never. absurd (true≢false never)) (subst (λ (lengths : Slices ℕ). kept_test 0 lengths list [] (λ set. true) ≡ true) (sym long) test)
 
     -- a call of it was done, where the map has it done
-    was_done : (before : List Call) (c : Call) (behind : List Call) → no_sweeps (c ∷ before) ≡ true → TestedUnder before
-        → TestedUnder (c ∷ []) → TestedUnder (before ++ c ∷ behind) → TestedKept (before ++ c ∷ behind) → number_behind sizes before c ≡ 0 → (calling c (after bytes_step before (begun h))).number ≡ 0
-    was_done before c behind none-listed first one all test does =
-        let (none-now, none_before) = both (no_sweep c.asked) (no_sweeps before) none-listed in
-        let left = after bytes_step before (begun h) in
+    was_done : (before : List Call) (c : Call) (behind : List Call) → TestedUnder before → TestedUnder (c ∷ []) → TestedUnder (before ++ c ∷ behind)
+        → TestedKept (before ++ c ∷ behind) → number_behind sizes before c ≡ 0 → (calling c (after bytes_step before (begun h))).number ≡ 0
+    was_done before c behind first one all test does =
         let g = along 0 (own h) (fits h).shape (fits h).long before (c ∷ behind) (under_each before first) (begun h) [] (filled s.cache) (begins h) (kept (before ++ c ∷ behind) all test) in
-        (steps 0 (own h) (fits h).shape (fits h).long c left (after map_step (fed_along (own h) before (begun h)) [])
-        (under_each (c ∷ []) one).0 g.waits g.linked g.kept.0).number
-        ∙ ap₂ (λ (listed : List Page) (fed : List Fed). (map_calling (fed_asked c.asked) (lent_lengths (own h) c) listed (after map_step fed [])).number)
-        (lists_none c.asked (lent_to c left) none-now) (fed_unlisted_law (own h) before (begun h) none_before)
+        (steps 0 (own h) (fits h).shape (fits h).long c (after bytes_step before (begun h)) (map_behind (own h) before) (under_each (c ∷ []) one).0 g.waits g.linked g.kept.0).number
         ∙ subst (λ (lengths : Slices ℕ). number_behind lengths before c ≡ 0) (sym long) does
 
   -- ---- the instances
@@ -137,25 +124,6 @@ module _ (s : State) (long : lengths_of s ≡ sizes) where
 
   kept_list : (calls : List Call) → TestedUnder calls → TestedKept calls → Met calls CacheKept s
   kept_list calls e test = met calls e CacheKept (kept calls e calls e test)
-
-  -- the number of a step of a sweep that follows is that of its rules
-  step_number : (calls : List Call) (e : TestedUnder calls) → CacheKept (history_of calls e) → (c : SweepCall (List ℕ)) (n : ℕ)
-      → sweep_refusal (fed_sweep c) 65536 2048 ≡ n → (next (history_of calls e) (own_call (sweep c))).number ≡ n
-  unfolding calling on_lent
-  step_number calls e keeps c n is =
-      let h = history_of calls e in
-      let all = nothing_left h keeps in
-      let left = state_after h in
-      number_is c left.table left.cache
-      ∙ ap₂ (sweep_refusal (fed_sweep c)) (size_is 0 (own h).table (fits h).shape (fits h).long left.table (map_after h) all.linked.related)
-      all.linked.size
-      ∙ ap (λ (lengths : Slices ℕ). sweep_refusal (fed_sweep c) lengths.table lengths.cache) long ∙ is
-
-  swept_met : Met swept (λ h. CacheKept h × ((next h (own_call (sweep_of 0x03FF))).number ≡ 0) × ((next h (own_call (sweep_of 0x0400))).number ≡ 13)) s
-  unfolding histories_compute
-  swept_met =
-      let keeps = kept swept swept_under swept swept_under swept_tested in
-      met swept swept_under _ (keeps, step_number swept swept_under keeps (step_of 0x03FF) 0 refl, step_number swept swept_under keeps (step_of 0x0400) 13 refl)
 
   -- a map of the page 16 of case 11
   in_range_law : (calls : List Call) (e : TestedUnder calls) → MapInRange (history_of calls e) (map_of 16)
@@ -170,11 +138,8 @@ module _ (s : State) (long : lengths_of s ≡ sizes) where
   }
 
   -- what the map has after such calls, whatever the lengths are called
-  pub by_sizes : (P : Map → Type 0) (calls : List Call) (u : State) → no_sweeps calls ≡ true → P (map_behind sizes calls)
-      → P (after map_step (fed_along (lengths_of s) calls u) [])
-  by_sizes P calls u none-listed holds =
-      subst (λ (fed : List Fed). P (after map_step fed [])) (sym (fed_unlisted_law (lengths_of s) calls u none-listed))
-      (subst (λ (lengths : Slices ℕ). P (map_behind lengths calls)) (sym long) holds)
+  by_sizes : (P : Map → Type 0) (calls : List Call) → P (map_behind sizes calls) → P (map_behind (lengths_of s) calls)
+  by_sizes P calls = subst (λ (lengths : Slices ℕ). P (map_behind lengths calls)) (sym long)
 
   full : Met (maps_below 16) (λ h. MapInRange h (map_of 16) × (mapped_to h (map_of 16).page ≡ none) × (ArrangedWith h (map_of 16).page → ⊥)) s
   unfolding histories_compute arrangement?
@@ -183,9 +148,8 @@ module _ (s : State) (long : lengths_of s ≡ sizes) where
       let calls = maps_below 16 in
       met calls refl _ (
         in_range_law calls refl,
-        by_sizes (λ (m : Map). fields_at same_page page m ≡ none) calls (begun (history_of calls refl)) refl refl,
-        by_sizes (λ (m : Map). Arranged 0 (page ∷ mapped_pages m) → ⊥) calls (begun (history_of calls refl)) refl
-            (not_arranged (arranged? 0 (page ∷ mapped_pages (map_behind sizes calls))) refl),
+        by_sizes (λ (m : Map). fields_at same_page page m ≡ none) calls refl,
+        by_sizes (λ (m : Map). Arranged 0 (page ∷ mapped_pages m) → ⊥) calls (not_arranged (arranged? 0 (page ∷ mapped_pages (map_behind sizes calls))) refl),
       )
 
   room : Met [] (λ h. MapInRange h (map_of 16) × (mapped_to h (map_of 16).page ≡ none) × ArrangedWith h (map_of 16).page) s
@@ -223,7 +187,7 @@ module _ (s : State) (long : lengths_of s ≡ sizes) where
           request = unmaps_at 0;
           asks = refl;
           one_of_these = by_unmap (record { sdr1 = 0; page = page_at 0; answer = replicate 16 0 }) refl;
-          was_done = was_done calls refl before (on (unmaps_at 0)) behind refl refl refl refl refl refl;
+          was_done = was_done calls refl before (on (unmaps_at 0)) behind refl refl refl refl refl;
           none_of_those = (unmap_maps_none, (invalidate_asks_none 0, (invalidate_asks_none 1, tt)));
         },
         reached calls refl refl refl,
@@ -244,7 +208,7 @@ module _ (s : State) (long : lengths_of s ≡ sizes) where
           request = maps_at 0;
           asks = refl;
           one_of_these = refl;
-          was_done = was_done calls refl before (on (maps_at 0)) [] refl refl refl refl refl refl;
+          was_done = was_done calls refl before (on (maps_at 0)) [] refl refl refl refl refl;
           none_of_those = tt;
         },
         reached calls refl refl refl,
@@ -254,7 +218,6 @@ pub instance_rows : InstanceRows
 instance_rows = record {
   disciplined_list = λ s long. kept_list s long disciplined disciplined_under disciplined_tested;
   both_exceptions = λ s long. kept_list s long exceptions exceptions_under exceptions_tested;
-  swept_list = swept_met;
   full_pair = full;
   room_left = room;
   unmapped_page = unmapped;

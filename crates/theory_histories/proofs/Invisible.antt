@@ -1,7 +1,15 @@
 -- Nobody can tell a disciplined list of calls from the same list without the cache: along the list every place of a set that does not wait for an
 -- invalidate is backed by the table, each call keeps this, and an access with such a cache is alike.
-use Rattle.words.proofs.Basics.{ℕ, ◌+◌, ◌-◌, ◌*◌, ◌^◌, ◌<◌, ◌≡◌, refl, sym, ap, ap₂, ◌∙◌, subst, Bool, true, false, cond, not, ◌&&◌, ◌||◌, true≢false, Option}
-use Rattle.words.proofs.Basics.{none, some, Option·some-ne-none, List, [], ◌∷◌, eqb, length, get_or, size, arith, eq-eqb, eqb-false, eqb_true, ne_eqb}
+use Prim.Native.Nat.{ℕ, ◌+◌, ◌*◌, ◌-◌, ◌^◌, ◌<◌}
+use mathlib.Core.Path.{◌≡◌, refl, sym, ap, ◌∙◌, subst}
+use mathlib.Core.Bool.{Bool, true, false, not, cond, ◌&&◌, ◌||◌, true≢false}
+use mathlib.Core.List.{List, [], ◌∷◌}
+use mathlib.Core.Option.{Option, none, some, some-ne-none}
+use native.Mathlib.Omega.{arith}
+use lib.Dec.{eqb}
+use lib.ListN.{length, get_or}
+use borrow.Author.Tests.{eqb-true, eqb-false, eq-eqb, ne_eqb}
+use lib.Ieee.{size}
 use Rattle.words.specs.Words.{word_at}
 use Rattle.words.proofs.Below.{every_not}
 use Rattle.words.proofs.Ones.{size_ones}
@@ -17,7 +25,7 @@ use Rattle.cache.proofs.Cache.{holds_zeros, length_loaded, length_zeroed, zeroed
 use Rattle.theory_calls.specs.Request.{AccessCall, Request, access, sdr1_in, fed}
 use Rattle.theory_calls.specs.Rules.{refusal}
 use Rattle.theory_calls.specs.Answers.{refused_bytes, answer_refused, seen_of, compared}
-use Rattle.theory_calls.specs.OnBytes.{Ended, by_option, layout, wanted_page, early_of, bytes_do, on_bytes}
+use Rattle.theory_calls.specs.OnBytes.{by_option, layout, wanted_page, early_of, bytes_do, on_bytes}
 use Rattle.theory_calls.specs.Represents.{GoodTable}
 use Rattle.theory_calls.proofs.OnBytes.{taken, refused}
 use Rattle.theory_calls.proofs.AnyEntries.{by_matches_law}
@@ -28,17 +36,11 @@ use Rattle.theory_cache.proofs.AnyCache.{by_refusal}
 use Rattle.theory_cache.proofs.Backed.{Backed}
 use Rattle.theory_cache.proofs.Refusals.{right_refusal, wrong_refusal, cached_taken, cached_refused}
 use Rattle.theory_cache.proofs.Parts.{AllBacked, result_same, answer_same, compared_alike, whole_left, Midway}
-use Rattle.theory_sweep.specs.Sweep.{SweepCall, sweep_does}
-use Rattle.theory_sweep.proofs.Refusals.{SweepKept, sweep_kept, kept_good}
-use Rattle.theory_sweep.proofs.Leaves.{SweepLeaves, sweep_leaves}
-use Rattle.theory_sweep.proofs.Backed.{sweep_backed}
-use Rattle.theory_histories.specs.Calls.{Asked, plain, cached, invalidate, rights, sweep, Slices, slices, Call, State, on_lent, lent_for, left_for, calling}
-use Rattle.theory_histories.specs.Calls.{lent_lengths, refusal_of}
+use Rattle.theory_histories.specs.Calls.{Asked, plain, cached, invalidate, rights, Slices, slices, Call, State, on_lent, lent_for, left_for, calling, lent_lengths, refusal_of}
 use Rattle.theory_histories.specs.Fed.{seen_in}
-use Rattle.theory_histories.specs.Discipline.{is_lent, leaves_stale, waiting_after, Invalidated, Disciplined, filled}
+use Rattle.theory_histories.specs.Discipline.{leaves_stale, waiting_after, Invalidated, Disciplined, filled}
 use Rattle.theory_histories.specs.Invisible.{plainly, without_cache, shown, Alike, AllAlike, zero_cache, none_waits}
 use Rattle.theory_histories.proofs.Stale.{Keeps, keeps}
-use Rattle.theory_histories.proofs.Sweeps.{step_refusal, by_step, length_swept, Held, held_before, SameStep, either_cache}
 
 -- every place of a set that does not wait is backed
 pub record Sound (k : ℕ) (t cache : List ℕ) (waiting : ℕ → Bool) : Type 0 where
@@ -99,7 +101,6 @@ length_left c s = go c.asked c.other.cache
     go (cached a) none = length_cached a (lent_for c.other.table s.table) s.cache
     go (invalidate index) none = length_invalidated index s.cache
     go (rights a answer) none = refl
-    go (sweep a) none = length_swept a (lent_for c.other.table s.table) s.cache
     go asked (some slice) = refl
 
 -- ---- a call that is lent no cache
@@ -119,7 +120,7 @@ module _ (k : ℕ) (t : List ℕ) (good : GoodTable k t) (request : Request (Lis
       let number = refusal (fed request) (length t) in
       by_test (eqb number 0)
       (λ z.
-      let e = eqb_true number 0 z in
+      let e = eqb-true number 0 z in
       rw (taken request t e, sym (mask_is k t good request e)) (keeps k t good request (length t) e))
       (λ z. rw (refused request t number refl (eqb-false number 0 z)) (record { fine = good; still = λ page v f s fresh b. b }))
 
@@ -142,7 +143,7 @@ no_hit c t cache n = rw (ne_eqb (cached_refusal c (length t) (length cache)) 0 n
 pub record Goes (own k : ℕ) (c : Call) (t cache other : List ℕ) (waiting : ℕ → Bool) : Type 0 where
   pub alike : Alike own c (slices t cache) (slices t other)
   pub told : let e = calling c (slices t cache) in let d = calling (without_cache own c) (slices t other) in
-      compared (seen_in c.asked e.number) e.number e.answer ≡ compared (seen_in (without_cache own c).asked d.number) d.number d.answer
+      compared (seen_in c.asked) e.number e.answer ≡ compared (seen_in (without_cache own c).asked) d.number d.answer
   pub sound : let e = calling c (slices t cache) in
       Sound k e.state.table e.state.cache (waiting_after c.asked c.other.cache (eqb e.number 0) waiting)
 
@@ -180,25 +181,6 @@ module _ (k : ℕ) (t cache other : List ℕ) (waiting : ℕ → Bool) (s : Soun
             s.backed page v place (or_false (waiting (set_of page.index)) (stale (on_bytes request slice).number (set_of page.index)) quiet).0 held;
       }
 
-  -- what a call is lent as table and cache
-  module _ (o : Slices (Option (List ℕ))) where
-    abbrev lent_table : List ℕ
-    lent_table = lent_for o.table t
-
-    abbrev lent_cache : List ℕ
-    lent_cache = lent_for o.cache cache
-
-    -- what is lent in the list without the cache, of the same length
-    abbrev other_cache : List ℕ
-    other_cache = lent_for o.cache other
-
-    same_lent : length other_cache ≡ length lent_cache
-    same_lent = go o.cache
-      where
-        go : (x : Option (List ℕ)) → length (lent_for x other) ≡ length (lent_for x cache)
-        go none = same
-        go (some slice) = refl
-
   -- ---- an access with the cache
 
   module _ (c : AccessCall (List ℕ)) where
@@ -209,7 +191,7 @@ module _ (k : ℕ) (t cache other : List ℕ) (waiting : ℕ → Bool) (s : Soun
     module _ (kept : cached_refusal c (length t) (length cache) ≡ 0) (quiet : (set : ℕ) → set < 64 → waiting set ≡ false) where
       long : length cache ≡ 2048
       long =
-          by_test (eqb (length cache) 2048) (λ e. eqb_true (length cache) 2048 e)
+          by_test (eqb (length cache) 2048) (λ e. eqb-true (length cache) 2048 e)
           (λ e. absurd (let z : ◌≡◌ {A = ℕ} 11 0 = sym (wrong_refusal c t cache (length t) (length cache) (eqb-false (length cache) 2048 e)) ∙ kept in omega arith))
 
       e : refusal (fed (access c)) (length t) ≡ 0
@@ -258,43 +240,56 @@ module _ (k : ℕ) (t cache other : List ℕ) (waiting : ℕ → Bool) (s : Soun
 
     -- refused by its arguments and lengths, whatever slices it is lent
     module _ (o : Slices (Option (List ℕ))) where
-      refused_goes : (cached_refusal c (length (lent_table o)) (length (lent_cache o)) ≡ 0 → ⊥) → Going asks o
+      abbrev lent_table : List ℕ
+      lent_table = lent_for o.table t
+
+      abbrev lent_cache : List ℕ
+      lent_cache = lent_for o.cache cache
+
+      -- what is lent in the list without the cache, of the same length
+      abbrev other_cache : List ℕ
+      other_cache = lent_for o.cache other
+
+      same_lent : length other_cache ≡ length lent_cache
+      same_lent = go o.cache
+        where
+          go : (x : Option (List ℕ)) → length (lent_for x other) ≡ length (lent_for x cache)
+          go none = same
+          go (some slice) = refl
+
+      refused_goes : (cached_refusal c (length lent_table) (length lent_cache) ≡ 0 → ⊥) → Going asks o
       unfolding calling on_lent plainly shown seen_in seen_of answer_refused refused_bytes
       refused_goes n =
-          by_test (eqb (length (lent_cache o)) 2048)
+          by_test (eqb (length lent_cache) 2048)
           (λ z.
-          let number = refusal (fed (access c)) (length (lent_table o)) in
-          let is = right_refusal c (lent_table o) (lent_cache o) (length (lent_table o)) (length (lent_cache o)) (eqb_true (length (lent_cache o)) 2048 z) in
-          let with_it = cached_refused c (lent_table o) (lent_cache o) number is (λ zero. n (is ∙ zero)) in
-          let without_it = refused (access c) (lent_table o) number refl (λ zero. n (is ∙ zero)) in
+          let number = refusal (fed (access c)) (length lent_table) in
+          let is = right_refusal c lent_table lent_cache (length lent_table) (length lent_cache) (eqb-true (length lent_cache) 2048 z) in
+          let with_it = cached_refused c lent_table lent_cache number is (λ zero. n (is ∙ zero)) in
+          let without_it = refused (access c) lent_table number refl (λ zero. n (is ∙ zero)) in
           let right = tested true z in
           record {
-            alike = record {
-              number = rw (right, with_it, without_it);
-              answer = rw (right, with_it, without_it, no_hit c (lent_table o) (lent_cache o) n);
-              left = rw (right, with_it, without_it);
-            };
+            alike = record { number = rw (right, with_it, without_it); answer = rw (right, with_it, without_it, no_hit c lent_table lent_cache n); left = rw (right, with_it, without_it) };
             told = rw (right, with_it, without_it);
             sound = rw (with_it, left_lent o.table t, left_lent o.cache cache) s;
           })
           (λ z.
-          let wrong = eqb-false (length (lent_cache o)) 2048 z in
-          let eleven = wrong_refusal c (lent_table o) (lent_cache o) (length (lent_table o)) (length (lent_cache o)) wrong in
-          let other-eleven = wrong_refusal c (lent_table o) (other_cache o) (length (lent_table o)) (length (other_cache o)) (λ e. wrong (sym (same_lent o) ∙ e)) in
-          let with_it = cached_refused c (lent_table o) (lent_cache o) 11 eleven (λ zero. omega arith) in
-          let without_it = cached_refused c (lent_table o) (other_cache o) 11 other-eleven (λ zero. omega arith) in
+          let wrong = eqb-false (length lent_cache) 2048 z in
+          let eleven = wrong_refusal c lent_table lent_cache (length lent_table) (length lent_cache) wrong in
+          let other-eleven = wrong_refusal c lent_table other_cache (length lent_table) (length other_cache) (λ e. wrong (sym same_lent ∙ e)) in
+          let with_it = cached_refused c lent_table lent_cache 11 eleven (λ zero. omega arith) in
+          let without_it = cached_refused c lent_table other_cache 11 other-eleven (λ zero. omega arith) in
           let other_length = tested false z in
           record {
             alike = record {
               number = rw (other_length, with_it, without_it);
-              answer = rw (other_length, with_it, without_it, no_hit c (lent_table o) (lent_cache o) n);
+              answer = rw (other_length, with_it, without_it, no_hit c lent_table lent_cache n);
               left = rw (other_length, with_it, without_it);
             };
             told = rw (other_length, with_it, without_it);
             sound = rw (with_it, left_lent o.table t, left_lent o.cache cache) s;
           })
         where
-          tested : (b : Bool) → eqb (length (lent_cache o)) 2048 ≡ b → eqb (by_option o.cache (length cache) length) 2048 ≡ b
+          tested : (b : Bool) → eqb (length lent_cache) 2048 ≡ b → eqb (by_option o.cache (length cache) length) 2048 ≡ b
           tested b z = ap (λ (n : ℕ). eqb n 2048) (sym (length_lent o.cache cache)) ∙ z
 
     cached_goes : (o : Slices (Option (List ℕ))) → Invalidated (record { asked = asks; other = o }) (lent_lengths own (record { asked = asks; other = o })) waiting → Going asks o
@@ -304,7 +299,7 @@ module _ (k : ℕ) (t cache other : List ℕ) (waiting : ℕ → Bool) (s : Soun
         = rw (length_lent o.table t, length_lent o.cache cache) in
         by_test (eqb (cached_refusal c (length (lent_table o)) (length (lent_cache o))) 0)
         (λ z.
-        let zero = eqb_true (cached_refusal c (length (lent_table o)) (length (lent_cache o))) 0 z in
+        let zero = eqb-true (cached_refusal c (length (lent_table o)) (length (lent_cache o))) 0 z in
         let (own_table, own-cache, none-waits) = quiet c refl (sym lent ∙ zero) in
         go o.table o.cache own_table own-cache zero none-waits)
         (λ z. refused_goes o (eqb-false (cached_refusal c (length (lent_table o)) (length (lent_cache o))) 0 z))
@@ -312,8 +307,8 @@ module _ (k : ℕ) (t cache other : List ℕ) (waiting : ℕ → Bool) (s : Soun
         go : (x y : Option (List ℕ)) → x ≡ none → y ≡ none → cached_refusal c (length (lent_for x t)) (length (lent_for y cache)) ≡ 0
             → ((set : ℕ) → set < 64 → waiting set ≡ false) → Going asks (slices x y)
         go none none a b zero none-waits = done_goes zero none-waits
-        go (some slice) y a b zero none-waits = absurd (Option·some-ne-none slice a)
-        go none (some slice) a b zero none-waits = absurd (Option·some-ne-none slice b)
+        go (some slice) y a b zero none-waits = absurd (some-ne-none slice a)
+        go none (some slice) a b zero none-waits = absurd (some-ne-none slice b)
 
   -- ---- an invalidate, and what three accesses would come to
 
@@ -346,11 +341,11 @@ module _ (k : ℕ) (t cache other : List ℕ) (waiting : ℕ → Bool) (s : Soun
     long_cache : invalidate_refusal index (length cache) ≡ 0 → length cache ≡ 2048
     unfolding invalidate_refusal
     long_cache zero =
-        by_test (eqb (length cache) 2048) (λ e. eqb_true (length cache) 2048 e)
+        by_test (eqb (length cache) 2048) (λ e. eqb-true (length cache) 2048 e)
         (λ e. absurd (let z : ◌≡◌ {A = ℕ} 11 0 = rw e at zero in omega arith))
 
     left_sound : (isDone : Bool) → eqb (invalidate_refusal index (length cache)) 0 ≡ isDone → Sound k t (cond isDone (set_zeroed index cache) cache) (waiting_then isDone)
-    left_sound true z = zeroed_sound (long_cache (eqb_true (invalidate_refusal index (length cache)) 0 z))
+    left_sound true z = zeroed_sound (long_cache (eqb-true (invalidate_refusal index (length cache)) 0 z))
     left_sound false z = unzeroed_sound
 
     invalidate_goes : (o : Slices (Option (List ℕ))) → Going (invalidate index) o
@@ -369,66 +364,6 @@ module _ (k : ℕ) (t cache other : List ℕ) (waiting : ℕ → Bool) (s : Soun
           sound = rw (left_lent o.table t) unzeroed_sound;
         }
 
-  -- ---- a step of a sweep
-
-  -- where more sets wait
-  more_wait : (more : ℕ → Bool) → Sound k t cache (λ set. waiting set || more set)
-  more_wait more = record {
-    fine = s.fine;
-    backed = λ page v place quiet held. s.backed page v place (or_false (waiting (set_of page.index)) (more (set_of page.index)) quiet).0 held;
-  }
-
-  module _ (c : SweepCall (List ℕ)) where
-    abbrev g : ℕ
-    g = c.group
-
-    -- what it leaves, lent other slices or not, and the sets that wait then
-    abbrev SweptSound : Option (List ℕ) → Option (List ℕ) → Ended (List ℕ × List ℕ) → Type 0
-    SweptSound x y e = Sound k (left_for x t e.state.0) (left_for y cache e.state.1) (λ set. waiting set || (is_lent y && eqb e.number 0))
-
-    step_sound : (x y : Option (List ℕ)) → step_refusal c (lent_for x t) (lent_for y cache) ≡ 0
-        → SweptSound x y (sweep_does (mask_ones c.sdr1) g (lent_for x t, lent_for y cache))
-    unfolding sweep_does
-    step_sound none none zero =
-        let fit = sweep_kept c t cache zero in
-        let is = same_mask k (mask_ones c.sdr1) t s.fine (kept_good c t cache s.fine.bytes fit) in
-        rw (sym is)
-        (let lt : g < 2 ^ (10 + k) = subst (λ (n : ℕ). g < 2 ^ (10 + n)) (sym is) fit.in_groups in
-        record {
-          fine = (sweep_leaves k g t cache s.fine lt).fine;
-          backed = λ page v place quiet held.
-              sweep_backed k g t cache s.fine lt fit.cache_long page v place
-              (s.backed page v place (or_false (waiting (set_of page.index)) false quiet).0) held;
-        })
-    step_sound (some slice) none zero =
-        record {
-          fine = s.fine;
-          backed = λ page v place quiet held.
-              let before = held_before (mask_ones c.sdr1) g slice cache (sweep_kept c slice cache zero).cache_long page place held in
-              rw (before.first, before.second) (s.backed page v place (or_false (waiting (set_of page.index)) false quiet).0 before.held);
-        }
-    step_sound none (some slice) zero =
-        let fit = sweep_kept c t slice zero in
-        let is = same_mask k (mask_ones c.sdr1) t s.fine (kept_good c t slice s.fine.bytes fit) in
-        rw (sym is)
-        (record {
-          fine = (sweep_leaves k g t slice s.fine (subst (λ (n : ℕ). g < 2 ^ (10 + n)) (sym is) fit.in_groups)).fine;
-          backed = λ page v place quiet held. absurd (true≢false (or_false (waiting (set_of page.index)) true quiet).1);
-        })
-    step_sound (some slice) (some bytes) zero = more_wait (λ set. true)
-
-    sweep_goes : (o : Slices (Option (List ℕ))) → Going (sweep c) o
-    unfolding calling on_lent plainly shown
-    sweep_goes o =
-        let alike = either_cache c (lent_table o) (lent_cache o) (other_cache o) (same_lent o) in
-        record {
-          alike = record { number = alike.number; answer = alike.answer; left = ap (left_for o.table t) alike.table };
-          told = ap₂ (λ (n : ℕ) (answer : List ℕ). compared (seen_in (sweep c) n) n answer) alike.number alike.answer;
-          sound = by_step c (lent_table o) (lent_cache o) (SweptSound o.table o.cache) (step_sound o.table o.cache)
-              (λ n. rw (left_lent o.table t, left_lent o.cache cache)
-              (more_wait (λ set. is_lent o.cache && eqb (step_refusal c (lent_table o) (lent_cache o)) 0)));
-        }
-
   -- ---- any call
 
   pub goes : (asked : Asked (List ℕ)) (o : Slices (Option (List ℕ))) → Invalidated (record { asked = asked; other = o }) (lent_lengths own (record { asked = asked; other = o })) waiting → Going asked o
@@ -436,7 +371,6 @@ module _ (k : ℕ) (t cache other : List ℕ) (waiting : ℕ → Bool) (s : Soun
   goes (plain request) o quiet = plain_goes request o
   goes (cached c) o quiet = cached_goes c o quiet
   goes (invalidate index) o quiet = invalidate_goes index o
-  goes (sweep c) o quiet = sweep_goes c o
   goes (rights c answer) o quiet = record {
     alike = record { number = refl; answer = refl; left = refl };
     told = refl;
@@ -465,7 +399,7 @@ module _ (cache : List ℕ) (page : Page) (quiet : filled cache (set_of page.ind
   set_byte : (i : ℕ) → i < 32 → get_or cache (32 * set_of page.index + i) 0 ≡ 0
   unfolding filled
   set_byte i few =
-      by_test (eqb (get_or cache (32 * set_of page.index + i) 0) 0) (λ z. eqb_true _ 0 z)
+      by_test (eqb (get_or cache (32 * set_of page.index + i) 0) 0) (λ z. eqb-true _ 0 z)
       (λ z. absurd (true≢false (ap not (every_not (λ j. eqb (get_or cache (32 * set_of page.index + j) 0) 0) 32 i few z) ∙ quiet)))
 
   place_byte : (place : Bool) (i j : ℕ) → i ≡ place_at page.index place + j → j < 4 → get_or cache i 0 ≡ 0

@@ -1,6 +1,5 @@
 -- Proofs of what is said of every list of calls.
 pub mod Stale
-pub mod Sweeps
 pub mod Invisible
 pub mod Changes
 pub mod Pages

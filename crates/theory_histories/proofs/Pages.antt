@@ -1,7 +1,14 @@
 -- What a request on the finite map does to one page: it keeps it out unless it maps it, and keeps its frame and attributes unless it takes it out.
-use Rattle.words.proofs.Basics.{ℕ, ◌≡◌, refl, sym, ap, ◌∙◌, subst, Bool, true, false, cond, ite, if_pos, if_neg, Option, none, some, Option·some-ne-none, List}
-use Rattle.words.proofs.Basics.{[], ◌∷◌, eqb, arith, eqb-false, eqb_true}
+use Prim.Native.Nat.{ℕ}
+use mathlib.Core.Path.{◌≡◌, refl, sym, ap, ◌∙◌, subst}
+use mathlib.Core.Bool.{Bool, true, false, cond}
+use mathlib.Core.Logic.{ite, if_pos, if_neg}
+use borrow.Author.Tests.{eqb-true, eqb-false}
 use Rattle.register_words.specs.Sdr1.{mask_ones}
+use mathlib.Core.List.{List, [], ◌∷◌}
+use mathlib.Core.Option.{Option, none, some, some-ne-none}
+use native.Mathlib.Omega.{arith}
+use lib.Dec.{eqb}
 use Rattle.theory_placement.specs.FiniteMap.{fields_at, put_in, take_out, revise, mapped_pages}
 use Rattle.theory_placement.proofs.FiniteMap.{fields_at_put_in_same, fields_at_put_in_other, fields_at_take_out_same, fields_at_take_out_other, fields_at_revise}
 use Rattle.groups.specs.Page.{Page, same_page}
@@ -26,7 +33,7 @@ pub record Has (rpn wimg : ℕ) (page : Page) (m : Map) : Type 0 where
 
 -- revised marks and protection keep a page out, or its frame and attributes
 module _ (page : Page) (m : Map) where
-  pub revisions_out : (n : Map) → fields_at same_page page m ≡ none → Revisions m n → fields_at same_page page n ≡ none
+  revisions_out : (n : Map) → fields_at same_page page m ≡ none → Revisions m n → fields_at same_page page n ≡ none
   revisions_out n e (kept q) = rw q e
   revisions_out n e (revising o more other u keep q) =
       rw q (fields_at_revise same_page same_page_refl same_page_eq other page u o ∙ (rw (revisions_out o e more) (cond_none (same_page other page))))
@@ -36,7 +43,7 @@ module _ (page : Page) (m : Map) where
       cond_none false = refl
 
   module _ (rpn wimg : ℕ) (had : Has rpn wimg page m) where
-    pub revisions_in : (n : Map) → Revisions m n → Has rpn wimg page n
+    revisions_in : (n : Map) → Revisions m n → Has rpn wimg page n
     revisions_in n (kept q) = rw q had
     revisions_in n (revising o more other u keep q) = rw q (by (revisions_in o more) (same_page other page) refl)
       where
@@ -78,7 +85,7 @@ module _ (page : Page) (request : Request ℕ) (m : Map) (d : Ended Map) where
   stays_in rpn wimg has n (put other f a b c q) = rw q (by (same_page other page) refl)
     where
       by : (t : Bool) → same_page other page ≡ t → Has rpn wimg page (put_in other f m)
-      by true s = absurd (Option·some-ne-none has.fields (sym has.mapped ∙ subst (λ p. fields_at same_page p m ≡ none) (same_page_eq other page s) c))
+      by true s = absurd (some-ne-none has.fields (sym has.mapped ∙ subst (λ p. fields_at same_page p m ≡ none) (same_page_eq other page s) c))
       by false s = record {
         fields = has.fields;
         mapped = fields_at_put_in_other same_page same_page_refl same_page_eq other page f m s ∙ has.mapped;
@@ -119,7 +126,7 @@ module _ (lent : ℕ) (m : Map) where
   done_taken request z = by (eqb (refusal request lent) 0) refl
     where
       by : (t : Bool) → eqb (refusal request lent) 0 ≡ t → refusal request lent ≡ 0
-      by true e = eqb_true (refusal request lent) 0 e
+      by true e = eqb-true (refusal request lent) 0 e
       by false e =
           let n = eqb-false (refusal request lent) 0 e in
           absurd (n (sym (ap (λ (d : Ended Map). d.number) (map_refused request lent m (refusal request lent) refl n)) ∙ z))

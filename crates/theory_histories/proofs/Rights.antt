@@ -1,6 +1,12 @@
 -- What three accesses would come to on a table that represents a map is what the map tells of them: each answer but for its place, and the marks.
-use Rattle.words.proofs.Basics.{ℕ, ◌≡◌, refl, sym, ap, ◌∙◌, true, false, cond, true≢false, Option, none, some, List, [], ◌∷◌, ◌++◌, map, eqb, length, eqb-false}
-use Rattle.words.proofs.Basics.{eqb_true, ne_eqb}
+use Prim.Native.Nat.{ℕ}
+use mathlib.Core.Path.{◌≡◌, refl, sym, ap, ◌∙◌}
+use mathlib.Core.Bool.{true, false, cond, true≢false}
+use mathlib.Core.List.{List, [], ◌∷◌, ◌++◌, map}
+use mathlib.Core.Option.{Option, none, some}
+use lib.Dec.{eqb}
+use lib.ListN.{length}
+use borrow.Author.Tests.{eqb-true, eqb-false, ne_eqb}
 use Rattle.words.specs.Words.{word_bytes, bytes_of}
 use Rattle.words.proofs.Tests.{by_test}
 use Rattle.theory_placement.specs.FiniteMap.{fields_at}
@@ -42,10 +48,10 @@ use Rattle.theory_histories.proofs.Follows.{Brings, TableFollows, table_follows}
 abbrev joined : (ℕ → List ℕ) → (ℕ → ℕ) → List ℕ
 joined answers marks = without_place (answers 0) ++ (without_place (answers 1) ++ (without_place (answers 2) ++ bytes_of (marks 0 ∷ marks 1 ∷ marks 2 ∷ [])))
 
-seen_three : {A : Type 0} (x : RightsCall) (lent : A) (number : ℕ) (answers : ℕ → List ℕ) (marks : ℕ → ℕ) → ((kind : ℕ) → length (answers kind) ≡ 48)
-    → seen_in (rights x lent) number (three_told answers marks) ≡ joined answers marks
+seen_three : {A : Type 0} (x : RightsCall) (lent : A) (answers : ℕ → List ℕ) (marks : ℕ → ℕ) → ((kind : ℕ) → length (answers kind) ≡ 48)
+    → seen_in (rights x lent) (three_told answers marks) ≡ joined answers marks
 unfolding seen_in
-seen_three x lent number answers marks long =
+seen_three x lent answers marks long =
     let a = answers 0 in
     let b = answers 1 in
     let c = answers 2 in
@@ -66,7 +72,7 @@ module _ (c : RightsCall) (page : is_page (length c.registers) ≡ true) (kind :
   number_not_11 t =
       let number = refusal (fed (access (asking c kind))) (length t) in
       by_test (eqb number 0)
-      (λ z. let is = taken (access (asking c kind)) t (eqb_true number 0 z) in λ e. (whole_past (asking c kind) (search_in (mask_ones (sdr1_in (access (asking c kind)))) t) (first_place_in (mask_ones (sdr1_in (access (asking c kind)))) t)).not_11 (sym (ap (λ (x : Ended (List ℕ)). x.number) is) ∙ e))
+      (λ z. let is = taken (access (asking c kind)) t (eqb-true number 0 z) in λ e. (whole_past (asking c kind) (search_in (mask_ones (sdr1_in (access (asking c kind)))) t) (first_place_in (mask_ones (sdr1_in (access (asking c kind)))) t)).not_11 (sym (ap (λ (x : Ended (List ℕ)). x.number) is) ∙ e))
       (λ z.
       let is = refused (access (asking c kind)) t number refl (eqb-false number 0 z) in
       λ e. refusal_not_11 (length t) (sym (ap (λ (x : Ended (List ℕ)). x.number) is) ∙ e))
@@ -77,7 +83,7 @@ module _ (c : RightsCall) (page : is_page (length c.registers) ≡ true) (kind :
   map_length lent m =
       let number = refusal (fed (access (asking c kind))) lent in
       by_test (eqb number 0)
-      (λ z. rw (map_taken (fed (access (asking c kind))) lent m (eqb_true number 0 z)))
+      (λ z. rw (map_taken (fed (access (asking c kind))) lent m (eqb-true number 0 z)))
       (λ z. rw (map_refused (fed (access (asking c kind))) lent m number refl (eqb-false number 0 z), ne_eqb number 11 (refusal_not_11 lent)))
 
 module _ (sdr1 size : ℕ) (shape : sdr1_shape sdr1 ≡ true) (long : size ≡ table_length sdr1) (c : RightsCall) (page : is_page (length c.registers) ≡ true)
@@ -163,13 +169,13 @@ module _ (sdr1 size : ℕ) (shape : sdr1_shape sdr1 ≡ true) (long : size ≡ t
   marks_same o t r brings kind =
       let number = (follows sdr1 size shape long c page o t m r brings kind).number in
       let d = (on_map (fed (access (asking c kind))) (by_option o size length) m).number in
-      by_test (eqb d 0) (λ z. rw z (taken_marks o t r brings kind (number ∙ eqb_true d 0 z) (eqb_true d 0 z)))
+      by_test (eqb d 0) (λ z. rw z (taken_marks o t r brings kind (number ∙ eqb-true d 0 z) (eqb-true d 0 z)))
       (λ z. rw z (not_done sdr1 size shape long c page o t m r brings kind (λ e. eqb-false d 0 z (sym number ∙ e))))
 
-  pub rights_seen : (o : Option (List ℕ)) (t : List ℕ) (r : TableRepresents (mask_ones sdr1) t m) (brings : AllBring o) (answer : List ℕ) (number : ℕ)
-      → seen_in (rights c answer) number (rights_told c (lent_for o t)) ≡ seen_in (rights c (length answer)) number (rights_on_map c (by_option o size length) m)
+  pub rights_seen : (o : Option (List ℕ)) (t : List ℕ) (r : TableRepresents (mask_ones sdr1) t m) (brings : AllBring o) (answer : List ℕ)
+      → seen_in (rights c answer) (rights_told c (lent_for o t)) ≡ seen_in (rights c (length answer)) (rights_on_map c (by_option o size length) m)
   unfolding rights_told rights_on_map
-  rights_seen o t r brings answer number =
+  rights_seen o t r brings answer =
       let lent = by_option o size length in
       let u = lent_for o t in
       let e : ℕ → Ended Map = λ kind. on_map (fed (access (asking c kind))) lent m in
@@ -178,5 +184,5 @@ module _ (sdr1 size : ℕ) (shape : sdr1_shape sdr1 ≡ true) (long : size ≡ t
       let bytes : ℕ → List ℕ = λ kind. (would_end c u kind).answer in
       let lacked : ℕ → ℕ = λ kind. cond (eqb (e kind).number 0) (lacked_at kind m (early_of (asking c kind) false)) 0 in
       let between : joined bytes (λ kind. new_marks u (would_end c u kind)) ≡ joined (λ kind. (e kind).answer) lacked = rw (same 0, same 1, same 2, marks 0, marks 1, marks 2) in
-      seen_three c answer number bytes (λ kind. new_marks u (would_end c u kind)) (answer_length c u) ∙ between
-      ∙ sym (seen_three c (length answer) number (λ kind. (e kind).answer) lacked (λ kind. map_length c page kind lent m))
+      seen_three c answer bytes (λ kind. new_marks u (would_end c u kind)) (answer_length c u) ∙ between
+      ∙ sym (seen_three c (length answer) (λ kind. (e kind).answer) lacked (λ kind. map_length c page kind lent m))

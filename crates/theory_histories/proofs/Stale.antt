@@ -1,6 +1,13 @@
 -- A call that is lent no cache keeps every place of the cache backed but those of the sets that it leaves to be invalidated: another page's matches are
 -- as before, a page that is mapped anew had no match, and a mark keeps an entry backed.
-use Rattle.words.proofs.Basics.{ℕ, ◌^◌, ◌<◌, ◌≡◌, refl, sym, ap, ◌∙◌, Bool, true, false, ◌&&◌, true≢false, inl, inr, List, cons≢nil, eqb, lit<, length, eq-eqb}
+use Prim.Native.Nat.{ℕ, ◌^◌, ◌<◌}
+use mathlib.Core.Path.{◌≡◌, refl, sym, ap, ◌∙◌}
+use mathlib.Core.Bool.{Bool, true, false, ◌&&◌, true≢false}
+use mathlib.Core.List.{List, cons≢nil}
+use mathlib.Core.Logic.{inl, inr}
+use lib.Dec.{eqb, lit<}
+use lib.ListN.{length}
+use borrow.Author.Tests.{eq-eqb}
 use Rattle.words.proofs.Tests.{by_test}
 use Rattle.entry.specs.Entry.{second_word, with_pp}
 use Rattle.entry.proofs.Marks.{with_pp_lt}

@@ -7,8 +7,16 @@
 --   runs_pages: the finite map has the pages of pages_by after the calls
 --   Standing: the table represents some map with these pages; size_of: such a table has the length of the history's own
 --   runs_stand: after the calls the table represents some map with the pages of pages_by
-use Rattle.words.proofs.Basics.{ℕ, ◌+◌, ◌^◌, ◌<◌, ◌≡◌, refl, sym, ap, ap₂, ◌∙◌, subst, Bool, true, false, cond, not, ◌||◌, true≢false, inl, inr, ite, Option}
-use Rattle.words.proofs.Basics.{none, some, List, [], ◌∷◌, map, eqb, length, arith, eqb-false, eqb_true}
+use Prim.Native.Nat.{ℕ, ◌+◌}
+use mathlib.Core.Path.{◌≡◌, refl, sym, ap, ◌∙◌}
+use mathlib.Core.Bool.{Bool, true, false, not, cond, ◌||◌, true≢false}
+use mathlib.Core.List.{List, [], ◌∷◌, map}
+use mathlib.Core.Logic.{ite, inl, inr}
+use mathlib.Core.Option.{Option, none, some}
+use native.Mathlib.Omega.{arith}
+use lib.Dec.{eqb}
+use lib.ListN.{length}
+use borrow.Author.Tests.{eqb-true, eqb-false}
 use Rattle.words.proofs.Tests.{by_test}
 use Rattle.numbers.specs.Numbers.{group_entries}
 use Rattle.theory_placement.specs.FiniteMap.{fields_at, take_out, revise, put_in, mapped_pages}
@@ -32,16 +40,9 @@ use Rattle.theory_calls.proofs.Histories.{map_taken, map_refused, sdr1_fed, size
 use Rattle.theory_calls.proofs.Step.{part_marks}
 use Rattle.theory_cache.specs.Cached.{cached_search, cached_place, missed, taken, taken_part, cached_does, cached_refusal, on_cached}
 use Rattle.theory_cache.proofs.AnyCache.{by_refusal}
-use Rattle.theory_sweep.specs.Sweep.{SweepCall, fed_sweep, listed_pages, sweep_refusal, sweep_does, on_sweep}
-use Rattle.theory_sweep.specs.OnMap.{map_sweeps}
-use Rattle.theory_sweep.proofs.Refusals.{SweepKept, sweep_kept}
-use Rattle.theory_sweep.proofs.OnMap.{SweepAlike, sweep_step}
-use Rattle.theory_histories.specs.Calls.{Asked, plain, cached, invalidate, rights, sweep, Slices, slices, Call, State, on_lent, lent_for, left_for, calling}
-use Rattle.theory_histories.specs.Calls.{lent_lengths, refusal_of, brought_in, Under, listed_by}
-use Rattle.theory_histories.specs.Fed.{fed_asked, fed_of, fed_along, map_calling, bytes_step, map_step}
+use Rattle.theory_histories.specs.Calls.{Asked, plain, cached, invalidate, rights, Slices, slices, Call, State, on_lent, lent_for, left_for, calling, lent_lengths, refusal_of, brought_in, Under}
+use Rattle.theory_histories.specs.Fed.{fed_asked, fed_of, map_calling, bytes_step, map_step}
 use Rattle.theory_histories.proofs.Acts.{Act, leave, empty, insert, delete, has, act, acts}
-use Rattle.theory_histories.proofs.Sweeps.{by_step, map_swept, map_unswept}
-use Rattle.theory_histories.proofs.Changes.{Revisions, kept, revising, sweep_revises}
 use Rattle.theory_histories.proofs.Invisible.{length_left, length_lent, left_lent}
 use Rattle.theory_histories.proofs.Follows.{table_follows}
 use Rattle.theory_histories.proofs.Along.{under_brings}
@@ -133,7 +134,7 @@ on_map_pages : (request : Request ℕ) (lent : ℕ) (m : Map)
     → mapped_pages (on_map request lent m).state ≡ acting (mask_ones (sdr1_in request)) (cond (eqb (refusal request lent) 0) (does request) leave) (mapped_pages m)
 on_map_pages request lent m =
     by_test (eqb (refusal request lent) 0)
-    (λ z. rw (z, map_taken request lent m (eqb_true (refusal request lent) 0 z)) (pages_do (mask_ones (sdr1_in request)) request m))
+    (λ z. rw (z, map_taken request lent m (eqb-true (refusal request lent) 0 z)) (pages_do (mask_ones (sdr1_in request)) request m))
     (λ z. rw (z, map_refused request lent m (refusal request lent) refl (eqb-false (refusal request lent) 0 z)))
 
 -- an access leaves the pages
@@ -145,25 +146,12 @@ access_pages c lent m = on_map_pages (access c) lent m ∙ leaves (eqb (refusal 
     leaves true = refl
     leaves false = refl
 
--- revised marks and protection leave the pages, so does a step of a sweep
-revised_pages : (m n : Map) → Revisions m n → mapped_pages n ≡ mapped_pages m
-revised_pages m n (kept e) = ap mapped_pages e
-revised_pages m n (revising o more page u keep e) = ap mapped_pages e ∙ mapped_pages_revise same_page page u o ∙ revised_pages m o more
-
-sweep_pages : (c : SweepCall ℕ) (lent : Slices ℕ) (listed : List Page) (m : Map) → mapped_pages (map_calling (sweep c) lent listed m).state ≡ mapped_pages m
-sweep_pages c lent listed m =
-    let number = sweep_refusal c lent.table lent.cache in
-    by_test (eqb number 0)
-    (λ z. rw (map_swept c lent listed m (eqb_true number 0 z)) (revised_pages m (map_sweeps listed m).state (sweep_revises listed m)))
-    (λ z. rw (map_unswept c lent listed m (eqb-false number 0 z)))
-
 -- what a call of the list does, by the length of what it is lent as the table
 abbrev pub act_in : Asked (List ℕ) → ℕ → Act Page
 act_in (plain request) lent = cond (eqb (refusal (fed request) lent) 0) (does (fed request)) leave
 act_in (cached c) lent = leave
 act_in (invalidate index) lent = leave
 act_in (rights c answer) lent = leave
-act_in (sweep c) lent = leave
 
 abbrev pub act_of : Slices ℕ → Call → Act Page
 act_of own c = act_in c.asked (lent_lengths own c).table
@@ -183,7 +171,7 @@ module _ (sdr1 : ℕ) (own : Slices ℕ) (shape : sdr1_shape sdr1 ≡ true) (lon
     where
       go : (t : Bool) → eqb (refusal (fed request) lent) 0 ≡ t
           → acting (mask_ones (sdr1_in (fed request))) (cond t (does (fed request)) leave) (mapped_pages m) ≡ acting k (cond t (does (fed request)) leave) (mapped_pages m)
-      go true z = ap (λ (n : ℕ). acting (mask_ones n) (does (fed request)) (mapped_pages m)) (sdr1_fed request ∙ brings (eqb_true (refusal (fed request) lent) 0 z))
+      go true z = ap (λ (n : ℕ). acting (mask_ones n) (does (fed request)) (mapped_pages m)) (sdr1_fed request ∙ brings (eqb-true (refusal (fed request) lent) 0 z))
       go false z = refl
 
   -- a call under the SDR1 that is not refused brings it
@@ -193,25 +181,22 @@ module _ (sdr1 : ℕ) (own : Slices ℕ) (shape : sdr1_shape sdr1 ≡ true) (lon
       (under_brings sdr1 own shape long c under request (rw is)
       (λ z eleven. let q : ◌≡◌ {A = ℕ} 0 11 = sym z ∙ (rw is at eleven) in omega arith) zero).0
 
-  map_pages : (c : Call) → Under sdr1 own c → (s : State) (m : Map) → mapped_pages (map_step (fed_of own c s) m).1 ≡ acting k (act_of own c) (mapped_pages m)
+  map_pages : (c : Call) → Under sdr1 own c → (m : Map) → mapped_pages (map_step (fed_of own c) m).1 ≡ acting k (act_of own c) (mapped_pages m)
   unfolding map_step map_calling fed_asked
-  map_pages c under s m = go c.asked refl
+  map_pages c under m = go c.asked refl
     where
       go : (asked : Asked (List ℕ)) → c.asked ≡ asked
-          → mapped_pages (map_calling (fed_asked asked) (lent_lengths own c) (listed_by c s) m).state
-          ≡ acting k (act_in asked (lent_lengths own c).table) (mapped_pages m)
+          → mapped_pages (map_calling (fed_asked asked) (lent_lengths own c) m).state ≡ acting k (act_in asked (lent_lengths own c).table) (mapped_pages m)
       go (plain request) is = request_pages request (lent_lengths own c).table m (plain_brings c under request is)
       go (cached a) is =
           by_test (eqb (lent_lengths own c).cache 2048) (λ z. rw z (access_pages (fed_access a) (lent_lengths own c).table m)) (λ z. rw z)
       go (invalidate index) is = refl
       go (rights a answer) is = refl
-      go (sweep a) is = sweep_pages (fed_sweep a) (lent_lengths own c) (listed_by c s) m
 
-  pub runs_pages : (calls : List Call) → Each (Under sdr1 own) calls → (s : State) (m : Map)
-      → mapped_pages (after map_step (fed_along own calls s) m) ≡ pages_by calls (mapped_pages m)
-  runs_pages [] each s m = refl
-  runs_pages (c ∷ calls) (under, each) s m =
-      runs_pages calls each (calling c s).state (map_step (fed_of own c s) m).1 ∙ ap (pages_by calls) (map_pages c under s m)
+  pub runs_pages : (calls : List Call) → Each (Under sdr1 own) calls → (m : Map) → mapped_pages (after map_step (map (fed_of own) calls) m) ≡ pages_by calls (mapped_pages m)
+  runs_pages [] each m = refl
+  runs_pages (c ∷ calls) (under, each) m =
+      runs_pages calls each (map_step (fed_of own c) m).1 ∙ ap (pages_by calls) (map_pages c under m)
 
   -- ---- tables
 
@@ -244,12 +229,6 @@ module _ (sdr1 : ℕ) (own : Slices ℕ) (shape : sdr1_shape sdr1 ≡ true) (lon
       by_test (over_edge c.address c.length)
       (λ over. rw over (part_stands c (t, cache) result true (taken_part k c (t, cache) result false (t, cache)) l one)) (λ alone. rw alone one)))
       (λ n. s)
-
-  -- a step of a sweep
-  step_stands : (g : ℕ) (t cache : List ℕ) (l : List Page) → g < 2 ^ (10 + k) → Standing t l → Standing (sweep_does k g (t, cache)).state.0 l
-  step_stands g t cache l lt (m, r, pages) =
-      let listed = listed_pages t g k in
-      ((map_sweeps listed m).state, (sweep_step k g t cache m r lt).related, revised_pages m (map_sweeps listed m).state (sweep_revises listed m) ∙ pages)
 
   -- any call of the list
   module _ (t cache : List ℕ) (l : List Page) (size : length cache ≡ own.cache) (s : Standing t l) where
@@ -287,31 +266,6 @@ module _ (sdr1 : ℕ) (own : Slices ℕ) (shape : sdr1_shape sdr1 ≡ true) (lon
             brought (inl eleven) zero = absurd (let z : ◌≡◌ {A = ℕ} 0 11 = sym zero ∙ eleven in omega arith)
             brought (inr brings) zero = (brings (sdr1_in (access c)) refl).0
 
-    sweep_stands : (c : SweepCall (List ℕ)) (o : Slices (Option (List ℕ))) → Under sdr1 own (record { asked = sweep c; other = o })
-        → Standing (left_for o.table t (on_sweep c (lent_for o.table t, lent_for o.cache cache)).state.0) l
-    unfolding refusal_of brought_in
-    sweep_stands c o under = go o.table under
-      where
-        bytes : List ℕ
-        bytes = lent_for o.cache cache
-
-        go : (x : Option (List ℕ)) → Under sdr1 own (record { asked = sweep c; other = slices x o.cache })
-            → Standing (left_for x t (on_sweep c (lent_for x t, bytes)).state.0) l
-        go (some slice) u = s
-        go none u =
-            by_step c t bytes (λ e. Standing e.state.0 l)
-            (λ zero.
-            let long-bytes = length_lent o.cache cache ∙ ap (λ (n : ℕ). by_option o.cache n length) size in
-            let same = brought u (ap₂ (sweep_refusal (fed_sweep c)) (sym (size_of t l s)) (sym long-bytes) ∙ zero) in
-            let lt = (sweep_kept c t bytes zero).in_groups in
-            rw same (step_stands c.group t bytes l (subst (λ (n : ℕ). c.group < 2 ^ (10 + mask_ones n)) same lt) s))
-            (λ n. s)
-          where
-            brought : Under sdr1 own (record { asked = sweep c; other = slices none o.cache })
-                → sweep_refusal (fed_sweep c) own.table (by_option o.cache own.cache length) ≡ 0 → c.sdr1 ≡ sdr1
-            brought (inl eleven) zero = absurd (let z : ◌≡◌ {A = ℕ} 0 11 = sym zero ∙ eleven in omega arith)
-            brought (inr brings) zero = (brings c.sdr1 refl).0
-
     call_stands : (asked : Asked (List ℕ)) (o : Slices (Option (List ℕ))) → Under sdr1 own (record { asked = asked; other = o })
         → Standing (calling (record { asked = asked; other = o }) (slices t cache)).state.table (acting k (act_in asked (by_option o.table own.table length)) l)
     unfolding calling on_lent
@@ -319,7 +273,6 @@ module _ (sdr1 : ℕ) (own : Slices ℕ) (shape : sdr1_shape sdr1 ≡ true) (lon
     call_stands (cached c) o under = cached_stands c o under
     call_stands (invalidate index) o under = rw (left_lent o.table t) s
     call_stands (rights c answer) o under = rw (left_lent o.table t) s
-    call_stands (sweep c) o under = sweep_stands c o under
 
   pub runs_stand : (calls : List Call) → Each (Under sdr1 own) calls → (s : State) (l : List Page) → length s.cache ≡ own.cache → Standing s.table l
       → Standing (after bytes_step calls s).table (pages_by calls l)

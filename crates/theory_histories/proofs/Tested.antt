@@ -1,27 +1,28 @@
 -- That a list of calls is under an SDR1, and that it keeps the cache's discipline, follow from tests: the numbers that the discipline goes by are those of
 -- the finite map, so no table is computed. Where more sets are taken to wait than do, the test is the stricter.
-use Rattle.words.proofs.Basics.{ℕ, ◌<◌, ◌≡◌, refl, sym, ap, ap₂, ◌∙◌, subst, Bool, true, false, not, ◌&&◌, ◌||◌, true≢false, inl, inr, Option, none, some}
-use Rattle.words.proofs.Basics.{Option·some-ne-none, List, [], ◌∷◌, List-as-Memᴰ, List·Memᴰ·head, eqb, length, arith, eq-eqb, eqb-false, eqb_true}
+use Prim.Native.Nat.{ℕ, ◌<◌}
+use mathlib.Core.Path.{◌≡◌, refl, sym, ap, ap₂, ◌∙◌, subst}
+use mathlib.Core.Bool.{Bool, true, false, not, ◌&&◌, ◌||◌, true≢false}
+use mathlib.Core.List.{List, [], ◌∷◌}
+use mathlib.Core.Logic.{inl, inr}
+use mathlib.Core.Option.{Option, none, some, some-ne-none}
+use native.Mathlib.Omega.{arith}
+use lib.Dec.{eqb}
+use lib.ListN.{length}
+use borrow.Author.Tests.{eqb-true, eqb-false, eq-eqb}
 use Rattle.words.specs.Below.{every_below}
 use Rattle.words.proofs.Below.{every_at}
 use Rattle.words.proofs.Tests.{both, by_test}
-use Rattle.register_words.specs.Sdr1.{sdr1_shape, table_length, mask_ones}
-use Rattle.groups.specs.Page.{Page}
+use Rattle.register_words.specs.Sdr1.{sdr1_shape, table_length}
 use Rattle.theory_tables.specs.Runs.{Each}
 use Rattle.theory_calls.specs.Request.{AccessCall}
 use Rattle.theory_calls.specs.OnBytes.{Ended, by_option}
 use Rattle.theory_calls.specs.OnMap.{Map}
-use Rattle.theory_calls.specs.Represents.{TableRepresents}
 use Rattle.theory_calls.proofs.Histories.{size_is}
-use Rattle.theory_sweep.specs.Sweep.{fed_sweep, listed_pages, sweep_refusal}
-use Rattle.theory_sweep.proofs.OnMap.{listed_mapped}
-use Rattle.theory_histories.specs.Calls.{Asked, plain, cached, invalidate, rights, sweep, Slices, slices, Call, State, lent_for, calling, lengths_of}
-use Rattle.theory_histories.specs.Calls.{lent_lengths, refusal_of, brought_in, Under, listed_on, listed_by}
+use Rattle.theory_histories.specs.Calls.{Asked, plain, cached, invalidate, rights, Slices, slices, Call, State, calling, lengths_of, lent_lengths, refusal_of, brought_in, Under}
 use Rattle.theory_histories.specs.Fed.{fed_asked, map_calling}
 use Rattle.theory_histories.specs.Discipline.{waiting_after, Invalidated, Disciplined}
-use Rattle.theory_histories.proofs.Sweeps.{step_refusal, no_sweep}
-use Rattle.theory_histories.proofs.Invisible.{length_lent}
-use Rattle.theory_histories.proofs.Along.{Linked, sweep_brings, tells, steps}
+use Rattle.theory_histories.proofs.Along.{Linked, tells, steps}
 
 -- a test that holds where another fails or it holds itself
 second_holds : (a b : Bool) → (a || b) ≡ true → a ≡ false → b ≡ true
@@ -46,7 +47,6 @@ fewer_after (plain request) other isDone waiting tested f set = fewer_or (waitin
 fewer_after (cached c) other isDone waiting tested f set = f set
 fewer_after (invalidate index) other isDone waiting tested f set = fewer_and (waiting set) (tested set) _ (f set)
 fewer_after (rights c answer) other isDone waiting tested f set = f set
-fewer_after (sweep c) other isDone waiting tested f set = fewer_or (waiting set) (tested set) _ (f set)
 
 -- no other slice is lent
 abbrev is_own : Option (List ℕ) → Bool
@@ -63,7 +63,6 @@ allowed_test (cached a) lent other tested =
     not (eqb (refusal_of (cached a) lent) 0) || (is_own other.table && (is_own other.cache && every_below 64 (λ set. not (tested set))))
 allowed_test (invalidate index) lent other tested = true
 allowed_test (rights c answer) lent other tested = true
-allowed_test (sweep c) lent other tested = true
 
 allowed : (c : Call) (lent : Slices ℕ) (waiting tested : ℕ → Bool) → Fewer waiting tested → allowed_test c.asked lent c.other tested ≡ true → Invalidated c lent waiting
 allowed c lent waiting tested fewer e a is taken =
@@ -75,24 +74,6 @@ allowed c lent waiting tested fewer e a is taken =
     unwaited : (t : Bool) → not t ≡ true → t ≡ false
     unwaited true f = absurd (true≢false (sym f))
     unwaited false f = refl
-
--- a call lists nothing: it is no step of a sweep, or is refused, or no page is mapped
-abbrev is_empty : Map → Bool
-is_empty [] = true
-is_empty (x ∷ m) = false
-
-abbrev pub unlisted_test : Asked (List ℕ) → Slices ℕ → Map → Bool
-unlisted_test asked lent m = no_sweep asked || (not (eqb (refusal_of asked lent) 0) || is_empty m)
-
-no_members : {A : Type 0} (l : List A) → ((x : A) → List-as-Memᴰ x l → ⊥) → l ≡ []
-no_members [] n = refl
-no_members (x ∷ l) n = absurd (n x (List·Memᴰ·head refl))
-
--- of an empty map every table lists nothing
-empty_lists : (k g : ℕ) (t : List ℕ) (m : Map) → TableRepresents k t m → is_empty m ≡ true → listed_pages t g k ≡ []
-empty_lists k g t [] r e =
-    no_members (listed_pages t g k) (λ page is. let (f, there) = listed_mapped k g t [] r page is in Option·some-ne-none f (sym there))
-empty_lists k g t (x ∷ m) r e = absurd (true≢false (sym e))
 
 module _ (sdr1 : ℕ) (own : Slices ℕ) where
   -- a call is under the SDR1
@@ -108,11 +89,11 @@ module _ (sdr1 : ℕ) (own : Slices ℕ) where
   under_tested : (c : Call) → under_test c ≡ true → Under sdr1 own c
   under_tested c e =
       let number = refusal_of c.asked (lent_lengths own c) in
-      by_test (eqb number 11) (λ z. inl (eqb_true number 11 z))
+      by_test (eqb number 11) (λ z. inl (eqb-true number 11 z))
       (λ z.
       let (brings, other) = both _ _ (second_holds (eqb number 11) _ e z) in
       inr (λ brought is. (
-        eqb_true brought sdr1 (ap (λ (o : Option ℕ). by_option o true (λ n. eqb n sdr1)) (sym is) ∙ brings),
+        eqb-true brought sdr1 (ap (λ (o : Option ℕ). by_option o true (λ n. eqb n sdr1)) (sym is) ∙ brings),
         λ slice lent long.
             let apart : not (eqb (length slice) own.table) ≡ true = ap (λ (o : Option (List ℕ)). by_option o true (λ l. not (eqb (length l) own.table))) (sym lent) ∙ other in
             true≢false (sym apart ∙ ap not (eq-eqb (length slice) own.table long)),
@@ -126,44 +107,18 @@ module _ (sdr1 : ℕ) (own : Slices ℕ) where
   abbrev pub kept_test : List Call → Map → (ℕ → Bool) → Bool
   kept_test [] m tested = true
   kept_test (c ∷ calls) m tested =
-      let e = map_calling (fed_asked c.asked) (lent_lengths own c) [] m in
-      (unlisted_test c.asked (lent_lengths own c) m && allowed_test c.asked (lent_lengths own c) c.other tested)
+      let e = map_calling (fed_asked c.asked) (lent_lengths own c) m in
+      allowed_test c.asked (lent_lengths own c) c.other tested
       && kept_test calls e.state (waiting_after c.asked c.other.cache (eqb e.number 0) tested)
 
   module _ (shape : sdr1_shape sdr1 ≡ true) (long : own.table ≡ table_length sdr1) where
-    unlisted : (asked : Asked (List ℕ)) (o : Slices (Option (List ℕ))) (s : State) (m : Map) (waiting : ℕ → Bool)
-        → let c : Call = record { asked = asked; other = o } in Under sdr1 own c → Linked sdr1 own shape long s m waiting → unlisted_test asked (lent_lengths own c) m ≡ true → listed_by c s ≡ []
-    unfolding listed_on refusal_of
-    unlisted (plain request) o s m waiting under l e = refl
-    unlisted (cached c) o s m waiting under l e = refl
-    unlisted (invalidate index) o s m waiting under l e = refl
-    unlisted (rights c answer) o s m waiting under l e = refl
-    unlisted (sweep c) o s m waiting under l e =
-        let number = sweep_refusal (fed_sweep c) (by_option o.table own.table length) (by_option o.cache own.cache length) in
-        let size = size_is sdr1 own.table shape long s.table m l.related in
-        let is : step_refusal c (lent_for o.table s.table) (lent_for o.cache s.cache) ≡ number
-        = ap₂ (sweep_refusal (fed_sweep c)) (length_lent o.table s.table ∙ ap (λ (n : ℕ). by_option o.table n length) size)
-        (length_lent o.cache s.cache ∙ ap (λ (n : ℕ). by_option o.cache n length) l.size) in
-        by_test (eqb number 0)
-        (λ z.
-        let (same, is-own) = sweep_brings sdr1 own shape long s.table s.cache m l.size l.related o c under (eqb_true number 0 z) in
-        rw (is, z, is-own, same) (empty_lists (mask_ones sdr1) c.group s.table m l.related (second_holds _ _ e (ap not z))))
-        (λ z. rw (is, z))
-
     pub kept_tested : (calls : List Call) → Each (Under sdr1 own) calls → (s : State) (m : Map) (waiting tested : ℕ → Bool)
         → Linked sdr1 own shape long s m waiting → Fewer waiting tested → kept_test calls m tested ≡ true → Disciplined calls s waiting
     kept_tested [] each s m waiting tested l fewer e = tt
     kept_tested (c ∷ calls) (under, each) s m waiting tested l fewer e =
         let told = tells sdr1 own shape long c s m in
         let behind : Bool → (ℕ → Bool) → ℕ → Bool = λ isDone. waiting_after c.asked c.other.cache isDone in
-        let unlistedly = map_calling (fed_asked c.asked) (lent_lengths own c) [] m in
-        let (now, later) = both (unlisted_test c.asked (lent_lengths own c) m && allowed_test c.asked (lent_lengths own c) c.other tested)
-        (kept_test calls unlistedly.state (behind (eqb unlistedly.number 0) tested)) e in
-        let (none-listed, here) = both (unlisted_test c.asked (lent_lengths own c) m) (allowed_test c.asked (lent_lengths own c) c.other tested) now in
-        let is : unlistedly ≡ told
-        = ap (λ (listed : List Page). map_calling (fed_asked c.asked) (lent_lengths own c) listed m)
-        (sym (unlisted c.asked c.other s m waiting under l none-listed)) in
-        let rest = subst (λ (d : Ended Map). kept_test calls d.state (behind (eqb d.number 0) tested) ≡ true) is later in
+        let (here, rest) = both (allowed_test c.asked (lent_lengths own c) c.other tested) (kept_test calls told.state (behind (eqb told.number 0) tested)) e in
         let sizes : lengths_of s ≡ own = ap₂ (λ (a b : ℕ). slices a b) (size_is sdr1 own.table shape long s.table m l.related) l.size in
         let quiet : Invalidated c (lent_lengths (lengths_of s) c) waiting
         = subst (λ (n : Slices ℕ). Invalidated c (lent_lengths n c) waiting) (sym sizes) (allowed c (lent_lengths own c) waiting tested fewer here) in

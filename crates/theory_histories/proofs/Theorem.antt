@@ -1,7 +1,13 @@
 -- Demand 3: from a first clear that was done on, table and finite map are related, so every list of calls answers alike; what a page's own calls answer goes
 -- by which pages are mapped alone; and the statements of the cache and of rights, from the same laws.
-use Rattle.words.proofs.Basics.{ℕ, ◌<◌, ◌≡◌, refl, sym, ap, ◌∙◌, subst, true, false, true≢false, inr, ite, if_pos, if_neg, Option, none, some, Option·some-inj}
-use Rattle.words.proofs.Basics.{Option·some-ne-none, List, [], ◌∷◌, ◌++◌, append-nil, length, arith}
+use Prim.Native.Nat.{ℕ, ◌<◌}
+use mathlib.Core.Path.{◌≡◌, refl, sym, ap, ◌∙◌, subst}
+use mathlib.Core.Bool.{true, false, true≢false}
+use mathlib.Core.List.{List, [], ◌∷◌, ◌++◌, append-nil}
+use mathlib.Core.Logic.{ite, if_pos, if_neg, inr}
+use mathlib.Core.Option.{Option, none, some, some_inj, some-ne-none}
+use native.Mathlib.Omega.{arith}
+use lib.ListN.{length}
 use Rattle.theory_placement.specs.FiniteMap.{fields_at, put_in, mapped_pages}
 use Rattle.register_words.specs.Sdr1.{origin_of, mask_ones}
 use Rattle.groups.specs.Page.{Page, InRange, same_page}
@@ -50,34 +56,34 @@ module _ (h : History) where
       → GoesAlong h.sdr1 (own h) fits.shape fits.long h.calls rest (begun h) []
   all_along rest kept = along h.sdr1 (own h) fits.shape fits.long h.calls rest h.under (begun h) [] (filled h.start.cache) begins kept
 
-  pub nothing_left : CacheKept h → GoesAlong h.sdr1 (own h) fits.shape fits.long h.calls [] (begun h) []
+  nothing_left : CacheKept h → GoesAlong h.sdr1 (own h) fits.shape fits.long h.calls [] (begun h) []
   nothing_left kept = all_along [] (subst (λ (calls : List Call). Disciplined calls (begun h) (filled h.start.cache)) (sym (append-nil h.calls)) kept)
 
   -- ---- whatever the cache holds: a map with the pages of the finite map
 
-  pub stands : Standing h.sdr1 (own h) fits.shape fits.long (state_after h).table (mapped_pages (map_after h))
+  stands : Standing h.sdr1 (own h) fits.shape fits.long (state_after h).table (mapped_pages (map_after h))
   stands =
-      rw (runs_pages h.sdr1 (own h) fits.shape fits.long h.calls h.under (begun h) [])
+      rw (runs_pages h.sdr1 (own h) fits.shape fits.long h.calls h.under [])
       (runs_stand h.sdr1 (own h) fits.shape fits.long h.calls h.under (begun h) [] refl ([], first_represents, refl))
 
-  abbrev pub some_map : Map
+  abbrev some_map : Map
   some_map = stands.0
 
-  pub related : TableRepresents ones (state_after h).table some_map
+  related : TableRepresents ones (state_after h).table some_map
   related = stands.1
 
-  pub same_pages : mapped_pages some_map ≡ mapped_pages (map_after h)
+  same_pages : mapped_pages some_map ≡ mapped_pages (map_after h)
   same_pages = stands.2
 
   same_has : (page : Page) → by_option (fields_at same_page page some_map) false (λ f. true) ≡ by_option (mapped_to h page) false (λ f. true)
   same_has page = sym (has_page page some_map) ∙ ap (has same_page page) same_pages ∙ has_page page (map_after h)
 
-  pub also_none : (page : Page) → mapped_to h page ≡ none → fields_at same_page page some_map ≡ none
+  also_none : (page : Page) → mapped_to h page ≡ none → fields_at same_page page some_map ≡ none
   also_none page e =
       by_cases (fields_at same_page page some_map) (λ n. n)
       (λ f is. absurd (true≢false (ap (λ (o : Option PageFields). by_option o false (λ g. true)) (sym is) ∙ same_has page ∙ ap (λ (o : Option PageFields). by_option o false (λ g. true)) e)))
 
-  pub also_some : (page : Page) (f : PageFields) → mapped_to h page ≡ some f → (g : PageFields) × (fields_at same_page page some_map ≡ some g)
+  also_some : (page : Page) (f : PageFields) → mapped_to h page ≡ some f → (g : PageFields) × (fields_at same_page page some_map ≡ some g)
   also_some page f e =
       by_cases (fields_at same_page page some_map)
       (λ n. absurd (true≢false (sym (ap (λ (o : Option PageFields). by_option o false (λ g. true)) (sym n) ∙ same_has page ∙ ap (λ (o : Option PageFields). by_option o false (λ g. true)) e))))
@@ -172,5 +178,5 @@ unfolding brought_in
 rights_follow_history h kept c answer same =
     let all = nothing_left h kept in
     (steps h.sdr1 (own h) (fits h).shape (fits h).long (own_call (rights c answer)) (state_after h) (map_after h)
-    (inr (λ brought is. (sym (Option·some-inj.0 is) ∙ same, λ other none-there. absurd (Option·some-ne-none other (sym none-there)))))
+    (inr (λ brought is. (sym (some_inj.0 is) ∙ same, λ other none-there. absurd (some-ne-none other (sym none-there)))))
     all.waits all.linked (λ a is. absurd (let z : ◌≡◌ {A = ℕ} 0 1 = cc in omega arith))).told

@@ -1,24 +1,20 @@
 -- The one list of calls: what a call asks, what it is lent, and what it does to the list's own table and cache.
-use Rattle.words.specs.Basics.{ℕ, ◌≡◌, cond, Option, none, some, List, [], eqb, length}
-use Rattle.std.specs.Prelude.{◌⊎◌}
+use Rattle.std.specs.Prelude.{ℕ, List, [], ◌⊎◌, ◌≡◌, length}
+use Rattle.std.proofs.Math.Option.{Option, none, some}
 use Rattle.numbers.specs.Numbers.{refused_lent_length}
-use Rattle.register_words.specs.Sdr1.{mask_ones}
-use Rattle.groups.specs.Page.{Page}
 use Rattle.theory_calls.specs.Request.{AccessCall, Request, access, sdr1_in, fed}
 use Rattle.theory_calls.specs.Rules.{refusal}
 use Rattle.theory_calls.specs.OnBytes.{Ended, ended, by_option, on_bytes}
 use Rattle.theory_cache.specs.Cached.{on_cached, cached_refusal, invalidate_refusal, invalidate_call}
-use Rattle.theory_sweep.specs.Sweep.{SweepCall, fed_sweep, listed_pages, sweep_refusal, on_sweep}
 use Rattle.access_rights.specs.Rights.{RightsCall, asking, rights_refusal, rights_call}
 
--- what is asked: one of the calls on a table, an access with the cache, an invalidate of a page index's set, what three accesses would come to, or a step
--- of a sweep; A is what is said of the lent answer: its bytes, or its length alone
+-- what is asked: one of the calls on a table, an access with the cache, an invalidate of a page index's set, or what three accesses would come to; A is
+-- what is said of the lent answer: its bytes, or its length alone
 pub data Asked (A : Type 0) : Type 0 where
   plain : Request A → Asked A
   cached : AccessCall A → Asked A
   invalidate : (index : ℕ) → Asked A
   rights : RightsCall → (answer : A) → Asked A
-  sweep : SweepCall A → Asked A
 
 -- the slices that a list of calls is about, or what is said of each
 pub record Slices (A : Type 0) : Type 0 where
@@ -45,7 +41,6 @@ on_lent (plain request) s = let e = on_bytes request s.table in ended e.number (
 on_lent (cached c) s = let e = on_cached c (s.table, s.cache) in ended e.number (slices e.state.0 e.state.1) e.answer
 on_lent (invalidate index) s = let e = invalidate_call index s.cache in ended e.0 (slices s.table e.1) []
 on_lent (rights c answer) s = let e = rights_call c answer s.table in ended e.0 s e.1
-on_lent (sweep c) s = let e = on_sweep c (s.table, s.cache) in ended e.number (slices e.state.0 e.state.1) e.answer
 
 -- what is lent in the place of a slice, and what is left of the slice: as it was, where another was lent
 abbrev pub lent_for : Option (List ℕ) → List ℕ → List ℕ
@@ -78,7 +73,6 @@ refusal_of (plain request) lent = refusal (fed request) lent.table
 refusal_of (cached c) lent = cached_refusal c lent.table lent.cache
 refusal_of (invalidate index) lent = invalidate_refusal index lent.cache
 refusal_of (rights c answer) lent = rights_refusal c (length answer) lent.table
-refusal_of (sweep c) lent = sweep_refusal (fed_sweep c) lent.table lent.cache
 
 -- the SDR1 that is brought by a call which is lent a table
 unfoldable pub brought_in : {A : Type 0} → Asked A → Option ℕ
@@ -86,7 +80,6 @@ brought_in (plain request) = some (sdr1_in request)
 brought_in (cached c) = some (sdr1_in (access c))
 brought_in (invalidate index) = none
 brought_in (rights c answer) = some (sdr1_in (access (asking c 0)))
-brought_in (sweep c) = some c.sdr1
 
 -- a call under one SDR1, by the lengths of the list's own slices: a length of it is refused, and it may then bring anything; or it brings that SDR1, if it
 -- is lent a table, and another slice in the table's place only of another length
@@ -95,17 +88,3 @@ Under sdr1 own c =
     (refusal_of c.asked (lent_lengths own c) ≡ refused_lent_length)
     ⊎ ((brought : ℕ) → brought_in c.asked ≡ some brought
     → (brought ≡ sdr1) × ((other : List ℕ) → c.other.table ≡ some other → length other ≡ own.table → ⊥))
-
--- ---- the pages that a call lists
-
--- on what it is lent: those of a step of a sweep that is not refused
-unfoldable pub listed_on : Asked (List ℕ) → State → List Page
-listed_on (plain request) s = []
-listed_on (cached c) s = []
-listed_on (invalidate index) s = []
-listed_on (rights c answer) s = []
-listed_on (sweep c) s = cond (eqb (refusal_of (sweep c) (lengths_of s)) 0) (listed_pages s.table c.group (mask_ones c.sdr1)) []
-
--- in a list
-abbrev pub listed_by : Call → State → List Page
-listed_by c s = listed_on c.asked (lent_to c s)

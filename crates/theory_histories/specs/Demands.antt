@@ -14,8 +14,6 @@ use Rattle.theory_calls.specs.PageRows.{PageRows}
 use Rattle.theory_calls.specs.OperandRows.{OperandRows}
 use Rattle.theory_cache.specs.AnyCache.{CallsOnAnyCache}
 use Rattle.theory_cache.specs.Rows.{CachedRows}
-use Rattle.theory_sweep.specs.AnyTable.{SweepOnAnyTable}
-use Rattle.theory_sweep.specs.Rows.{SweepRows}
 use Rattle.access_rights.specs.Stated.{RightsStated}
 use Rattle.theory_histories.specs.Theorem.{TableRefinesMap, AccessFollowsHistory, RightsFollowHistory}
 use Rattle.theory_histories.specs.Invisible.{CacheInvisible}
@@ -37,7 +35,6 @@ pub record Demands : Type 0 where
   -- what each call does to any table and any cache, whoever wrote them
   pub any_table : CallsOnAnyTable
   pub any_cache : CallsOnAnyCache
-  pub any_sweep : SweepOnAnyTable
   -- what is told of three accesses, on any table and after a history
   pub rights : RightsStated
   pub rights_follow : RightsFollowHistory
@@ -54,7 +51,6 @@ pub record Demands : Type 0 where
   pub page_calls : PageRows
   pub operands : OperandRows
   pub cached_calls : CachedRows
-  pub sweeps : SweepRows
   pub slices : SliceRows
   pub waiting : WaitingRows
   -- what the statements assume is met

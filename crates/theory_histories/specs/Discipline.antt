@@ -1,12 +1,13 @@
 -- The discipline of the cache along a list of calls (request 7): before an access with the cache each set that may be stale was invalidated. A list
 -- without such accesses keeps it.
-use Rattle.words.specs.Basics.{ℕ, ◌+◌, ◌*◌, ◌<◌, ◌≡◌, Bool, true, false, not, ◌&&◌, ◌||◌, Option, none, List, [], ◌∷◌, eqb, get_or}
+use Rattle.std.specs.Prelude.{ℕ, ◌+◌, ◌*◌, ◌<◌, Bool, true, false, not, ◌&&◌, ◌||◌, List, [], ◌∷◌, ◌≡◌, eqb, get_or}
+use Rattle.std.proofs.Math.Option.{Option, none}
 use Rattle.numbers.specs.Numbers.{done}
 use Rattle.words.specs.Below.{every_below}
 use Rattle.cache.specs.Cache.{set_of}
 use Rattle.theory_calls.specs.Request.{AccessCall, Request, clear, map_page, unmap, protect, look, access}
 use Rattle.theory_calls.specs.OnBytes.{by_option}
-use Rattle.theory_histories.specs.Calls.{Asked, plain, cached, invalidate, rights, sweep, Slices, State, Call, calling, lengths_of, lent_lengths, refusal_of}
+use Rattle.theory_histories.specs.Calls.{Asked, plain, cached, invalidate, rights, Slices, State, Call, calling, lengths_of, lent_lengths, refusal_of}
 
 -- the sets that a request, when done, leaves to be invalidated: that of its page for unmap and protect, and every set for clear
 abbrev pub leaves_stale : {A : Type 0} → Request A → ℕ → Bool
@@ -17,18 +18,12 @@ leaves_stale (protect c) set = eqb (set_of c.page.index) set
 leaves_stale (look c) set = false
 leaves_stale (access c) set = false
 
--- another slice is lent
-abbrev pub is_lent : Option (List ℕ) → Bool
-is_lent other = by_option other false (λ slice. true)
-
--- the sets that wait for an invalidate after a call that was done or not, by those that waited before it; an invalidate of another cache ends nothing. A
--- step of a sweep zeroes the sets of its pages itself, so it makes none wait, and it is no invalidate; where it zeroes them in another cache, every set waits
+-- the sets that wait for an invalidate after a call that was done or not, by those that waited before it; an invalidate of another cache ends nothing
 abbrev pub waiting_after : Asked (List ℕ) → (other_cache : Option (List ℕ)) → (isDone : Bool) → (ℕ → Bool) → ℕ → Bool
 waiting_after (plain request) other isDone waiting set = waiting set || (leaves_stale request set && isDone)
 waiting_after (cached c) other isDone waiting set = waiting set
 waiting_after (invalidate index) other isDone waiting set = waiting set && not (eqb (set_of index) set && by_option other isDone (λ slice. false))
 waiting_after (rights c answer) other isDone waiting set = waiting set
-waiting_after (sweep c) other isDone waiting set = waiting set || (is_lent other && isDone)
 
 -- an access with the cache, unless it is refused by its arguments and lengths, is lent the list's own table and cache, and no set waits
 abbrev pub Invalidated : Call → Slices ℕ → (ℕ → Bool) → Type 0

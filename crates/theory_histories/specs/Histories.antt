@@ -1,12 +1,13 @@
 -- Histories: a first clear that was done, and the calls that follow it under its SDR1.
-use Rattle.words.specs.Basics.{ℕ, ◌≡◌, none, List, []}
+use Rattle.std.specs.Prelude.{ℕ, List, [], map, ◌≡◌}
+use Rattle.std.proofs.Math.Option.{none}
 use Rattle.numbers.specs.Numbers.{done}
 use Rattle.theory_tables.specs.Runs.{after, Each}
 use Rattle.theory_calls.specs.OnBytes.{Ended}
 use Rattle.theory_calls.specs.OnMap.{Map}
 use Rattle.theory_calls.specs.FirstClear.{clearing}
 use Rattle.theory_histories.specs.Calls.{Asked, Slices, slices, Call, State, calling, lengths_of, Under}
-use Rattle.theory_histories.specs.Fed.{Fed, fed_along, bytes_step, map_step}
+use Rattle.theory_histories.specs.Fed.{fed_of, bytes_step, map_step}
 use Rattle.theory_histories.specs.Discipline.{Disciplined, filled}
 
 -- a call that is lent the list's own slices
@@ -34,8 +35,8 @@ module _ (h : History) where
   state_after = after bytes_step h.calls begun
 
   -- what the finite map is fed of the calls, and the map after them, empty after the clear
-  abbrev pub fed_calls : List Fed
-  fed_calls = fed_along own h.calls begun
+  abbrev pub fed_calls : List (Asked ℕ × Slices ℕ)
+  fed_calls = map (fed_of own) h.calls
 
   abbrev pub map_after : Map
   map_after = after map_step fed_calls []

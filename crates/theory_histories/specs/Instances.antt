@@ -1,18 +1,17 @@
 -- Instances of what the statements assume, over every table of 65,536 bytes and every cache of 2,048: where a definition that they are made of cannot be met,
 -- no row here holds.
-use Rattle.words.specs.Basics.{ℕ, zero, suc, ◌*◌, ◌≡◌, false, none, some, List, [], ◌∷◌, ◌++◌, map, replicate}
-use Rattle.numbers.specs.Numbers.{done, refused_group}
+use Rattle.std.specs.Prelude.{ℕ, zero, suc, ◌*◌, false, List, [], ◌∷◌, ◌++◌, map, ◌≡◌, replicate}
+use Rattle.std.proofs.Math.Option.{none, some}
 use Rattle.words.specs.Words.{with_word}
 use Rattle.groups.specs.Page.{Page}
 use Rattle.theory_calls.specs.Request.{MapCall, Request, map_page}
 use Rattle.theory_calls.specs.Made.{to_map, to_unmap}
-use Rattle.theory_calls.specs.OnBytes.{Ended}
 use Rattle.theory_calls.specs.PageRows.{page_of}
 use Rattle.theory_cache.specs.Rows.{registers, to_cached, load, store}
 use Rattle.theory_histories.specs.Calls.{plain, cached, Slices, slices, State, Call, lengths_of}
-use Rattle.theory_histories.specs.Histories.{own_call, History, CacheKept, next}
+use Rattle.theory_histories.specs.Histories.{own_call, History, CacheKept}
 use Rattle.theory_histories.specs.Theorem.{mapped_to, ArrangedWith, MapInRange, Maps, TakesOut, DoneSince, Reaches}
-use Rattle.theory_histories.specs.Rows.{on, clear_all, invalidate_set_of, sweep_of, lent}
+use Rattle.theory_histories.specs.Rows.{on, clear_all, invalidate_set_of, lent}
 
 -- ---- the calls
 
@@ -58,12 +57,6 @@ exceptions =
     ∷ on (maps_at 0)
     ∷ []
 
--- steps of a sweep where no page is mapped, one of a group past the last among them, and such a one where a page is
-abbrev pub swept : List Call
-swept =
-    (own_call (sweep_of 0) ∷ own_call (sweep_of 0x0400) ∷ invalidates_below 64)
-    ++ (own_call (sweep_of 0x03FF) ∷ on (maps_at 0) ∷ load_at 0 ∷ own_call (sweep_of 0x0400) ∷ [])
-
 -- case 11: VSIDs 0, 0x400 .. 0x3C00, page 0, fill a pair of groups; and one page more
 abbrev pub map_of : ℕ → MapCall
 map_of i = record { sdr1 = 0; page = page_of (0x400 * i) 0; rpn = 0x12345; wimg = 2; pp = 2 }
@@ -89,9 +82,6 @@ pub record InstanceRows : Type 0 where
   -- histories, and the discipline of the cache
   pub disciplined_list : OnEvery disciplined CacheKept
   pub both_exceptions : OnEvery exceptions CacheKept
-  -- steps of a sweep: a history with them, after which one is done where a page is mapped, and one is refused
-  pub swept_list : OnEvery swept
-      (λ h. CacheKept h × ((next h (own_call (sweep_of 0x03FF))).number ≡ done) × ((next h (own_call (sweep_of 0x0400))).number ≡ refused_group))
   -- a map in range of a page that is not mapped, where its pair of groups is full, and where an entry is left
   pub full_pair : OnEvery (maps_below 16)
       (λ h. MapInRange h (map_of 16) × (mapped_to h (map_of 16).page ≡ none) × (ArrangedWith h (map_of 16).page → ⊥))

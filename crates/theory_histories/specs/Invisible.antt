@@ -1,5 +1,5 @@
 -- Request 7's statement: over every disciplined list of calls nobody can tell the cache from none.
-use Rattle.words.specs.Basics.{ℕ, ◌≡◌, Bool, false, cond, List, [], ◌∷◌, eqb, length, replicate}
+use Rattle.std.specs.Prelude.{ℕ, Bool, false, cond, List, [], ◌∷◌, ◌≡◌, eqb, length, replicate}
 use Rattle.words.specs.Words.{with_word}
 use Rattle.theory_tables.specs.Runs.{run}
 use Rattle.cache.specs.Cache.{cache_size}
@@ -8,7 +8,7 @@ use Rattle.theory_calls.specs.OnBytes.{by_option}
 use Rattle.theory_calls.specs.Represents.{GoodTable}
 use Rattle.theory_cache.specs.Cached.{hit_entry}
 use Rattle.theory_cache.specs.Shown.{answered_by_hit}
-use Rattle.theory_histories.specs.Calls.{Asked, plain, cached, invalidate, rights, sweep, Slices, slices, State, Call, calling, lent_to}
+use Rattle.theory_histories.specs.Calls.{Asked, plain, cached, invalidate, rights, Slices, slices, State, Call, calling, lent_to}
 use Rattle.theory_histories.specs.Fed.{bytes_step, map_step}
 use Rattle.theory_histories.specs.Discipline.{Disciplined, filled}
 use Rattle.theory_histories.specs.Histories.{History, begun, fed_calls}
@@ -19,7 +19,6 @@ plainly lent (plain request) = plain request
 plainly lent (cached c) = cond (eqb lent cache_size) (plain (access c)) (cached c)
 plainly lent (invalidate index) = invalidate index
 plainly lent (rights c answer) = rights c answer
-plainly lent (sweep c) = sweep c
 
 -- the same call without the cache, by the length of the list's own cache
 abbrev pub without_cache : ℕ → Call → Call
@@ -31,7 +30,6 @@ shown (plain request) lent answer = answer
 shown (cached c) lent answer = cond (answered_by_hit c lent.table lent.cache) (with_word answer 44 hit_entry) answer
 shown (invalidate index) lent answer = answer
 shown (rights c told) lent answer = answer
-shown (sweep c) lent answer = answer
 
 -- the length of the list's own cache
 module _ (own : ℕ) where

@@ -1,7 +1,8 @@
 -- Rows of lists of calls with a cache (request 7): the same list without the cache beside it, and the sets that wait for an invalidate. Each closes by
 -- computation.
-use Rattle.words.specs.Basics.{ℕ, Bool, true, false, Option, none, some, List, [], ◌∷◌, ◌++◌, map, eqb, replicate}
-use Rattle.numbers.specs.Numbers.{done, swept_size}
+use Rattle.std.specs.Prelude.{ℕ, Bool, true, false, List, [], ◌∷◌, ◌++◌, map, eqb, replicate}
+use Rattle.std.proofs.Math.Option.{Option, none, some}
+use Rattle.numbers.specs.Numbers.{done}
 use Rattle.words.specs.Rows.{Hold}
 use Rattle.words.specs.Words.{bytes_of}
 use Rattle.groups.specs.Page.{Page}
@@ -10,8 +11,7 @@ use Rattle.theory_calls.specs.Made.{to_clear, to_map, to_unmap, to_protect, to_l
 use Rattle.theory_calls.specs.OnBytes.{Ended}
 use Rattle.theory_calls.specs.PageRows.{page_of}
 use Rattle.theory_cache.specs.Rows.{load, store, place}
-use Rattle.theory_sweep.specs.Sweep.{SweepCall}
-use Rattle.theory_histories.specs.Calls.{Asked, plain, cached, invalidate, sweep, Slices, slices, Call, State, calling, lengths_of, lent_lengths}
+use Rattle.theory_histories.specs.Calls.{Asked, plain, cached, invalidate, Slices, slices, Call, State, calling, lengths_of, lent_lengths}
 use Rattle.theory_histories.specs.Histories.{own_call}
 use Rattle.theory_histories.specs.Discipline.{waiting_after, Invalidated, filled}
 use Rattle.theory_histories.specs.Invisible.{without_cache, zero_cache, none_waits}
@@ -43,13 +43,6 @@ store_it = own_call (cached (store 0x001E3123))
 
 abbrev pub invalidate_set_of : ℕ → Call
 invalidate_set_of index = own_call (invalidate index)
-
--- a step of a sweep of a group
-abbrev pub step_of : ℕ → SweepCall (List ℕ)
-step_of group = record { sdr1 = 0; group = group; pages = replicate swept_size 255 }
-
-abbrev pub sweep_of : ℕ → Asked (List ℕ)
-sweep_of group = sweep (step_of group)
 
 -- the table in which it is mapped alone, with this second word; and one without it
 abbrev pub mapped : ℕ → List ℕ
@@ -122,8 +115,7 @@ pub record SliceRows : Type 0 where
 
 -- Which sets wait for an invalidate.
 pub record WaitingRows : Type 0 where
-  -- the sets that wait: that of a done unmap's or protect's page, and every set after a done clear and a step of a sweep that is lent another cache; none
-  -- after a refused one, a map, an access or a step with the list's own cache
+  -- the sets that wait: that of a done unmap's or protect's page, and every set after a done clear; none after a refused one, a map or an access
   pub waiting : Hold (
       (waits unmap_it (mapped 0x12345012), only35)
       ∷ (waits protect_it (mapped 0x12345012), only35)
@@ -134,12 +126,9 @@ pub record WaitingRows : Type 0 where
       ∷ (waits (on (to_look 0 the_page (replicate 16 255))) (mapped 0x12345012), no_set)
       ∷ (waits (on (access (load 0x001E3123))) (mapped 0x12345012), no_set)
       ∷ (waits load_it (mapped 0x12345012), no_set)
-      ∷ (waits (own_call (sweep_of 0x01FF)) (mapped 0x12345012), no_set)
-      ∷ (waits (lent none (some zero_cache) (sweep_of 0x01FF)) (mapped 0x12345012), both_sets)
-      ∷ (waits (lent none (some zero_cache) (sweep_of 0x0400)) (mapped 0x12345012), no_set)
       ∷ []
       )
-  -- a done invalidate ends the waiting of its own set; a refused one, one of another cache, and any other call, a step of a sweep too, of none
+  -- a done invalidate ends the waiting of its own set; a refused one, one of another cache, and any other call, of none
   pub waiting_ends : Hold (
       (still_waits (invalidate_set_of 0x01E3), all_but35)
       ∷ (still_waits (invalidate_set_of 0x0223), all_but35)
@@ -148,7 +137,6 @@ pub record WaitingRows : Type 0 where
       ∷ (still_waits (lent none (some zero_cache) (invalidate 0x01E3)), all_sets)
       ∷ (still_waits load_it, all_sets)
       ∷ (still_waits map_it, all_sets)
-      ∷ (still_waits (own_call (sweep_of 0x01FF)), all_sets)
       ∷ []
       )
   -- an access with the cache is not allowed while a set waits, the first or the last; where none waits it is

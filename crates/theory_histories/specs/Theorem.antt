@@ -1,6 +1,7 @@
 -- Demand 3 (rules 8): over every history of calls after a first clear that was done, the answers on the bytes are those of the plain finite map; and what
 -- that means for a page.
-use Rattle.words.specs.Basics.{ℕ, ◌+◌, ◌/◌, ◌^◌, ◌<◌, ◌≡◌, Bool, true, false, cond, Option, none, some, List, [], ◌∷◌, ◌++◌, length}
+use Rattle.std.specs.Prelude.{ℕ, ◌+◌, ◌/◌, ◌^◌, ◌<◌, Bool, true, false, cond, List, [], ◌∷◌, ◌++◌, ◌≡◌, length}
+use Rattle.std.proofs.Math.Option.{Option, none, some}
 use Rattle.numbers.specs.Numbers.{done, refused_mapped, refused_full, answer_size, rule_no_match}
 use Rattle.words.specs.Bits.{bits, placed}
 use Rattle.words.specs.Words.{word_at}
@@ -142,4 +143,4 @@ pub record AccessFollowsHistory : Type 0 where
 -- what three accesses after a history would come to is what the finite map tells of them
 abbrev pub RightsFollowHistory : Type 0
 RightsFollowHistory = (h : History) → CacheKept h → (c : RightsCall) (answer : List ℕ) → sdr1_in (access (asking c 0)) ≡ h.sdr1
-    → let call = own_call (rights c answer) in (bytes_step call (state_after h)).0 ≡ (map_step (fed_of (own h) call (state_after h)) (map_after h)).0
+    → let call = own_call (rights c answer) in (bytes_step call (state_after h)).0 ≡ (map_step (fed_of (own h) call) (map_after h)).0

@@ -1,8 +1,13 @@
 -- Of two runs of acts on the list of mapped pages, one of which lacks an act, each ends with at most one page that the other lacks.
 -- The idea: the two lists differ by nothing, by one page, or by one page each of one pair of groups, and every further act keeps this so.
-use Rattle.words.proofs.Basics.{ℕ, suc, ◌+◌, ◌-◌, ◌<◌, ◌≤◌, ◌≡◌, refl, sym, ap, ap₂, ◌∙◌, subst, Bool, true, false, cond, not, ◌||◌, true≢false, false≢true}
-use Rattle.words.proofs.Basics.{or_comm, ◌⊎◌, inl, inr, ite, if_pos, if_neg, List, [], ◌∷◌, ◌++◌, eqb, ltb, arith, eqb_true, ltb-false, ltb-true}
-use mathlib.Core.Bool.{or_assoc, or-true}
+use mathlib.Core.Path.{◌≡◌, refl, sym, ap, ap₂, ◌∙◌, subst}
+use mathlib.Core.Logic.{◌⊎◌, inl, inr, ite, if_pos, if_neg}
+use mathlib.Core.Bool.{Bool, true, false, not, cond, ◌||◌, or-true, or_assoc, or_comm, true≢false, false≢true}
+use mathlib.Core.List.{List, [], ◌∷◌, ◌++◌}
+use Prim.Native.Nat.{ℕ, suc, ◌+◌, ◌-◌, ◌≤◌, ◌<◌}
+use native.Mathlib.Omega.{arith}
+use lib.Dec.{eqb, ltb}
+use borrow.Author.Tests.{eqb-true, ltb-true, ltb-false}
 use Rattle.theory_placement.specs.Lists.{one_if}
 use Rattle.theory_placement.specs.Placement.{Arrangement}
 use Rattle.theory_placement.specs.Pairs.{of_pair, pages_of_pair}
@@ -188,7 +193,7 @@ module _ {P : Type 0} (same : P → P → Bool) (same_refl : (p : P) → same p 
         by : (b : Bool) → eqb (group b p) (group false r) ≡ true → of_pair group g p ≡ of_pair group g r
         by b x =
             of_pair_by group half mirror b p g k
-            ∙ ap (λ (n : ℕ). eqb n g || eqb n (half + half - suc g)) (eqb_true (group b p) (group false r) x)
+            ∙ ap (λ (n : ℕ). eqb n g || eqb n (half + half - suc g)) (eqb-true (group b p) (group false r) x)
             ∙ sym (of_pair_by group half mirror false r g k)
 
         go : (t : Bool) → eqb (group false p) (group false r) ≡ t → of_pair group g p ≡ of_pair group g r

@@ -1,7 +1,15 @@
 -- Request 8's statement: a call does one of four acts to the list of mapped pages, on the finite map and on a table that represents some map with these
 -- pages; so two lists of calls that differ in one act come to two lists of pages that differ by at most one page each way.
-use Rattle.words.proofs.Basics.{ℕ, ◌+◌, ◌^◌, ◌≡◌, refl, sym, ap, ◌∙◌, subst, Bool, true, false, cond, ◌⊎◌, inl, inr, Option, none, some, List, [], ◌∷◌, ◌++◌}
-use Rattle.words.proofs.Basics.{map, map-append, eqb, length, replicate, arith, eq-eqb}
+use Prim.Native.Nat.{ℕ, ◌+◌, ◌^◌}
+use mathlib.Core.Path.{◌≡◌, refl, sym, ap, ◌∙◌, subst}
+use mathlib.Core.Bool.{Bool, true, false, cond}
+use mathlib.Core.List.{List, [], ◌∷◌, ◌++◌, map, map-append}
+use mathlib.Core.Logic.{◌⊎◌, inl, inr}
+use mathlib.Core.Option.{Option, none, some}
+use native.Mathlib.Omega.{arith}
+use lib.Dec.{eqb}
+use lib.ListN.{length, replicate}
+use borrow.Author.Tests.{eq-eqb}
 use Rattle.words.proofs.Tests.{by_test}
 use Rattle.numbers.specs.Numbers.{group_entries}
 use Rattle.theory_placement.specs.FiniteMap.{fields_at}
@@ -26,8 +34,7 @@ use Rattle.theory_histories.specs.Histories.{History, own, begun}
 use Rattle.theory_histories.proofs.Acts.{leave, has}
 use Rattle.theory_histories.proofs.Standing.{does, has_page, act_in, act_of, pages_by, Standing, size_of, runs_pages, runs_stand}
 use Rattle.theory_histories.proofs.Theorem.{fits}
-use Rattle.theory_lost_call.specs.Lost.{MapOrUnmap, a_map, an_unmap, LostCall, lacking, map_after_run, table_after_run, looked_up, OneLostCall, Mapped}
-use Rattle.theory_lost_call.specs.Lost.{AtMostOneMore}
+use Rattle.theory_lost_call.specs.Lost.{MapOrUnmap, a_map, an_unmap, LostCall, lacking, map_after_run, table_after_run, looked_up, OneLostCall, Mapped, AtMostOneMore}
 use Rattle.theory_lost_call.proofs.Domain.{AtMostOne, NotEmpty, one_lost}
 
 -- ---- a look at a table that represents some map with these pages
@@ -127,7 +134,7 @@ module _ (h : LostCall) where
   map_has : (calls : List Call) → Fine calls → (page : Page)
       → has same_page page (pages_after calls) ≡ by_option (fields_at same_page page (map_after_run h calls)) false (λ f. true)
   map_has calls each page =
-      ap (has same_page page) (sym (runs_pages one.sdr1 (own one) fit.shape fit.long calls each (begun one) [])) ∙ has_page page (map_after_run h calls)
+      ap (has same_page page) (sym (runs_pages one.sdr1 (own one) fit.shape fit.long calls each [])) ∙ has_page page (map_after_run h calls)
 
   mapped_has : (calls : List Call) → Fine calls → (page : Page) → Mapped (map_after_run h calls) page → has same_page page (pages_after calls) ≡ true
   mapped_has calls each page (f, e) = map_has calls each page ∙ ap (λ (o : Option PageFields). by_option o false (λ g. true)) e

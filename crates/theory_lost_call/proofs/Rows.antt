@@ -1,5 +1,5 @@
 -- Every row of the false readings holds: it computes.
-use Rattle.words.proofs.Basics.{refl}
+use mathlib.Core.Path.{refl}
 use Rattle.theory_placement.proofs.Decision.{arrangement?}
 use Rattle.theory_histories.proofs.Computes.{histories_compute}
 use Rattle.theory_lost_call.specs.Rows.{LostRows}

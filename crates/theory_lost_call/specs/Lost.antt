@@ -1,6 +1,7 @@
 -- Request 8: two lists of calls that differ in one map or unmap which one of them lacks stay near: after each later call, each has at most one mapped page
 -- that the other lacks.
-use Rattle.words.specs.Basics.{ℕ, ◌≡◌, some, List, [], ◌∷◌, ◌++◌, replicate}
+use Rattle.std.specs.Prelude.{ℕ, List, [], ◌∷◌, ◌++◌, map, ◌≡◌, replicate}
+use Rattle.std.proofs.Math.Option.{some}
 use Rattle.numbers.specs.Numbers.{done, refused_no_match, answer_size}
 use Rattle.theory_placement.specs.FiniteMap.{fields_at}
 use Rattle.theory_tables.specs.Runs.{after}
@@ -9,7 +10,7 @@ use Rattle.theory_calls.specs.Request.{MapCall, AnsweredCall, Request, map_page,
 use Rattle.theory_calls.specs.OnBytes.{on_bytes}
 use Rattle.theory_calls.specs.OnMap.{PageFields, Map}
 use Rattle.theory_histories.specs.Calls.{Call, plain}
-use Rattle.theory_histories.specs.Fed.{fed_along, bytes_step, map_step}
+use Rattle.theory_histories.specs.Fed.{fed_of, bytes_step, map_step}
 use Rattle.theory_histories.specs.Histories.{History, own, begun}
 
 -- a call that may be lost: a map or an unmap, whatever it brings
@@ -36,7 +37,7 @@ module _ (h : LostCall) where
 
   -- the finite map after a list of calls, and the table
   abbrev pub map_after_run : List Call → Map
-  map_after_run calls = after map_step (fed_along (own h.history) calls (begun h.history)) []
+  map_after_run calls = after map_step (map (fed_of (own h.history)) calls) []
 
   abbrev pub table_after_run : List Call → List ℕ
   table_after_run calls = (after bytes_step calls (begun h.history)).table

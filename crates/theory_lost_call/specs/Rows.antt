@@ -1,6 +1,6 @@
 -- Readings of request 8 that are false, each by a run on the finite map: a run, and the same run without the calls that were lost. Each closes by
 -- computation. Under SDR1 0 the pages here have primary group 0, so sixteen of them are as many as their pair of groups takes.
-use Rattle.words.specs.Basics.{ℕ, ◌*◌, ◌/◌, List, [], ◌∷◌, ◌++◌, map, replicate}
+use Rattle.std.specs.Prelude.{ℕ, ◌*◌, ◌/◌, List, [], ◌∷◌, ◌++◌, map, replicate}
 use Rattle.numbers.specs.Numbers.{answer_size}
 use Rattle.words.specs.Rows.{Hold}
 use Rattle.theory_tables.specs.Runs.{after}
@@ -8,10 +8,8 @@ use Rattle.groups.specs.Page.{Page}
 use Rattle.theory_calls.specs.Made.{to_map, to_unmap}
 use Rattle.theory_calls.specs.OnMap.{PageFields}
 use Rattle.theory_histories.specs.Calls.{Call, slices, plain}
-use Rattle.theory_histories.specs.Fed.{fed_along, map_step}
+use Rattle.theory_histories.specs.Fed.{fed_of, map_step}
 use Rattle.theory_histories.specs.Histories.{own_call}
-use Rattle.theory_histories.specs.Invisible.{zero_cache}
-use Rattle.theory_histories.specs.Rows.{unmapped}
 
 -- page i of the pair, its map to a frame, and its unmap
 abbrev pub page_number : ℕ → Page
@@ -23,11 +21,9 @@ map_to frame i = own_call (plain (to_map 0 (page_number i) frame 0 2))
 abbrev pub unmap_it : ℕ → Call
 unmap_it i = own_call (plain (to_unmap 0 (page_number i) (replicate answer_size 0)))
 
--- the pages that are mapped after a run from a table and a cache of zeros, the newest first, each with its frame
+-- the pages that are mapped after a run, the newest first, each with its frame
 abbrev pub mapped_after : List Call → List (ℕ × ℕ)
-mapped_after calls =
-    map (λ (x : Page × PageFields). (x.0.index / 1024, x.1.frame))
-    (after map_step (fed_along (slices 65536 2048) calls (slices unmapped zero_cache)) [])
+mapped_after calls = map (λ (x : Page × PageFields). (x.0.index / 1024, x.1.frame)) (after map_step (map (fed_of (slices 65536 2048)) calls) [])
 
 -- fifteen pages of the pair, in frame 1
 abbrev pub fifteen : List Call

@@ -1,6 +1,12 @@
 -- An arrangement exists exactly when no pair has more pages than entries; so it exists for any list that has no more pages of any pair.
-use Rattle.words.proofs.Basics.{ℕ, suc, ◌+◌, ◌<◌, ◌≤◌, ◌≡◌, sym, Bool, true, false, not, decide, ◌⊎◌, inl, inr, ◌↔◌, List, [], ◌∷◌, Sublistᴰ, ltb, arith}
-use Rattle.words.proofs.Basics.{le-ltb, lt-ltb}
+use mathlib.Core.Path.{◌≡◌, sym}
+use mathlib.Core.Bool.{Bool, true, false, not, decide}
+use mathlib.Core.List.{List, [], ◌∷◌, Sublistᴰ}
+use mathlib.Core.Logic.{◌↔◌, ◌⊎◌, inl, inr}
+use Prim.Native.Nat.{ℕ, suc, ◌+◌, ◌≤◌, ◌<◌}
+use native.Mathlib.Omega.{arith}
+use lib.Dec.{ltb}
+use borrow.Author.Tests.{lt-ltb, le-ltb}
 use Rattle.theory_placement.specs.Placement.{Arrangement}
 use Rattle.theory_placement.specs.Pairs.{of_pair, pages_of_pair, ArrangementExists}
 use Rattle.theory_placement.proofs.Decision.{own_pair, primary_in_range, pair_bound, place}

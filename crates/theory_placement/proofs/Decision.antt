@@ -1,7 +1,13 @@
 -- Whether an arrangement exists is decided, by a decision that computes: each page goes where an entry is left, and where none is, its pair is full.
 -- The type of the decision says that it is right.
-use Rattle.words.proofs.Basics.{ℕ, suc, ◌+◌, ◌-◌, ◌<◌, ◌≤◌, ◌≡◌, refl, sym, ap, ◌∙◌, subst, Bool, true, false, ◌||◌, or_comm, ◌⊎◌, inl, inr, List, [], ◌∷◌, eqb}
-use Rattle.words.proofs.Basics.{ltb, arith, eq-eqb, eqb_true, ltb-false, ltb-true}
+use mathlib.Core.Path.{◌≡◌, refl, sym, ap, ◌∙◌, subst}
+use mathlib.Core.Bool.{Bool, true, false, ◌||◌, or_comm}
+use mathlib.Core.List.{List, [], ◌∷◌}
+use mathlib.Core.Logic.{◌⊎◌, inl, inr}
+use Prim.Native.Nat.{ℕ, suc, ◌+◌, ◌-◌, ◌≤◌, ◌<◌}
+use native.Mathlib.Omega.{arith}
+use lib.Dec.{eqb, ltb}
+use borrow.Author.Tests.{eqb-true, eq-eqb, ltb-true, ltb-false}
 use Rattle.words.proofs.Tests.{eqb_same}
 use Rattle.theory_placement.specs.Lists.{one_if}
 use Rattle.theory_placement.specs.Placement.{Choices, times_chosen, Arrangement}
@@ -41,7 +47,7 @@ module _ {P : Type 0} (group : Bool → P → ℕ) (half : ℕ) (mirror : (p : P
       chosen_once : one_if (eqb (group c.0 p) g) + one_if (eqb (group c.0 p) (half + half - suc g)) ≡ one_if (of_pair group g p)
       chosen_once =
           one_if_or (eqb (group c.0 p) g) (eqb (group c.0 p) (half + half - suc g))
-          (λ s t. let x = eqb_true (group c.0 p) g s in let y = eqb_true (group c.0 p) (half + half - suc g) t in omega arith)
+          (λ s t. let x = eqb-true (group c.0 p) g s in let y = eqb-true (group c.0 p) (half + half - suc g) t in omega arith)
           ∙ ap one_if (sym (of_pair_by c.0 p g l))
 
   pub primary_in_range : (p : P) → group false p < half + half
@@ -63,7 +69,7 @@ module _ {P : Type 0} (group : Bool → P → ℕ) (capacity : ℕ) where
     where
       go : (g : ℕ) (t : Bool) → eqb (group b p) g ≡ t → one_if t + times_chosen group g ps a.choice ≤ capacity
       go g true e =
-          let l' : entry_left g ps a.choice ≡ true = subst (λ (x : ℕ). entry_left x ps a.choice ≡ true) (eqb_true (group b p) g e) l in
+          let l' : entry_left g ps a.choice ≡ true = subst (λ (x : ℕ). entry_left x ps a.choice ≡ true) (eqb-true (group b p) g e) l in
           omega (arith, ltb-true)
       go g false e = let k = a.fits g in omega arith
 

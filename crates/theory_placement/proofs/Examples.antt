@@ -1,5 +1,10 @@
 -- Every row holds: the maps compute, and whether an arrangement exists is decided by a decision that computes.
-use Rattle.words.proofs.Basics.{ℕ, suc, ◌+◌, ◌≡◌, refl, Bool, true, false, decide, Option·some-ne-none, List, arith}
+use mathlib.Core.Path.{◌≡◌, refl}
+use mathlib.Core.Bool.{Bool, true, false, decide}
+use mathlib.Core.List.{List}
+use mathlib.Core.Option.{some-ne-none}
+use Prim.Native.Nat.{ℕ, suc, ◌+◌}
+use native.Mathlib.Omega.{arith}
 use Rattle.theory_placement.specs.Examples.{four_groups, Fit, PlacementTables}
 use Rattle.theory_placement.proofs.Decision.{arrangement?}
 
@@ -25,7 +30,7 @@ placement_tables = record {
   fields = record { equal = refl };
   pages = record { equal = refl };
   once = (refl, (refl, (refl, tt)));
-  twice = λ h. Option·some-ne-none 20 h.0;
+  twice = λ h. some-ne-none 20 h.0;
   sixteen = (fits (fit? 8 _) refl, fits (fit? 8 _) refl);
   seventeen = (fits_not (fit? 8 _) refl, fits_not (fit? 8 _) refl, fits_not (fit? 8 _) refl);
   other_pair = fits (fit? 8 _) refl;

@@ -1,8 +1,12 @@
 -- Laws of the plain finite map: what each change makes of every page's fields, of the mapped pages and of their number.
-use Rattle.words.proofs.Basics.{suc, ◌≡◌, refl, sym, ap, ap₂, ◌∙◌, Bool, true, false, cond, not, true≢false, ◌⊎◌, inl, inr, ◌↔◌, Option, none, some, Option·map}
-use Rattle.words.proofs.Basics.{Option·some-injective, Option·some-ne-none, List, [], ◌∷◌, List-as-Memᴰ, List·Memᴰ·cases-cons, List·Memᴰ·head, List·Memᴰ·not-nil}
-use Rattle.words.proofs.Basics.{List·Memᴰ·tail, length, length-map}
-use mathlib.Core.List.{map-map}
+use mathlib.Core.Path.{◌≡◌, refl, sym, ap, ap₂, ◌∙◌}
+use mathlib.Core.Logic.{◌↔◌, ◌⊎◌, inl, inr}
+use mathlib.Core.Bool.{Bool, true, false, not, cond, true≢false}
+use mathlib.Core.List.Memᴰ
+use mathlib.Core.List.{List, [], ◌∷◌, map-map, Memᴰ}
+use mathlib.Core.Option.{Option, none, some, map, some-ne-none, some-injective}
+use Prim.Native.Nat.{suc}
+use lib.ListN.{length, length-map}
 use Rattle.theory_placement.specs.Lists.{selected}
 use Rattle.theory_placement.specs.FiniteMap.{mapped_pages, put_in, fields_at, take_out, revise, NoPageTwice}
 use Rattle.theory_placement.proofs.Lists.{selected_map}
@@ -38,7 +42,7 @@ cond_same false a = refl
 
 -- a test that finds nothing has failed, and the rest finds nothing either
 cond_none : {A : Type 0} (t : Bool) (a : A) (o : Option A) → cond t (some a) o ≡ none → (t ≡ false) × (o ≡ none)
-cond_none true a o e = absurd (Option·some-ne-none a e)
+cond_none true a o e = absurd (some-ne-none a e)
 cond_none false a o e = (refl, e)
 
 module _ {P : Type 0} (same : P → P → Bool) (same_refl : (p : P) → same p p ≡ true) (same_eq : (p q : P) → same p q ≡ true → p ≡ q) where
@@ -77,20 +81,20 @@ module _ {P : Type 0} (same : P → P → Bool) (same_refl : (p : P) → same p 
 
     -- revised
     pub fields_at_revise : (p q : P) (u : F → F) (m : List (P × F))
-        → fields_at same q (revise same p u m) ≡ cond (same p q) (Option·map u (fields_at same q m)) (fields_at same q m)
+        → fields_at same q (revise same p u m) ≡ cond (same p q) (map u (fields_at same q m)) (fields_at same q m)
     fields_at_revise p q u [] = sym (cond_same (same p q) none)
     fields_at_revise p q u (x ∷ m) = go (same q x.0) refl (same p q) refl (fields_at_revise p q u m)
       where
         go : (s : Bool) → same q x.0 ≡ s → (t : Bool) → same p q ≡ t
-            → fields_at same q (revise same p u m) ≡ cond (same p q) (Option·map u (fields_at same q m)) (fields_at same q m)
+            → fields_at same q (revise same p u m) ≡ cond (same p q) (map u (fields_at same q m)) (fields_at same q m)
             → cond s (some (cond (same p x.0) (u x.1) x.1)) (fields_at same q (revise same p u m))
-            ≡ cond t (Option·map u (cond s (some x.1) (fields_at same q m))) (cond s (some x.1) (fields_at same q m))
+            ≡ cond t (map u (cond s (some x.1) (fields_at same q m))) (cond s (some x.1) (fields_at same q m))
         go true e true v i = rw (sym (ap (same p) (same_eq q x.0 e)) ∙ v)
         go true e false v i = rw (sym (ap (same p) (same_eq q x.0 e)) ∙ v)
         go false e true v i = i ∙ rw v
         go false e false v i = i ∙ rw v
 
-    pub fields_at_revise_same : (p : P) (u : F → F) (m : List (P × F)) → fields_at same p (revise same p u m) ≡ Option·map u (fields_at same p m)
+    pub fields_at_revise_same : (p : P) (u : F → F) (m : List (P × F)) → fields_at same p (revise same p u m) ≡ map u (fields_at same p m)
     fields_at_revise_same p u m = fields_at_revise p p u m ∙ rw (same_refl p)
 
     pub fields_at_revise_other : (p q : P) (u : F → F) (m : List (P × F)) → same p q ≡ false → fields_at same q (revise same p u m) ≡ fields_at same q m
@@ -130,45 +134,45 @@ module _ {P : Type 0} (same : P → P → Bool) (same_refl : (p : P) → same p 
         go false e i = ap (λ (l : List (P × F)). cond (r x.0) (x ∷ l) l) i
 
     -- mapped or not
-    pub fields_at_none : (p : P) (m : List (P × F)) → (fields_at same p m ≡ none) ↔ (List-as-Memᴰ p (mapped_pages m) → ⊥)
+    pub fields_at_none : (p : P) (m : List (P × F)) → (fields_at same p m ≡ none) ↔ (Memᴰ p (mapped_pages m) → ⊥)
     fields_at_none p m = (there m, back m)
       where
-        there : (m : List (P × F)) → fields_at same p m ≡ none → List-as-Memᴰ p (mapped_pages m) → ⊥
-        there [] h k = List·Memᴰ·not-nil k
+        there : (m : List (P × F)) → fields_at same p m ≡ none → Memᴰ p (mapped_pages m) → ⊥
+        there [] h k = Memᴰ.not-nil k
         there (x ∷ m) h k =
             let d = cond_none (same p x.0) x.1 (fields_at same p m) h in
-            go d.0 (List·Memᴰ·cases-cons k) (λ j. there m d.1 j)
+            go d.0 (Memᴰ.cases_cons k) (λ j. there m d.1 j)
           where
-            go : same p x.0 ≡ false → (p ≡ x.0) ⊎ List-as-Memᴰ p (mapped_pages m) → (List-as-Memᴰ p (mapped_pages m) → ⊥) → ⊥
+            go : same p x.0 ≡ false → (p ≡ x.0) ⊎ Memᴰ p (mapped_pages m) → (Memᴰ p (mapped_pages m) → ⊥) → ⊥
             go e (inl q) t = true≢false (sym (same_refl p) ∙ ap (same p) q ∙ e)
             go e (inr j) t = t j
 
-        back : (m : List (P × F)) → (List-as-Memᴰ p (mapped_pages m) → ⊥) → fields_at same p m ≡ none
+        back : (m : List (P × F)) → (Memᴰ p (mapped_pages m) → ⊥) → fields_at same p m ≡ none
         back [] h = refl
-        back (x ∷ m) h = go (same p x.0) refl (back m (λ k. h (List·Memᴰ·tail k)))
+        back (x ∷ m) h = go (same p x.0) refl (back m (λ k. h (Memᴰ.tail k)))
           where
             go : (t : Bool) → same p x.0 ≡ t → fields_at same p m ≡ none → cond t (some x.1) (fields_at same p m) ≡ none
-            go true e i = absurd (h (List·Memᴰ·head (same_eq p x.0 e)))
+            go true e i = absurd (h (Memᴰ.head (same_eq p x.0 e)))
             go false e i = i
 
-    pub fields_at_some : (p : P) (f : F) (m : List (P × F)) → fields_at same p m ≡ some f → List-as-Memᴰ (p, f) m
-    fields_at_some p f [] h = absurd (Option·some-ne-none f (sym h))
+    pub fields_at_some : (p : P) (f : F) (m : List (P × F)) → fields_at same p m ≡ some f → Memᴰ (p, f) m
+    fields_at_some p f [] h = absurd (some-ne-none f (sym h))
     fields_at_some p f (x ∷ m) h = go (same p x.0) refl h (λ k. fields_at_some p f m k)
       where
         go : (t : Bool) → same p x.0 ≡ t → cond t (some x.1) (fields_at same p m) ≡ some f
-            → (fields_at same p m ≡ some f → List-as-Memᴰ (p, f) m) → List-as-Memᴰ (p, f) (x ∷ m)
-        go true e k i = List·Memᴰ·head (ap₂ (λ a b. (a, b)) (same_eq p x.0 e) (sym (Option·some-injective x.1 f k)))
-        go false e k i = List·Memᴰ·tail (i k)
+            → (fields_at same p m ≡ some f → Memᴰ (p, f) m) → Memᴰ (p, f) (x ∷ m)
+        go true e k i = Memᴰ.head (ap₂ (λ a b. (a, b)) (same_eq p x.0 e) (sym (some-injective x.1 f k)))
+        go false e k i = Memᴰ.tail (i k)
 
-    pub member_fields_at : (p : P) (f : F) (m : List (P × F)) → NoPageTwice same m → List-as-Memᴰ (p, f) m → fields_at same p m ≡ some f
-    member_fields_at p f [] n k = absurd (List·Memᴰ·not-nil k)
-    member_fields_at p f (x ∷ m) n k = go (List·Memᴰ·cases-cons k) (same p x.0) refl (λ j. member_fields_at p f m n.1 j)
+    pub member_fields_at : (p : P) (f : F) (m : List (P × F)) → NoPageTwice same m → Memᴰ (p, f) m → fields_at same p m ≡ some f
+    member_fields_at p f [] n k = absurd (Memᴰ.not-nil k)
+    member_fields_at p f (x ∷ m) n k = go (Memᴰ.cases_cons k) (same p x.0) refl (λ j. member_fields_at p f m n.1 j)
       where
-        go : ((p, f) ≡ x) ⊎ List-as-Memᴰ (p, f) m → (t : Bool) → same p x.0 ≡ t → (List-as-Memᴰ (p, f) m → fields_at same p m ≡ some f)
+        go : ((p, f) ≡ x) ⊎ Memᴰ (p, f) m → (t : Bool) → same p x.0 ≡ t → (Memᴰ (p, f) m → fields_at same p m ≡ some f)
             → cond t (some x.1) (fields_at same p m) ≡ some f
         go (inl q) true e i = ap (λ y. some y.1) (sym q)
         go (inl q) false e i = absurd (true≢false (sym (same_refl p) ∙ ap (λ y. same p y.0) q ∙ e))
-        go (inr j) true e i = absurd (Option·some-ne-none f (sym (i j) ∙ ap (λ a. fields_at same a m) (same_eq p x.0 e) ∙ n.0))
+        go (inr j) true e i = absurd (some-ne-none f (sym (i j) ∙ ap (λ a. fields_at same a m) (same_eq p x.0 e) ∙ n.0))
         go (inr j) false e i = i j
 
     -- no page twice, kept by each change
@@ -213,7 +217,7 @@ module _ {P : Type 0} (same : P → P → Bool) (same_refl : (p : P) → same p 
 
     -- a mapped page taken out and put in again
     pub perm_take_out : (p : P) (f : F) (m : List (P × F)) → NoPageTwice same m → fields_at same p m ≡ some f → Perm m (put_in p f (take_out same p m))
-    perm_take_out p f [] n h = absurd (Option·some-ne-none f (sym h))
+    perm_take_out p f [] n h = absurd (some-ne-none f (sym h))
     perm_take_out p f (x ∷ m) n h = go (same p x.0) refl h (λ k. perm_take_out p f m n.1 k)
       where
         go : (t : Bool) → same p x.0 ≡ t → cond t (some x.1) (fields_at same p m) ≡ some f
@@ -221,7 +225,7 @@ module _ {P : Type 0} (same : P → P → Bool) (same_refl : (p : P) → same p 
             → Perm (x ∷ m) (put_in p f (cond (not t) (x ∷ take_out same p m) (take_out same p m)))
         go true e k i =
             let q = same_eq p x.0 e in
-            pof (ap₂ ◌∷◌ (ap₂ (λ a b. (a, b)) (sym q) (Option·some-injective x.1 f k)) (sym (take_out_unmapped p m (ap (λ a. fields_at same a m) q ∙ n.0))))
+            pof (ap₂ ◌∷◌ (ap₂ (λ a b. (a, b)) (sym q) (some-injective x.1 f k)) (sym (take_out_unmapped p m (ap (λ a. fields_at same a m) q ∙ n.0))))
         go false e k i = ptrans (pcons (i k)) pswap
 
     pub length_take_out : (p : P) (f : F) (m : List (P × F)) → NoPageTwice same m → fields_at same p m ≡ some f → length m ≡ suc (length (take_out same p m))

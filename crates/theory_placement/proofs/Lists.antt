@@ -1,6 +1,10 @@
 -- Laws of counting and selecting by a test.
-use Rattle.words.proofs.Basics.{suc, ◌+◌, ◌≤◌, ◌≡◌, refl, ap, Bool, true, false, cond, List, [], ◌∷◌, ◌++◌, map, Sublistᴰ, length, arith}
-use mathlib.Core.List.Sublistᴰ as ListSublistᴰ
+use mathlib.Core.Path.{◌≡◌, refl, ap}
+use mathlib.Core.Bool.{Bool, true, false, cond}
+use mathlib.Core.List.{List, [], ◌∷◌, ◌++◌, map, Sublistᴰ}
+use Prim.Native.Nat.{suc, ◌+◌, ◌≤◌}
+use native.Mathlib.Omega.{arith}
+use lib.ListN.{length}
 use Rattle.theory_placement.specs.Lists.{one_if, how_many, selected}
 
 module _ {A : Type 0} (q : A → Bool) where
@@ -25,17 +29,17 @@ module _ {A : Type 0} (q : A → Bool) where
       go false i = omega arith
 
   pub how_many_sublist : {k l : List A} → Sublistᴰ k l → how_many q k ≤ how_many q l
-  how_many_sublist ListSublistᴰ.slnil = omega arith
-  how_many_sublist (ListSublistᴰ.cons s) = let i = how_many_sublist s in omega arith
-  how_many_sublist (ListSublistᴰ.cons-cons e s) = let i = how_many_sublist s in let o = ap (λ x. one_if (q x)) e in omega arith
+  how_many_sublist Sublistᴰ.slnil = omega arith
+  how_many_sublist (Sublistᴰ.cons s) = let i = how_many_sublist s in omega arith
+  how_many_sublist (Sublistᴰ.cons-cons e s) = let i = how_many_sublist s in let o = ap (λ x. one_if (q x)) e in omega arith
 
   pub selected_sublist : (l : List A) → Sublistᴰ (selected q l) l
-  selected_sublist [] = ListSublistᴰ.slnil
+  selected_sublist [] = Sublistᴰ.slnil
   selected_sublist (x ∷ l) = go (q x) (selected_sublist l)
     where
       go : (t : Bool) → Sublistᴰ (selected q l) l → Sublistᴰ (cond t (x ∷ selected q l) (selected q l)) (x ∷ l)
-      go true i = ListSublistᴰ.cons-cons refl i
-      go false i = ListSublistᴰ.cons i
+      go true i = Sublistᴰ.cons-cons refl i
+      go false i = Sublistᴰ.cons i
 
   pub selected_append : (a b : List A) → selected q (a ++ b) ≡ selected q a ++ selected q b
   selected_append [] b = refl

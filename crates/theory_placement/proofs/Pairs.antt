@@ -1,5 +1,11 @@
 -- How many pages of a pair are mapped: the same for both of its groups, and after each change of the finite map.
-use Rattle.words.proofs.Basics.{ℕ, suc, ◌+◌, ◌-◌, ◌<◌, ◌≡◌, refl, sym, ap, ◌∙◌, Bool, true, false, ◌||◌, or_comm, some, List, eqb, arith}
+use mathlib.Core.Path.{◌≡◌, refl, sym, ap, ◌∙◌}
+use mathlib.Core.Bool.{Bool, true, false, ◌||◌, or_comm}
+use mathlib.Core.List.{List}
+use mathlib.Core.Option.{some}
+use Prim.Native.Nat.{ℕ, suc, ◌+◌, ◌-◌, ◌<◌}
+use native.Mathlib.Omega.{arith}
+use lib.Dec.{eqb}
 use Rattle.theory_placement.specs.Lists.{one_if}
 use Rattle.theory_placement.specs.Pairs.{of_pair, pages_of_pair}
 use Rattle.theory_placement.proofs.Decision.{of_pair_by, primary_in_range}

@@ -1,5 +1,10 @@
 -- Permutations: two lists with the same elements, each as often, by four plain constructors (the library's carry paths or are truncated).
-use Rattle.words.proofs.Basics.{suc, ◌+◌, ◌≡◌, refl, ap, ◌∙◌, subst, Bool, true, false, cond, List, [], ◌∷◌, ◌++◌, map, length, arith}
+use mathlib.Core.Path.{◌≡◌, refl, ap, ◌∙◌, subst}
+use mathlib.Core.Bool.{Bool, true, false, cond}
+use mathlib.Core.List.{List, [], ◌∷◌, ◌++◌, map}
+use Prim.Native.Nat.{suc, ◌+◌}
+use native.Mathlib.Omega.{arith}
+use lib.ListN.{length}
 use Rattle.theory_placement.specs.Lists.{one_if, how_many, selected}
 
 pub data Perm {A : Type 0} : List A → List A → Type 0 where

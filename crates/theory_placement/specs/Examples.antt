@@ -1,5 +1,6 @@
 -- Worked examples of the finite map and of arrangements, over pages that are numbers.
-use Rattle.words.specs.Basics.{ℕ, zero, suc, ◌+◌, ◌-◌, ◌*◌, ◌%◌, Bool, true, false, none, some, List, [], ◌∷◌, ◌++◌, map, eqb}
+use Rattle.std.specs.Prelude.{ℕ, zero, suc, ◌+◌, ◌-◌, ◌*◌, ◌%◌, Bool, true, false, List, [], ◌∷◌, ◌++◌, map, eqb}
+use Rattle.std.proofs.Math.Option.{none, some}
 use Rattle.words.specs.Rows.{Hold}
 use Rattle.theory_placement.specs.Placement.{Arrangement}
 use Rattle.theory_placement.specs.FiniteMap.{mapped_pages, put_in, fields_at, take_out, revise, NoPageTwice}

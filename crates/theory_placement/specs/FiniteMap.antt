@@ -1,5 +1,6 @@
 -- The plain finite map (rules 8): an association list from pages to their fields. A page is mapped while it is in it.
-use Rattle.words.specs.Basics.{◌≡◌, Bool, cond, not, Option, none, some, List, [], ◌∷◌, map}
+use Rattle.std.specs.Prelude.{◌≡◌, Bool, not, cond, List, [], ◌∷◌, map}
+use Rattle.std.proofs.Math.Option.{Option, none, some}
 use Rattle.theory_placement.specs.Lists.{selected}
 
 module _ {P F : Type 0} where

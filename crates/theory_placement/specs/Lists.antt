@@ -1,5 +1,6 @@
 -- How many elements of a list pass a test, and which.
-use Rattle.words.specs.Basics.{ℕ, ◌+◌, Bool, cond, List, [], ◌∷◌, foldr}
+use Rattle.std.specs.Prelude.{Bool, cond, ℕ, ◌+◌}
+use mathlib.Core.List.{List, [], ◌∷◌, foldr}
 
 -- what an element adds to a count: one if its test holds
 abbrev pub one_if : Bool → ℕ

@@ -1,5 +1,5 @@
 -- When an arrangement exists. A page's two groups mirror one another, so the groups come in pairs, and each page is of one pair.
-use Rattle.words.specs.Basics.{ℕ, ◌+◌, ◌<◌, ◌≤◌, ◌≡◌, Bool, true, false, ◌||◌, ◌↔◌, List, ◌∷◌, eqb, ltb}
+use Rattle.std.specs.Prelude.{◌≡◌, Bool, true, false, ◌||◌, List, ◌∷◌, ◌↔◌, ℕ, ◌+◌, ◌≤◌, ◌<◌, eqb, ltb}
 use Rattle.std.proofs.Math.Bool.{decide}
 use Rattle.theory_placement.specs.Lists.{how_many}
 use Rattle.theory_placement.specs.Placement.{Arrangement}

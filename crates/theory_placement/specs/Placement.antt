@@ -1,5 +1,5 @@
 -- Arrangements of pages in groups (rules 8), over any page type, any hash and any number of entries in a group.
-use Rattle.words.specs.Basics.{ℕ, ◌+◌, ◌≤◌, Bool, List, [], ◌∷◌, eqb}
+use Rattle.std.specs.Prelude.{Bool, List, [], ◌∷◌, ℕ, ◌+◌, ◌≤◌, eqb}
 use Rattle.theory_placement.specs.Lists.{one_if}
 
 -- a choice for each page of a list: false its primary group, true its secondary group

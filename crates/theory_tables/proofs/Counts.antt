@@ -1,6 +1,10 @@
 -- How many numbers below a bound pass a test, and the first that does: all, none, and after a change of the test at one number.
-use Rattle.words.proofs.Basics.{ℕ, zero, suc, ◌+◌, ◌<◌, ◌≤◌, ◌≡◌, refl, sym, ap, ◌∙◌, Bool, true, false, not, ⊎_elim, ◌≢◌, eq-or-lt_of_le, le_of_suc-le-suc}
-use Rattle.words.proofs.Basics.{not-suc-le-zero, arith}
+use mathlib.Core.Path.{◌≡◌, refl, sym, ap, ◌∙◌}
+use mathlib.Core.Bool.{Bool, true, false, not}
+use mathlib.Core.Logic.{⊎_elim, ◌≢◌}
+use Prim.Native.Nat.{ℕ, zero, suc, ◌+◌, ◌≤◌, ◌<◌}
+use native.Mathlib.Nat.{not-suc-le-zero, le_of_suc-le-suc, eq-or-lt_of_le}
+use native.Mathlib.Omega.{arith}
 use Rattle.words.specs.Below.{first_below}
 use Rattle.words.proofs.Below.{first_found, first_none}
 use Rattle.theory_placement.specs.Lists.{one_if}

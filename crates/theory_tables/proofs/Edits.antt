@@ -1,15 +1,22 @@
 -- Every match of a page overwritten, in any table: what each entry then has, what becomes of the page's own matches, group by group, of every
 -- other page's matches, and of the used entries.
-use Rattle.words.proofs.Basics.{ℕ, zero, suc, ◌+◌, ◌<◌, ◌≤◌, ◌≡◌, refl, sym, ap, ap₂, ◌∙◌, subst, Bool, true, false, cond, not, ⊎_elim, ◌≢◌, List, [], ◌∷◌}
-use Rattle.words.proofs.Basics.{◌++◌, map, map-append, eqb, length, eq-or-lt_of_le, le_of_suc-le-suc, not-suc-le-zero, arith, eqb-false, eqb_true}
+use mathlib.Core.Path.{◌≡◌, refl, sym, ap, ap₂, ◌∙◌, subst}
+use mathlib.Core.Logic.{◌≢◌, ⊎_elim}
+use mathlib.Core.Bool.{Bool, true, false, not, cond}
+use mathlib.Core.List.{List, [], ◌∷◌, ◌++◌, map, map-append}
+use Prim.Native.Nat.{ℕ, zero, suc, ◌+◌, ◌≤◌, ◌<◌}
+use native.Mathlib.Nat.{not-suc-le-zero, le_of_suc-le-suc, eq-or-lt_of_le}
+use native.Mathlib.Omega.{arith}
+use lib.Dec.{eqb}
+use lib.ListN.{length}
+use borrow.Author.Tests.{eqb-true, eqb-false}
 use Rattle.theory_placement.specs.Lists.{one_if}
 use Rattle.theory_tables.specs.Matches.{Match, match_at, matches_below}
 use Rattle.theory_tables.specs.Layout.{Layout, groups, Reads, matches_in, matches_of, free_at, used, overwrite, overwrite_each, LayoutLaws}
 use Rattle.theory_tables.proofs.Counts.{how_many_below_sum}
 use Rattle.theory_tables.proofs.Matches.{matches_map, matches_same, same_words, both_fail, length_matches}
 use Rattle.theory_tables.proofs.Places.{used_same}
-use Rattle.theory_tables.proofs.Groups.{MatchOf, entry_of, matches_in_none, matches_in_same, matches_of_none, group_in_range, groups_differ, free_fails}
-use Rattle.theory_tables.proofs.Groups.{other_fails}
+use Rattle.theory_tables.proofs.Groups.{MatchOf, entry_of, matches_in_none, matches_in_same, matches_of_none, group_in_range, groups_differ, free_fails, other_fails}
 use Rattle.theory_tables.proofs.Puts.{put_other}
 use Rattle.theory_tables.proofs.Overwrites.{OwnWord, with_words, own_fails}
 
@@ -257,8 +264,8 @@ module _ {P T : Type 0} {L : Layout P T} {same : P → P → Bool} {Valid : P �
 
         go : (i : ℕ) → i < L.capacity → (r : Bool) → eqb g (L.group false p) ≡ r → (s : Bool) → eqb g (L.group true p) ≡ s
             → free_at L t' g i ≡ free_at L t g i
-        go i l true e s u = of false i l (eqb_true g (L.group false p) e)
-        go i l false e true u = of true i l (eqb_true g (L.group true p) u)
+        go i l true e s u = of false i l (eqb-true g (L.group false p) e)
+        go i l false e true u = of true i l (eqb-true g (L.group true p) u)
         go i l false e false u = ap L.free (edited.elsewhere g i lg l (eqb-false g (L.group false p) e) (eqb-false g (L.group true p) u)).0
 
   -- a group of another pair is not written to
@@ -294,7 +301,7 @@ module _ {P T : Type 0} {L : Layout P T} {same : P → P → Bool} {Valid : P �
       in_own b i l e = subst (λ k. Kept k i) (sym e) (of b i l (sym e) (L.matching b p (L.first t (L.group b p) i)) refl)
 
       go : (i : ℕ) → i < L.capacity → (r : Bool) → eqb g (L.group false p) ≡ r → (s : Bool) → eqb g (L.group true p) ≡ s → Kept g i
-      go i l true e s u = in_own false i l (eqb_true g (L.group false p) e)
-      go i l false e true u = in_own true i l (eqb_true g (L.group true p) u)
+      go i l true e s u = in_own false i l (eqb-true g (L.group false p) e)
+      go i l false e true u = in_own true i l (eqb-true g (L.group true p) u)
       go i l false e false u =
           kept g i (edited.elsewhere g i (group_in_range laws c q) l (eqb-false g (L.group false p) e) (eqb-false g (L.group true p) u))

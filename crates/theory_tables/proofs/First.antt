@@ -1,6 +1,11 @@
 -- The first match and the first free entry stand before every other one in search order.
-use Rattle.words.proofs.Basics.{ℕ, zero, suc, ◌+◌, ◌*◌, ◌<◌, ◌≤◌, ◌≡◌, refl, sym, ap, ◌∙◌, subst, Bool, true, false, cond, true≢false, ⊎_elim, List, [], ◌∷◌}
-use Rattle.words.proofs.Basics.{◌++◌, List-as-Memᴰ, List·Memᴰ·head, cons-ne-nil, eq-or-lt_of_le, le_of_suc-le-suc, not-suc-le-zero, arith}
+use mathlib.Core.Path.{◌≡◌, refl, sym, ap, ◌∙◌, subst}
+use mathlib.Core.Bool.{Bool, true, false, cond, true≢false}
+use mathlib.Core.Logic.{⊎_elim}
+use mathlib.Core.List.{List, [], ◌∷◌, ◌++◌, cons-ne-nil, Memᴰ}
+use Prim.Native.Nat.{ℕ, zero, suc, ◌+◌, ◌*◌, ◌≤◌, ◌<◌}
+use native.Mathlib.Nat.{not-suc-le-zero, le_of_suc-le-suc, eq-or-lt_of_le}
+use native.Mathlib.Omega.{arith}
 use Rattle.words.proofs.Tests.{three}
 use Rattle.theory_placement.specs.Lists.{one_if}
 use Rattle.theory_tables.specs.Matches.{Match, match_at, matches_below}
@@ -33,7 +38,7 @@ module _ (matching : ℕ → Bool) (first second : ℕ → ℕ) (secondary : Boo
           let whole : (y ∷ ys) ++ match_at matching first second secondary n ≡ x ∷ xs = ap (λ (l : List Match). l ++ match_at matching first second secondary n) (sym q) ∙ e in
           let is : y ≡ x = cc in
           let here : below n ≡ x ∷ ys = q ∙ ap (λ (z : Match). z ∷ ys) is in
-          let member : List-as-Memᴰ x (below n) = subst (List-as-Memᴰ x) (sym here) (List·Memᴰ·head refl) in
+          let member : Memᴰ x (below n) = subst (Memᴰ x) (sym here) (mathlib.Core.List.Memᴰ.head refl) in
           ⊎_elim (λ same. omega (arith, (members_match matching first second secondary n x member).in_range_law)) (λ less. again ys here j less m)
           (eq-or-lt_of_le (le_of_suc-le-suc l))
 
@@ -53,7 +58,7 @@ module _ {P T : Type 0} (L : Layout P T) (t : T) (p : P) where
 
       inside : (b : Bool) (ys : List Match) → matches_in L t b p ≡ x ∷ ys → (x.secondary ≡ b) × (x.entry < L.capacity)
       inside b ys q =
-          let (side, own) = members_in L t p b x (subst (List-as-Memᴰ x) (sym q) (List·Memᴰ·head refl)) in (side, own.in_range_law)
+          let (side, own) = members_in L t p b x (subst (Memᴰ x) (sym q) (mathlib.Core.List.Memᴰ.head refl)) in (side, own.in_range_law)
 
       go : (ms : List Match) → matches_in L t false p ≡ ms → (c : Bool) → j < L.capacity → L.matching c p (L.first t (L.group c p) j) ≡ true
           → search_place x.secondary x.entry ≤ search_place c j

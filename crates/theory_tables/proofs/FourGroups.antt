@@ -1,5 +1,11 @@
 -- The small kind of table has the laws of a layout, so these can be had together, its empty table represents the empty map, and its rows compute.
-use Rattle.words.proofs.Basics.{ℕ, suc, ◌+◌, ◌%◌, ◌≡◌, refl, ap, Bool, true, false, cond, ◌&&◌, [], eqb, arith, eq-eqb, eqb_true, ne_eqb}
+use mathlib.Core.Path.{◌≡◌, refl, ap}
+use mathlib.Core.Bool.{Bool, true, false, cond, ◌&&◌}
+use mathlib.Core.List.{[]}
+use Prim.Native.Nat.{ℕ, suc, ◌+◌, ◌%◌}
+use native.Mathlib.Omega.{arith}
+use lib.Dec.{eqb}
+use borrow.Author.Tests.{eqb-true, eq-eqb, ne_eqb}
 use Rattle.theory_tables.specs.Layout.{Reads, LayoutLaws}
 use Rattle.theory_tables.specs.Represents.{Represents}
 use Rattle.theory_tables.specs.FourGroups.{page_word, page_group, four, FourGroupsTables}
@@ -10,8 +16,8 @@ mirrored : (p : ℕ) → page_group true p + suc (page_group false p) ≡ 2 + 2
 mirrored p = omega arith
 
 not_free : (b : Bool) (p u : ℕ) → eqb u (page_word b p) ≡ true → eqb (u % 2) 0 ≡ false
-not_free false p u e = let q = eqb_true u (page_word false p) e in ne_eqb (u % 2) 0 (λ z. omega arith)
-not_free true p u e = let q = eqb_true u (page_word true p) e in ne_eqb (u % 2) 0 (λ z. omega arith)
+not_free false p u e = let q = eqb-true u (page_word false p) e in ne_eqb (u % 2) 0 (λ z. omega arith)
+not_free true p u e = let q = eqb-true u (page_word true p) e in ne_eqb (u % 2) 0 (λ z. omega arith)
 
 one_page : (b c : Bool) (p q u : ℕ) → page_group b p ≡ page_group c q → u ≡ page_word b p → u ≡ page_word c q → p ≡ q
 one_page false false p q u g x y = omega arith
@@ -25,10 +31,10 @@ another t g h i j u v e = (ap (λ (s : Bool). (cond s (u, v) (t h j)).0) e, ap (
 pub four_laws : LayoutLaws four eqb (λ p. Unit {0}) (λ u. Unit {0}) (λ t. Unit {0})
 four_laws = record {
   same_refl = λ p. eq-eqb p p refl;
-  same_eq = λ p q e. eqb_true p q e;
+  same_eq = λ p q e. eqb-true p q e;
   mirror = mirrored;
   match_used = λ b p u v. not_free b p u;
-  tells = λ b c p q u x y g e f. one_page b c p q u g (eqb_true u (page_word b p) e) (eqb_true u (page_word c q) f);
+  tells = λ b c p q u x y g e f. one_page b c p q u g (eqb-true u (page_word b p) e) (eqb-true u (page_word c q) f);
   read_fits = λ t g i x y z. (tt, tt);
   put_good = λ t g i u v x y z. tt;
   put_same = λ t g i u v x y z a b. rw (eq-eqb g g refl, eq-eqb i i refl) (refl, refl);

@@ -10,8 +10,13 @@
 --   groups_differ: they are two
 --   free_fails: a free entry matches no page
 --   other_fails: a word that matches one page matches no other page of its group
-use Rattle.words.proofs.Basics.{ℕ, suc, ◌-◌, ◌<◌, ◌≡◌, refl, sym, ap, ap₂, ◌∙◌, subst, Bool, true, false, not, true≢false, ⊎_elim, ◌≢◌, [], ◌++◌, List-as-Memᴰ}
-use Rattle.words.proofs.Basics.{List·Memᴰ·append-cases, Memᴰ·append-left, Memᴰ·append-right, append-eq-nil_iff, arith}
+use mathlib.Core.Path.{◌≡◌, refl, sym, ap, ap₂, ◌∙◌, subst}
+use mathlib.Core.Logic.{◌≢◌, ⊎_elim}
+use mathlib.Core.Bool.{Bool, true, false, not, true≢false}
+use mathlib.Core.List.Memᴰ
+use mathlib.Core.List.{[], ◌++◌, Memᴰ, append-eq-nil_iff}
+use Prim.Native.Nat.{ℕ, suc, ◌-◌, ◌<◌}
+use native.Mathlib.Omega.{arith}
 use Rattle.theory_tables.specs.Matches.{Match}
 use Rattle.theory_tables.specs.Layout.{Layout, groups, Reads, matches_in, matches_of, LayoutLaws}
 use Rattle.theory_tables.proofs.Matches.{entry_at, members_match, matching_member, matches_none, none_matches, matches_same, same_words}
@@ -29,16 +34,16 @@ module _ {P T : Type 0} (L : Layout P T) (t : T) (p : P) where
   entry_of b i = entry_at (L.first t (L.group b p)) (L.second t (L.group b p)) b i
 
   -- an entry of a page's groups that matches is among its matches, and these are such entries
-  pub member_in : (b : Bool) (i : ℕ) → i < L.capacity → L.matching b p (L.first t (L.group b p) i) ≡ true → List-as-Memᴰ (entry_of b i) (matches_in L t b p)
+  pub member_in : (b : Bool) (i : ℕ) → i < L.capacity → L.matching b p (L.first t (L.group b p) i) ≡ true → Memᴰ (entry_of b i) (matches_in L t b p)
   unfolding matches_in
   member_in b i l e = matching_member (L.matching b p) (L.first t (L.group b p)) (L.second t (L.group b p)) b L.capacity i l e
 
-  pub member_of : (b : Bool) (i : ℕ) → i < L.capacity → L.matching b p (L.first t (L.group b p) i) ≡ true → List-as-Memᴰ (entry_of b i) (matches_of L t p)
+  pub member_of : (b : Bool) (i : ℕ) → i < L.capacity → L.matching b p (L.first t (L.group b p) i) ≡ true → Memᴰ (entry_of b i) (matches_of L t p)
   unfolding matches_of
-  member_of false i l e = Memᴰ·append-left (matches_in L t true p) (member_in false i l e)
-  member_of true i l e = Memᴰ·append-right (matches_in L t false p) (member_in true i l e)
+  member_of false i l e = Memᴰ.append_left (matches_in L t true p) (member_in false i l e)
+  member_of true i l e = Memᴰ.append_right (matches_in L t false p) (member_in true i l e)
 
-  pub members_in : (b : Bool) (x : Match) → List-as-Memᴰ x (matches_in L t b p) → (x.secondary ≡ b) × MatchOf L t p x
+  pub members_in : (b : Bool) (x : Match) → Memᴰ x (matches_in L t b p) → (x.secondary ≡ b) × MatchOf L t p x
   unfolding matches_in
   members_in b x k =
       let h = members_match (L.matching b p) (L.first t (L.group b p)) (L.second t (L.group b p)) b L.capacity x k in
@@ -52,15 +57,15 @@ module _ {P T : Type 0} (L : Layout P T) (t : T) (p : P) where
         },
       )
 
-  pub members_of : (x : Match) → List-as-Memᴰ x (matches_of L t p) → MatchOf L t p x
+  pub members_of : (x : Match) → Memᴰ x (matches_of L t p) → MatchOf L t p x
   unfolding matches_of
-  members_of x k = ⊎_elim (λ j. (members_in false x j).1) (λ j. (members_in true x j).1) (List·Memᴰ·append-cases (matches_in L t false p) k)
+  members_of x k = ⊎_elim (λ j. (members_in false x j).1) (λ j. (members_in true x j).1) (Memᴰ.append_cases (matches_in L t false p) k)
 
-  pub match_member : (x : Match) → MatchOf L t p x → List-as-Memᴰ x (matches_of L t p)
+  pub match_member : (x : Match) → MatchOf L t p x → Memᴰ x (matches_of L t p)
   match_member x h =
       let q : entry_of x.secondary x.entry ≡ x =
       ap₂ (λ u v. record { secondary = x.secondary; entry = x.entry; first = u; second = v }) (sym h.first_word_law) (sym h.second_word) in
-      subst (λ (y : Match). List-as-Memᴰ y (matches_of L t p)) q
+      subst (λ (y : Match). Memᴰ y (matches_of L t p)) q
       (member_of x.secondary x.entry h.in_range_law (ap (L.matching x.secondary p) (sym h.first_word_law) ∙ h.passes))
 
   -- no match in a group exactly when no entry of it matches

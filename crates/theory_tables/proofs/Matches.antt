@@ -1,8 +1,13 @@
 -- The matches of one group, over any words: the split at an entry, which entries are among them, and what is left of them after a change of words.
-use Rattle.words.proofs.Basics.{ℕ, zero, suc, ◌+◌, ◌-◌, ◌<◌, ◌≡◌, refl, sym, ap, ap₂, ◌∙◌, subst, Bool, true, false, cond, ⊎_elim, ◌≢◌, List, [], ◌∷◌, ◌++◌}
-use Rattle.words.proofs.Basics.{map, List-as-Memᴰ, List·Memᴰ·append-cases, List·Memᴰ·eq-of-singleton, List·Memᴰ·head, List·Memᴰ·not-nil, Memᴰ·append-left}
-use Rattle.words.proofs.Basics.{Memᴰ·append-right, append_assoc, append-nil, cons-ne-nil, map-append, length, length-append, add-zero, eq-or-lt_of_le}
-use Rattle.words.proofs.Basics.{le_of_suc-le-suc, not-suc-le-zero, arith}
+use mathlib.Core.Path.{◌≡◌, refl, sym, ap, ap₂, ◌∙◌, subst}
+use mathlib.Core.Logic.{⊎_elim, ◌≢◌}
+use mathlib.Core.Bool.{Bool, true, false, cond}
+use mathlib.Core.List.Memᴰ
+use mathlib.Core.List.{List, [], ◌∷◌, ◌++◌, map, append-nil, append_assoc, map-append, cons-ne-nil, Memᴰ}
+use Prim.Native.Nat.{ℕ, zero, suc, ◌+◌, ◌-◌, ◌<◌}
+use native.Mathlib.Nat.{not-suc-le-zero, le_of_suc-le-suc, eq-or-lt_of_le, add-zero}
+use native.Mathlib.Omega.{arith}
+use lib.ListN.{length, length-append}
 use Rattle.theory_placement.specs.Lists.{one_if}
 use Rattle.theory_tables.specs.Matches.{Match, match_at, matches_below, how_many_below}
 
@@ -45,20 +50,20 @@ pub record MatchBelow (matching : ℕ → Bool) (first second : ℕ → ℕ) (se
 
 module _ (matching : ℕ → Bool) (first second : ℕ → ℕ) (secondary : Bool) where
   -- the matches are entries that match, and every such entry is among them
-  pub members_match : (n : ℕ) (x : Match) → List-as-Memᴰ x (matches_below matching first second secondary n) → MatchBelow matching first second secondary n x
+  pub members_match : (n : ℕ) (x : Match) → Memᴰ x (matches_below matching first second secondary n) → MatchBelow matching first second secondary n x
   unfolding matches_below
-  members_match zero x k = absurd (List·Memᴰ·not-nil k)
+  members_match zero x k = absurd (Memᴰ.not-nil k)
   members_match (suc n) x k =
       ⊎_elim
       (λ j.
       let h = members_match n x j in
       record { in_range_law = omega arith; side = h.side; passes = h.passes; first_word_law = h.first_word_law; second_word = h.second_word })
       (λ j. last (matching (first n)) refl j)
-      (List·Memᴰ·append-cases (matches_below matching first second secondary n) k)
+      (Memᴰ.append_cases (matches_below matching first second secondary n) k)
     where
-      last : (t : Bool) → matching (first n) ≡ t → List-as-Memᴰ x (cond t (entry_at first second secondary n ∷ []) []) → MatchBelow matching first second secondary (suc n) x
+      last : (t : Bool) → matching (first n) ≡ t → Memᴰ x (cond t (entry_at first second secondary n ∷ []) []) → MatchBelow matching first second secondary (suc n) x
       last true e j =
-          let q = List·Memᴰ·eq-of-singleton j in
+          let q = Memᴰ.eq_of_singleton j in
           let i : x.entry ≡ n = ap (λ (y : Match). y.entry) q in
           record {
             in_range_law = omega arith;
@@ -67,16 +72,16 @@ module _ (matching : ℕ → Bool) (first second : ℕ → ℕ) (secondary : Boo
             first_word_law = ap (λ (y : Match). y.first) q ∙ ap first (sym i);
             second_word = ap (λ (y : Match). y.second) q ∙ ap second (sym i);
           }
-      last false e j = absurd (List·Memᴰ·not-nil j)
+      last false e j = absurd (Memᴰ.not-nil j)
 
   pub matching_member : (n i : ℕ) → i < n → matching (first i) ≡ true
-      → List-as-Memᴰ (entry_at first second secondary i) (matches_below matching first second secondary n)
+      → Memᴰ (entry_at first second secondary i) (matches_below matching first second secondary n)
   unfolding matches_below
   matching_member zero i l e = absurd (not-suc-le-zero l)
   matching_member (suc n) i l e =
       ⊎_elim
-      (λ q. rw (← q) (rw e (Memᴰ·append-right (matches_below matching first second secondary i) (List·Memᴰ·head refl))))
-      (λ k. Memᴰ·append-left (match_at matching first second secondary n) (matching_member n i k e))
+      (λ q. rw (← q) (rw e (Memᴰ.append_right (matches_below matching first second secondary i) (Memᴰ.head refl))))
+      (λ k. Memᴰ.append_left (match_at matching first second secondary n) (matching_member n i k e))
       (eq-or-lt_of_le (le_of_suc-le-suc l))
 
   -- there is none exactly when no entry matches
@@ -89,7 +94,7 @@ module _ (matching : ℕ → Bool) (first second : ℕ → ℕ) (secondary : Boo
   none_matches n h i l = go (matching (first i)) refl
     where
       go : (t : Bool) → matching (first i) ≡ t → t ≡ false
-      go true e = absurd (List·Memᴰ·not-nil (subst (List-as-Memᴰ (entry_at first second secondary i)) h (matching_member n i l e)))
+      go true e = absurd (Memᴰ.not-nil (subst (Memᴰ (entry_at first second secondary i)) h (matching_member n i l e)))
       go false e = refl
 
   -- there are as many as entries match
@@ -181,5 +186,5 @@ module _ (matching : ℕ → Bool) (first second first' second' : ℕ → ℕ) (
           let w : y ≡ x = cc in
           let r : ys ++ match_at matching first second secondary n ≡ xs = cc in
           let z' : matches_below matching first second secondary n ≡ x ∷ ys = cc in
-          let b = members_match matching first second secondary n x (subst (List-as-Memᴰ x) (sym z') (List·Memᴰ·head refl)) in
+          let b = members_match matching first second secondary n x (subst (Memᴰ x) (sym z') (Memᴰ.head refl)) in
           ap₂ ◌++◌ (i ys z') (h n (omega arith) (omega arith)) ∙ ap (λ l. entry_at first' second' secondary x.entry ∷ l) r

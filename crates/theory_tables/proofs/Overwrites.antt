@@ -1,7 +1,10 @@
 -- One entry of a page written in any table, by map or over its first match: what becomes of its own matches, and that every other page keeps its
 -- matches and their places, since a group and a first word name at most one page.
-use Rattle.words.proofs.Basics.{ℕ, ◌<◌, ◌≡◌, refl, sym, ap, ap₂, ◌∙◌, subst, Bool, true, false, not, ◌⊎◌, inl, inr, List, [], ◌∷◌, ◌++◌, List-as-Memᴰ}
-use Rattle.words.proofs.Basics.{List·Memᴰ·head, append-eq-nil_iff}
+use mathlib.Core.Path.{◌≡◌, refl, sym, ap, ap₂, ◌∙◌, subst}
+use mathlib.Core.Logic.{◌⊎◌, inl, inr}
+use mathlib.Core.Bool.{Bool, true, false, not}
+use mathlib.Core.List.{List, [], ◌∷◌, ◌++◌, append-eq-nil_iff, Memᴰ}
+use Prim.Native.Nat.{ℕ, ◌<◌}
 use Rattle.theory_tables.specs.Matches.{Match}
 use Rattle.theory_tables.specs.Layout.{Layout, matches_in, matches_of, overwrite, LayoutLaws}
 use Rattle.theory_tables.proofs.Matches.{same_words, first_match_changed}
@@ -33,7 +36,7 @@ module _ {P T : Type 0} {L : Layout P T} {same : P → P → Bool} {Valid : P �
         let g = L.group b p in
         let t' = L.put t g x.entry u v in
         let lg = group_in_range laws b p in
-        let k = (members_in L t p b x (subst (List-as-Memᴰ x) (sym h) (List·Memᴰ·head refl))).1 in
+        let k = (members_in L t p b x (subst (Memᴰ x) (sym h) (Memᴰ.head refl))).1 in
         let e = laws.put_same t g x.entry u v good lg k.in_range_law fu fv in
         first_match_changed (L.matching b p) (L.first t g) (L.second t g) (L.first t' g) (L.second t' g) b L.capacity x xs h
         (λ j l d. same_words (L.matching b p) (L.first t g) (L.second t g) (L.first t' g) (L.second t' g) b j
@@ -56,14 +59,14 @@ module _ {P T : Type 0} {L : Layout P T} {same : P → P → Bool} {Valid : P �
         go : (l : List Match) → matches_in L t false p ≡ l → l ++ matches_in L t true p ≡ x ∷ xs
             → matches_of L (L.put t (L.group x.secondary p) x.entry u v) p ≡ with_words x (u, v) ∷ xs
         go [] z q =
-            let (s, k) = members_in L t p true x (subst (List-as-Memᴰ x) (sym q) (List·Memᴰ·head refl)) in
+            let (s, k) = members_in L t p true x (subst (Memᴰ x) (sym q) (Memᴰ.head refl)) in
             let m' : L.matching true p u ≡ true = ap (λ b. L.matching b p u) (sym s) ∙ m in
             rw s (ap₂ ◌++◌ (other true k.in_range_law ∙ z) (first_in_law true x xs u v q fu fv m'))
         go (y ∷ ys) z q =
             let w : x ≡ y = cc in
             let z' : matches_in L t false p ≡ x ∷ ys = cc in
             let r : ys ++ matches_in L t true p ≡ xs = cc in
-            let (s, k) = members_in L t p false x (subst (List-as-Memᴰ x) (sym z') (List·Memᴰ·head refl)) in
+            let (s, k) = members_in L t p false x (subst (Memᴰ x) (sym z') (Memᴰ.head refl)) in
             let m' : L.matching false p u ≡ true = ap (λ b. L.matching b p u) (sym s) ∙ m in
             rw s (ap₂ ◌++◌ (first_in_law false x ys u v z' fu fv m') (other false k.in_range_law)
             ∙ ap (λ l. record { secondary = false; entry = x.entry; first = u; second = v } ∷ l) r)

@@ -1,6 +1,11 @@
 -- Used entries of a pair of groups, in any table: after an entry is filled for a page of the pair, and after a page's matches are made free.
-use Rattle.words.proofs.Basics.{ℕ, suc, ◌+◌, ◌-◌, ◌<◌, ◌≡◌, refl, sym, subst, Bool, true, false, cond, ◌||◌, eqb, length, length-append, arith, eqb-false}
-use Rattle.words.proofs.Basics.{eqb_true}
+use mathlib.Core.Path.{◌≡◌, refl, sym, subst}
+use mathlib.Core.Bool.{Bool, true, false, cond, ◌||◌}
+use Prim.Native.Nat.{ℕ, suc, ◌+◌, ◌-◌, ◌<◌}
+use native.Mathlib.Omega.{arith}
+use lib.Dec.{eqb}
+use lib.ListN.{length, length-append}
+use borrow.Author.Tests.{eqb-true, eqb-false}
 use Rattle.theory_placement.specs.Lists.{one_if}
 use Rattle.theory_placement.specs.Pairs.{of_pair}
 use Rattle.theory_placement.proofs.Decision.{of_pair_by}
@@ -35,14 +40,14 @@ module _ {P T : Type 0} {L : Layout P T} {same : P → P → Bool} {Valid : P �
 
       go : (r : Bool) → eqb (L.group b p) g ≡ r → (s : Bool) → eqb (L.group b p) (groups L - suc g) ≡ s
           → used_of_pair L t' g ≡ one_if (r || s) + used_of_pair L t g
-      go true x true y = let a = eqb_true (L.group b p) g x in let c = eqb_true (L.group b p) (groups L - suc g) y in absurd (omega arith)
+      go true x true y = let a = eqb-true (L.group b p) g x in let c = eqb-true (L.group b p) (groups L - suc g) y in absurd (omega arith)
       go true x false y =
-          let a = here g (eqb_true (L.group b p) g x) in
+          let a = here g (eqb-true (L.group b p) g x) in
           let c = other (groups L - suc g) (omega arith) (eqb-false (L.group b p) (groups L - suc g) y) in
           omega arith
       go false x true y =
           let a = other g lg (eqb-false (L.group b p) g x) in
-          let c = here (groups L - suc g) (eqb_true (L.group b p) (groups L - suc g) y) in
+          let c = here (groups L - suc g) (eqb-true (L.group b p) (groups L - suc g) y) in
           omega arith
       go false x false y =
           let a = other g lg (eqb-false (L.group b p) g x) in
@@ -66,8 +71,8 @@ module _ {P T : Type 0} {L : Layout P T} {same : P → P → Bool} {Valid : P �
 
       go : (r : Bool) → eqb (L.group false p) g ≡ r → (s : Bool) → eqb (L.group true p) g ≡ s
           → used_of_pair L t g ≡ cond (r || s) (length (matches_of L t p)) 0 + used_of_pair L t' g
-      go true x s y = own false g (eqb_true (L.group false p) g x)
-      go false x true y = own true g (eqb_true (L.group true p) g y)
+      go true x s y = own false g (eqb-true (L.group false p) g x)
+      go false x true y = own true g (eqb-true (L.group true p) g y)
       go false x false y =
           let d = eqb-false (L.group false p) g x in
           let e = eqb-false (L.group true p) g y in

@@ -1,9 +1,14 @@
 -- Free entries of any table: the first of a group, the first in search order, and when there is none.
-use Rattle.words.proofs.Basics.{ℕ, ◌+◌, ◌<◌, ◌≤◌, ◌≡◌, refl, ap, subst, Bool, true, false, cond, not, false≢true, ◌↔◌, Option, none, some, ltb, arith, le-ltb}
-use Rattle.words.proofs.Basics.{lt-ltb, ltb-false, ltb-true}
+use mathlib.Core.Path.{◌≡◌, refl, ap, subst}
+use mathlib.Core.Logic.{◌↔◌}
+use mathlib.Core.Bool.{Bool, true, false, not, cond, false≢true}
+use mathlib.Core.Option.{Option, none, some}
+use Prim.Native.Nat.{ℕ, ◌+◌, ◌≤◌, ◌<◌}
+use native.Mathlib.Omega.{arith}
+use lib.Dec.{ltb}
+use borrow.Author.Tests.{ltb-true, ltb-false, lt-ltb, le-ltb}
 use Rattle.theory_tables.specs.Layout.{Layout, free_at, used, free_entry, free_place}
-use Rattle.theory_tables.proofs.Counts.{how_many_below_bound, how_many_below_none, how_many_below_less, how_many_below_same, first_below_same, first_below_bound}
-use Rattle.theory_tables.proofs.Counts.{first_below_passes, first_below_before, first_below_full, full_first_below}
+use Rattle.theory_tables.proofs.Counts.{how_many_below_bound, how_many_below_none, how_many_below_less, how_many_below_same, first_below_same, first_below_bound, first_below_passes, first_below_before, first_below_full, full_first_below}
 
 module _ {P T : Type 0} (L : Layout P T) (t : T) (g : ℕ) where
   pub used_bound : used L t g ≤ L.capacity

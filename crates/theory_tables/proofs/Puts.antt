@@ -1,6 +1,12 @@
 -- One entry put into any table: every other entry reads as before, so matches, used entries and free entries change there alone.
-use Rattle.words.proofs.Basics.{ℕ, suc, ◌+◌, ◌-◌, ◌<◌, ◌≤◌, ◌≡◌, refl, sym, ap, ap₂, ◌∙◌, Bool, true, false, cond, not, ◌≢◌, List, [], ◌∷◌, ◌++◌, eqb, arith}
-use Rattle.words.proofs.Basics.{eqb-false, eqb_true}
+use mathlib.Core.Path.{◌≡◌, refl, sym, ap, ap₂, ◌∙◌}
+use mathlib.Core.Logic.{◌≢◌}
+use mathlib.Core.Bool.{Bool, true, false, not, cond}
+use mathlib.Core.List.{List, [], ◌∷◌, ◌++◌}
+use Prim.Native.Nat.{ℕ, suc, ◌+◌, ◌-◌, ◌≤◌, ◌<◌}
+use native.Mathlib.Omega.{arith}
+use lib.Dec.{eqb}
+use borrow.Author.Tests.{eqb-true, eqb-false}
 use Rattle.words.proofs.Below.{first_found}
 use Rattle.theory_placement.specs.Lists.{one_if}
 use Rattle.theory_tables.specs.Matches.{Match, match_at, matches_below}
@@ -30,7 +36,7 @@ module _ {P T : Type 0} {L : Layout P T} {same : P → P → Bool} {Valid : P �
     put_other h j lh lj d = go (eqb h g) refl
       where
         go : (s : Bool) → eqb h g ≡ s → Reads L (L.put t g i u v) h j (L.first t h j) (L.second t h j)
-        go true e = let q = eqb_true h g e in rw q (laws.put_other_entry t g i j u v good in_groups in_group lj (d q))
+        go true e = let q = eqb-true h g e in rw q (laws.put_other_entry t g i j u v good in_groups in_group lj (d q))
         go false e = laws.put_other_group t g h i j u v good in_groups lh in_group lj (eqb-false h g e)
 
     module _ (fits-u : Fits u) (fits-v : Fits v) where
@@ -57,8 +63,8 @@ module _ {P T : Type 0} {L : Layout P T} {same : P → P → Bool} {Valid : P �
 
           go : (j : ℕ) → j < L.capacity → (s : Bool) → eqb (L.group c q) g ≡ s → (r : Bool) → eqb j i ≡ r → Kept j
           go j l true e true k =
-              let a = eqb_true (L.group c q) g e in
-              let b = eqb_true j i k in
+              let a = eqb-true (L.group c q) g e in
+              let b = eqb-true j i k in
               both_fail (L.matching c q) (L.first t (L.group c q)) (L.second t (L.group c q)) (L.first t' (L.group c q)) (L.second t' (L.group c q)) c j
               (ap₂ (λ x y. L.matching c q (L.first t' x y)) a b ∙ ap (L.matching c q) (laws.put_same t g i u v good in_groups in_group fits-u fits-v).0 ∙ (h a).1)
               (ap₂ (λ x y. L.matching c q (L.first t x y)) a b ∙ (h a).0)
@@ -86,7 +92,7 @@ module _ {P T : Type 0} {L : Layout P T} {same : P → P → Bool} {Valid : P �
       free_at_put j l = go (eqb j i) refl
         where
           go : (s : Bool) → eqb j i ≡ s → free_at L (L.put t g i u v) g j ≡ cond s (L.free u) (free_at L t g j)
-          go true e = ap (free_at L (L.put t g i u v) g) (eqb_true j i e) ∙ ap L.free (laws.put_same t g i u v good in_groups in_group fits-u fits-v).0
+          go true e = ap (free_at L (L.put t g i u v) g) (eqb-true j i e) ∙ ap L.free (laws.put_same t g i u v good in_groups in_group fits-u fits-v).0
           go false e = ap L.free (put_other g j in_groups l (λ _. eqb-false j i e)).0
 
       -- the first free entry: as before, or the entry that is freed
@@ -94,7 +100,7 @@ module _ {P T : Type 0} {L : Layout P T} {same : P → P → Bool} {Valid : P �
       free_entry_rewritten e = free_entry_same L t (L.put t g i u v) g (λ j l. free_at_put j l ∙ go j (eqb j i) refl)
         where
           go : (j : ℕ) (s : Bool) → eqb j i ≡ s → cond s (L.free u) (free_at L t g j) ≡ free_at L t g j
-          go j true k = sym e ∙ ap (free_at L t g) (sym (eqb_true j i k))
+          go j true k = sym e ∙ ap (free_at L t g) (sym (eqb-true j i k))
           go j false k = refl
 
       pub free_entry_freed : i ≤ free_entry L t g → L.free u ≡ true → free_entry L (L.put t g i u v) g ≡ i
@@ -128,7 +134,7 @@ module _ {P T : Type 0} {L : Layout P T} {same : P → P → Bool} {Valid : P �
             → Reads L (L.put t g i (L.first t g i) (L.second t g i)) h j (L.first t h j) (L.second t h j)
         go true e true k =
             let f = laws.read_fits t g i good in_groups in_group in
-            rw (eqb_true h g e, eqb_true j i k) (laws.put_same t g i (L.first t g i) (L.second t g i) good in_groups in_group f.0 f.1)
+            rw (eqb-true h g e, eqb-true j i k) (laws.put_same t g i (L.first t g i) (L.second t g i) good in_groups in_group f.0 f.1)
         go true e false k = put_other t g i (L.first t g i) (L.second t g i) good in_groups in_group h j lh lj (λ _ b. eqb-false j i k b)
         go false e r k = put_other t g i (L.first t g i) (L.second t g i) good in_groups in_group h j lh lj (λ a _. eqb-false h g e a)
 

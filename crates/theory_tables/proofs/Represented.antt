@@ -3,9 +3,13 @@
 --   unmapped_matches: a page that is not mapped has no match
 --   OneMatch, mapped_match: a mapped page has one match, with the second word of its fields
 --   full_branch, free_branch: a decision on an arrangement with the page is no where no entry is free for it, and yes where one is
-use Rattle.words.proofs.Basics.{ℕ, suc, ◌+◌, ◌-◌, ◌<◌, ◌≡◌, refl, sym, ap, ◌∙◌, subst, Bool, true, false, decide, ◌↔◌, ite, if_pos, if_neg, Option, none, some}
-use Rattle.words.proofs.Basics.{Option·some-ne-none, List, [], ◌∷◌, map, List-as-Memᴰ, List·Memᴰ·head, cons-ne-nil, arith}
-use mathlib.Core.List.{map-eq-nil_iff}
+use mathlib.Core.Path.{◌≡◌, refl, sym, ap, ◌∙◌, subst}
+use mathlib.Core.Logic.{◌↔◌, ite, if_pos, if_neg}
+use mathlib.Core.Bool.{Bool, true, false, decide}
+use mathlib.Core.List.{List, [], ◌∷◌, map, map-eq-nil_iff, cons-ne-nil, Memᴰ}
+use mathlib.Core.Option.{Option, none, some, some-ne-none}
+use Prim.Native.Nat.{ℕ, suc, ◌+◌, ◌-◌, ◌<◌}
+use native.Mathlib.Omega.{arith}
 use Rattle.theory_placement.specs.Placement.{Arrangement}
 use Rattle.theory_placement.specs.Pairs.{pages_of_pair}
 use Rattle.theory_placement.specs.FiniteMap.{mapped_pages, fields_at}
@@ -42,7 +46,7 @@ module _ {P T : Type 0} {L : Layout P T} {same : P → P → Bool} {Valid : P �
       go : (xs : List Match) → matches_of L t p ≡ xs → map (λ (x : Match). x.second) xs ≡ word f ∷ [] → OneMatch L t p (word f)
       go [] q h = absurd (cons-ne-nil (word f) [] (sym h))
       go (x ∷ []) q h =
-          record { match = x; only = q; second_is = cc; stands = members_of L t p x (subst (List-as-Memᴰ x) (sym q) (List·Memᴰ·head refl)) }
+          record { match = x; only = q; second_is = cc; stands = members_of L t p x (subst (Memᴰ x) (sym q) (Memᴰ.head refl)) }
       go (x ∷ y ∷ xs) q h = absurd (let z : ◌≡◌ {A = ℕ} 0 1 = cc in omega arith)
 
   -- and back: what is matched is mapped
@@ -101,7 +105,7 @@ module _ {P T : Type 0} {L : Layout P T} {same : P → P → Bool} {Valid : P �
 
   pub full_unarranged : (p : P) → (free_place L t p ≡ none) ↔ (Arrangement L.group L.capacity (p ∷ mapped_pages m) → ⊥)
   full_unarranged p = (
-    λ e a. let (x, q) = (free_arranged p).1 a in Option·some-ne-none x (sym q ∙ e),
+    λ e a. let (x, q) = (free_arranged p).1 a in some-ne-none x (sym q ∙ e),
     λ h. go (free_place L t p) refl h,
   )
     where

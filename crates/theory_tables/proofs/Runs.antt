@@ -1,5 +1,8 @@
 -- Runs over lists of calls: appended lists, and the one induction from a start and a step to equal answers and related states.
-use Rattle.words.proofs.Basics.{◌≡◌, refl, ap, ap₂, ◌↔◌, List, [], ◌∷◌, ◌++◌, map, length}
+use mathlib.Core.Path.{◌≡◌, refl, ap, ap₂}
+use mathlib.Core.Logic.{◌↔◌}
+use mathlib.Core.List.{List, [], ◌∷◌, ◌++◌, map}
+use lib.ListN.{length}
 use Rattle.theory_tables.specs.Runs.{run, after, Each}
 
 module _ {C : Type 0} (Q : C → Type 0) where

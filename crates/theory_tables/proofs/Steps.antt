@@ -1,11 +1,18 @@
 -- The steps of a table that represents a finite map, and those of the map: the start, a page put in, taken out, and revised.
-use Rattle.words.proofs.Basics.{ℕ, suc, ◌+◌, ◌-◌, ◌<◌, ◌≡◌, refl, sym, ap, ◌∙◌, subst, Bool, true, false, cond, inl, inr, none, some, Option·map}
-use Rattle.words.proofs.Basics.{Option·some-injective, Option·some-ne-none, List, [], ◌∷◌, map, List-as-Memᴰ, List·Memᴰ·eq-of-singleton, length, arith}
+use mathlib.Core.Path.{◌≡◌, refl, sym, ap, ◌∙◌, subst}
+use mathlib.Core.Bool.{Bool, true, false, cond}
+use mathlib.Core.Logic.{inl, inr}
+use mathlib.Core.List.Memᴰ
+use mathlib.Core.List.{List, [], ◌∷◌, map, Memᴰ}
+use mathlib.Core.Option
+use mathlib.Core.Option.{none, some, some-ne-none, some-injective}
+use Prim.Native.Nat.{ℕ, suc, ◌+◌, ◌-◌, ◌<◌}
+use native.Mathlib.Omega.{arith}
+use lib.ListN.{length}
 use Rattle.theory_placement.specs.Lists.{one_if}
 use Rattle.theory_placement.specs.Pairs.{of_pair, pages_of_pair}
 use Rattle.theory_placement.specs.FiniteMap.{mapped_pages, put_in, fields_at, take_out, revise, NoPageTwice}
-use Rattle.theory_placement.proofs.FiniteMap.{fields_at_put_in_same, fields_at_put_in_other, fields_at_take_out_same, fields_at_take_out_other, fields_at_revise_same}
-use Rattle.theory_placement.proofs.FiniteMap.{fields_at_revise_other}
+use Rattle.theory_placement.proofs.FiniteMap.{fields_at_put_in_same, fields_at_put_in_other, fields_at_take_out_same, fields_at_take_out_other, fields_at_revise_same, fields_at_revise_other}
 use Rattle.theory_placement.proofs.FiniteMap.{no_page_twice_take_out, no_page_twice_revise}
 use Rattle.theory_placement.proofs.Pairs.{pages_of_pair_take_out, pages_of_pair_revise}
 use Rattle.theory_tables.specs.Matches.{Match}
@@ -31,7 +38,7 @@ module _ {P T : Type 0} {L : Layout P T} {same : P → P → Bool} {Valid : P �
         let a = used_none L t g (λ i k. free g i l k) in
         let b = used_none L t (groups L - suc g) (λ i k. free (groups L - suc g) i (omega arith) k) in
         omega arith;
-    valid = λ p f e. absurd (Option·some-ne-none f (sym e));
+    valid = λ p f e. absurd (some-ne-none f (sym e));
   }
 
   -- a change at page p alone, in the table and in the map
@@ -73,7 +80,7 @@ module _ {P T : Type 0} {L : Layout P T} {same : P → P → Bool} {Valid : P �
       (λ q d. fields_at_put_in_other same laws.same_refl laws.same_eq p q f m d)
       (ap (map (λ (x : Match). x.second)) (put_only laws t p r.good b i u (word f) l fu fw (unmapped_matches laws r p v n) k)
       ∙ ap (words_of word) (sym (fields_at_put_in_same same laws.same_refl laws.same_eq p f m)))
-      (λ g h. (v, subst ValidFields (Option·some-injective f g (sym (fields_at_put_in_same same laws.same_refl laws.same_eq p f m) ∙ h)) vf))
+      (λ g h. (v, subst ValidFields (some-injective f g (sym (fields_at_put_in_same same laws.same_refl laws.same_eq p f m) ∙ h)) vf))
       (λ g lg. pair_filled laws t p b i u (word f) r.good l fu fw place.is_free (laws.match_used b p u v k) g lg
       ∙ ap (λ x. one_if (of_pair L.group g p) + x) (r.counted g lg))
 
@@ -82,7 +89,7 @@ module _ {P T : Type 0} {L : Layout P T} {same : P → P → Bool} {Valid : P �
     the_match : (x : Match) → MatchOf L t p x → x ≡ (mapped_match laws r p f mapped).match
     the_match x h =
         let o = mapped_match laws r p f mapped in
-        List·Memᴰ·eq-of-singleton (subst (List-as-Memᴰ x) o.only (match_member L t p x h))
+        Memᴰ.eq_of_singleton (subst (Memᴰ x) o.only (match_member L t p x h))
 
     -- the page is taken out: each of its matches is overwritten by an entry that is free
     pub represents_take_out : (z w : ℕ) → L.free z ≡ true → Fits z → Fits w
@@ -95,7 +102,7 @@ module _ {P T : Type 0} {L : Layout P T} {same : P → P → Bool} {Valid : P �
         (λ q d. fields_at_take_out_other same laws.same_refl laws.same_eq p q m d)
         (ap (map (λ (x : Match). x.second)) (freed_matches_of laws e v (λ x h. free))
         ∙ ap (words_of word) (sym (fields_at_take_out_same same laws.same_refl laws.same_eq p m)))
-        (λ g h. absurd (Option·some-ne-none g (sym h ∙ fields_at_take_out_same same laws.same_refl laws.same_eq p m)))
+        (λ g h. absurd (some-ne-none g (sym h ∙ fields_at_take_out_same same laws.same_refl laws.same_eq p m)))
         (λ g lg.
         let a = pair_freed laws e v (λ x h. free) g lg in
         let n : cond (of_pair L.group g p) (length (matches_of L t p)) 0 ≡ one_if (of_pair L.group g p) =
@@ -113,7 +120,7 @@ module _ {P T : Type 0} {L : Layout P T} {same : P → P → Bool} {Valid : P �
           (λ q vq d c. edited_other laws edited (λ x h. inr h.passes) q (r.valid p f mapped).0 vq d c)
           (λ q d. fields_at_revise_other same laws.same_refl laws.same_eq p q u m d)
           (words ∙ ap (words_of word) (sym own))
-          (λ g h. ((r.valid p f mapped).0, subst ValidFields (Option·some-injective (u f) g (sym own ∙ h)) valid))
+          (λ g h. ((r.valid p f mapped).0, subst ValidFields (some-injective (u f) g (sym own ∙ h)) valid))
           (λ g lg.
           let a = rewritten_used laws edited (λ x h. h.passes) (r.valid p f mapped).0 g lg in
           let b = rewritten_used laws edited (λ x h. h.passes) (r.valid p f mapped).0 (groups L - suc g) (omega arith) in
@@ -136,7 +143,7 @@ module _ {P T : Type 0} {L : Layout P T} {same : P → P → Bool} {Valid : P �
           edited = each_edited laws p edit t r.good edit_fits
 
           own : fields_at same p (revise same p u m) ≡ some (u f)
-          own = fields_at_revise_same same laws.same_refl laws.same_eq p u m ∙ ap (Option·map u) mapped
+          own = fields_at_revise_same same laws.same_refl laws.same_eq p u m ∙ ap (Option.map u) mapped
 
           words : map (λ (x : Match). x.second) (matches_of L (overwrite_each L p edit (matches_of L t p) t) p) ≡ word (u f) ∷ []
           words =

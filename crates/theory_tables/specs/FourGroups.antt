@@ -1,6 +1,7 @@
 -- A small kind of table, by computation: four groups of three entries. Pages are numbers, a table is a function, and a first word holds V in its
 -- lowest bit, then H, then what of the page the group does not tell.
-use Rattle.words.specs.Basics.{ℕ, ◌+◌, ◌-◌, ◌*◌, ◌/◌, ◌%◌, Bool, true, false, cond, ◌&&◌, none, some, List, [], ◌∷◌, map, eqb}
+use Rattle.std.specs.Prelude.{Bool, true, false, cond, ◌&&◌, List, [], ◌∷◌, map, ℕ, ◌+◌, ◌-◌, ◌*◌, ◌/◌, ◌%◌, eqb}
+use Rattle.std.proofs.Math.Option.{none, some}
 use Rattle.words.specs.Rows.{Hold}
 use Rattle.theory_placement.specs.Lists.{one_if}
 use Rattle.theory_tables.specs.Matches.{Match}

@@ -1,7 +1,7 @@
 -- What a kind of hashed page table is, over a page type P and a type T of tables, and what every such table has: the matches of a page,
 -- free entries, and entries overwritten. An instance gives the layout and proves its laws.
-use Rattle.words.specs.Basics.{ℕ, suc, ◌+◌, ◌-◌, ◌<◌, ◌≡◌, Bool, true, false, cond, not, Option, none, some, List, [], ◌∷◌, ◌++◌, ltb}
-use Rattle.std.specs.Prelude.{◌≢◌}
+use Rattle.std.specs.Prelude.{◌≡◌, Bool, true, false, not, cond, List, [], ◌∷◌, ◌++◌, ◌≢◌, ℕ, suc, ◌+◌, ◌-◌, ◌<◌, ltb}
+use Rattle.std.proofs.Math.Option.{Option, none, some}
 use Rattle.words.specs.Below.{first_below}
 use Rattle.theory_tables.specs.Matches.{Match, matches_below, how_many_below}
 

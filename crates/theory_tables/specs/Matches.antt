@@ -1,5 +1,5 @@
 -- The entries of one group of a table that match a page, over any test of an entry's first word.
-use Rattle.words.specs.Basics.{ℕ, zero, suc, ◌+◌, Bool, cond, List, [], ◌∷◌, ◌++◌}
+use Rattle.std.specs.Prelude.{Bool, cond, List, [], ◌∷◌, ◌++◌, ℕ, zero, suc, ◌+◌}
 use Rattle.theory_placement.specs.Lists.{one_if}
 
 -- one match of a page (rules 4): which of the page's two groups holds it, the entry's number there, and the entry's two words

@@ -1,6 +1,7 @@
 -- The relation "this table represents this finite map": the matches of every page are its lookup, and the used entries of a pair of groups are
 -- its mapped pages. There is no history in it.
-use Rattle.words.specs.Basics.{ℕ, ◌<◌, ◌≡◌, Bool, Option, none, some, List, [], ◌∷◌, map}
+use Rattle.std.specs.Prelude.{◌≡◌, Bool, List, [], ◌∷◌, map, ℕ, ◌<◌}
+use Rattle.std.proofs.Math.Option.{Option, none, some}
 use Rattle.theory_placement.specs.Pairs.{pages_of_pair}
 use Rattle.theory_placement.specs.FiniteMap.{mapped_pages, fields_at, NoPageTwice}
 use Rattle.theory_tables.specs.Matches.{Match}

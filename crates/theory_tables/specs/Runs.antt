@@ -1,5 +1,5 @@
 -- Runs of a machine over a list of calls, for any calls, states and answers.
-use Rattle.words.specs.Basics.{List, [], ◌∷◌, foldl}
+use mathlib.Core.List.{List, [], ◌∷◌, foldl}
 
 module _ {C S A : Type 0} (step : C → S → A × S) where
   -- the answers to a list of calls, each made in the state that the one before left

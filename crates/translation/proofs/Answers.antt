@@ -1,5 +1,5 @@
 -- What each outcome answers, case by case, and that of an entry found only RPN, WIMG and PP play a part.
-use Rattle.words.proofs.Basics.{ℕ, ◌+◌, ◌≡◌, refl, sym, ap, ap₂, ◌∙◌, Bool, ◌&&◌}
+use Rattle.std.proofs.Common.{◌≡◌, ℕ, ◌+◌, Bool, ◌&&◌, sym, refl, ap, ◌∙◌, ap₂}
 use Rattle.words.specs.Bits.{bits, placed}
 use Rattle.entry.specs.Entry.{rpn_of, wimg_of, pp_of, physical_address}
 use Rattle.protection.specs.Access.{fetching}

@@ -1,6 +1,8 @@
 -- The block that covers an address: in a set that passed the check it is the one pair that does, and it keeps the address's place in the block.
-use Rattle.words.proofs.Basics.{ℕ, ◌+◌, ◌-◌, ◌*◌, ◌/◌, ◌%◌, ◌^◌, ◌<◌, ◌≤◌, ◌≡◌, refl, sym, ap, ◌∙◌, Bool, true, false, List, bit_and, bit_or, and_mask}
-use Rattle.words.proofs.Basics.{mod-mod-pow, mod-pow-add, pow_pos, size, div-one, mod-lt, arith, eqb_true}
+use Rattle.std.proofs.Common.{◌≡◌, ℕ, ◌+◌, ◌-◌, ◌*◌, ◌/◌, ◌%◌, ◌^◌, ◌<◌, ◌≤◌, Bool, true, false, List, sym, refl, ap, ◌∙◌, mod-lt, div-one, arith, pow_pos, eqb-true}
+use lib.Bits.{bit_and, bit_or, and_mask}
+use lib.Pow.{mod-pow-add, mod-mod-pow}
+use lib.Ieee.{size}
 use Rattle.words.specs.Bits.{bits, placed}
 use Rattle.words.proofs.Below.{first_found, first_none}
 use Rattle.words.proofs.Masks.{or_sum}
@@ -31,7 +33,7 @@ module _ (width : ℕ) (wide : width ≤ 15) (side : Bool) (upper lower address 
     (upper-shape : upper_shape width upper ≡ true) (lower-shape : lower_shape width side upper lower ≡ true) where
   clear_brpn : bit_and (brpn_of lower) (bl_of width upper) ≡ 0
   unfolding lower_shape
-  clear_brpn = eqb_true _ 0 (both _ _ (both _ _ (both _ _ (both _ _ lower-shape).0).0).0).0
+  clear_brpn = eqb-true _ 0 (both _ _ (both _ _ (both _ _ (both _ _ lower-shape).0).0).0).0
 
   -- the address's BL bits fall into BRPN's zeros
   put_in_law : (k : ℕ) → bl_of width upper ≡ 2 ^ k - 1 → k ≤ 15

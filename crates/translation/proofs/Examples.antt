@@ -1,5 +1,5 @@
 -- Every row of the tables of an access holds: both sides compute to the same.
-use Rattle.words.proofs.Basics.{refl}
+use Rattle.std.proofs.Common.{refl}
 use Rattle.translation.specs.Examples.{AccessTables}
 use Rattle.translation.proofs.Computes.{translation_computes}
 

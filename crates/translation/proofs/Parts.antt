@@ -11,8 +11,8 @@
 --   operand_same, operand_related: operands whose parts answer alike answer alike, also up to a relation of what decided them
 --   result_of: what holds of the results of both parts holds of the operand's
 --   SameButPlace, decisions_agree: what decided an outcome is the same for two searches but for the place of the entry
-use Rattle.words.proofs.Basics.{ℕ, ◌+◌, ◌-◌, ◌*◌, ◌/◌, ◌%◌, ◌^◌, ◌<◌, ◌≤◌, ◌≡◌, refl, sym, ap, ◌∙◌, Bool, true, false, cond, eqb, ltb, lit<, arith, eq-eqb}
-use Rattle.words.proofs.Basics.{eqb-false, eqb_true, le-ltb, lt-ltb, ltb-false, ltb-true, ne_eqb}
+use Rattle.std.proofs.Common.{◌≡◌, ℕ, ◌+◌, ◌-◌, ◌*◌, ◌/◌, ◌%◌, ◌^◌, ◌<◌, ◌≤◌, Bool, true, false, cond, eqb, ltb, sym, refl, ap, ◌∙◌, arith, lit<, ltb-false, ltb-true, le-ltb, lt-ltb, eq-eqb, ne_eqb, eqb-true}
+use borrow.Author.Tests.{eqb-false}
 use Rattle.entry.specs.Entry.{page_index}
 use Rattle.translation.specs.Decision.{key_and_pp, decision_of}
 use Rattle.translation.specs.Operand.{first_bytes, over_edge, part_start, stopped, within, across_edge, operand_answer}
@@ -165,9 +165,9 @@ module _ (address length : ℕ) (answer : Bool → Answer) (decision : Bool → 
       go : (f : Bool) → eqb (answer false).result 0 ≡ f → (o : Bool) → over_edge address length ≡ o → (s : Bool) → eqb (answer true).result 0 ≡ s
           → (second : Bool) × (whole ≡ stopped (answer second) (decision second))
       go false e o over s d = (false, first_stops (eqb-false _ 0 e))
-      go true e false over s d = absurd (number (one_done (eqb_true _ 0 e) over) (eqb_true _ 0 e))
-      go true e true over false d = (true, second_stops (eqb_true _ 0 e) over (eqb-false _ 0 d))
-      go true e true over true d = absurd (number (both_done (eqb_true _ 0 e) over (eqb_true _ 0 d)) (eqb_true _ 0 e))
+      go true e false over s d = absurd (number (one_done (eqb-true _ 0 e) over) (eqb-true _ 0 e))
+      go true e true over false d = (true, second_stops (eqb-true _ 0 e) over (eqb-false _ 0 d))
+      go true e true over true d = absurd (number (both_done (eqb-true _ 0 e) over (eqb-true _ 0 d)) (eqb-true _ 0 e))
 
   -- where it is done so is every part
   pub parts_done : whole.part.result ≡ 0 → ((answer false).result ≡ 0) × (over_edge address length ≡ true → (answer true).result ≡ 0)
@@ -178,10 +178,10 @@ module _ (address length : ℕ) (answer : Bool → Answer) (decision : Bool → 
 
       go : (f : Bool) → eqb (answer false).result 0 ≡ f → (s : Bool) → eqb (answer true).result 0 ≡ s
           → ((answer false).result ≡ 0) × (over_edge address length ≡ true → (answer true).result ≡ 0)
-      go true e true d = (eqb_true _ 0 e, λ over. eqb_true _ 0 d)
+      go true e true d = (eqb-true _ 0 e, λ over. eqb-true _ 0 d)
       go true e false d = (
-        eqb_true _ 0 e,
-        λ over. absurd (eqb-false _ 0 d (sym (number (second_stops (eqb_true _ 0 e) over (eqb-false _ 0 d))) ∙ z)),
+        eqb-true _ 0 e,
+        λ over. absurd (eqb-false _ 0 d (sym (number (second_stops (eqb-true _ 0 e) over (eqb-false _ 0 d))) ∙ z)),
       )
       go false e s d = absurd (eqb-false _ 0 e (sym (number (first_stops (eqb-false _ 0 e))) ∙ z))
 

@@ -1,6 +1,6 @@
 -- One access is as stated: the case laws of its steps, the laws of its answers, and the tables, gathered.
-use Rattle.words.proofs.Basics.{ℕ, ◌/◌, ◌%◌, ◌^◌, ◌<◌, ◌≤◌, ◌≡◌, sym, ap, ◌∙◌, Bool, true, false, true≢false, List, eqb, ltb, le_refl, arith, eq-eqb, eqb-false}
-use Rattle.words.proofs.Basics.{eqb_true, le-ltb, lt-ltb, ne_eqb, not-true}
+use Rattle.std.proofs.Common.{◌≡◌, ℕ, ◌/◌, ◌%◌, ◌^◌, ◌<◌, ◌≤◌, Bool, true, false, eqb, ltb, List, sym, ap, ◌∙◌, true≢false, le_refl, arith, le-ltb, lt-ltb, eq-eqb, ne_eqb, eqb-true}
+use borrow.Author.Tests.{eqb-false, not-true}
 use Rattle.entry.specs.Entry.{rpn_of, pp_of, physical_address}
 use Rattle.numbers.proofs.Examples.{numbers_tables}
 use Rattle.words.proofs.Examples.{words_tables}
@@ -23,10 +23,8 @@ use Rattle.translation.specs.declared.Early.{Early}
 use Rattle.translation.specs.declared.Early.TheVariants.{Decided}
 use Rattle.translation.specs.declared.Answer.{Answer}
 use Rattle.translation.proofs.Parts.{operand_stated}
-use Rattle.translation.proofs.Steps.{block_done, block_fault, before_real, before_block, before_no_execute, before_search_law, wanted_in_range}
-use Rattle.translation.proofs.Steps.{decided_early, no_execute_fetch}
-use Rattle.translation.proofs.Steps.{after_contradicting, after_nothing, after_at, page_guarded, page_protected, done_passes, passes_done, after_late}
-use Rattle.translation.proofs.Steps.{guarded_fetch, outcome_decided}
+use Rattle.translation.proofs.Steps.{block_done, block_fault, before_real, before_block, before_no_execute, before_search_law, wanted_in_range, decided_early, no_execute_fetch}
+use Rattle.translation.proofs.Steps.{after_contradicting, after_nothing, after_at, page_guarded, page_protected, done_passes, passes_done, after_late, guarded_fetch, outcome_decided}
 use Rattle.translation.proofs.Answers.{answer_real, answer_block, answer_done, answer_refused_law, answer_effective, answer_page_same}
 use Rattle.translation.proofs.Covering.{covering_none, covering_one, block_offset}
 use Rattle.protection.proofs.Examples.{protection_tables}
@@ -61,7 +59,7 @@ module _ (pairs width : ℕ) (wide : width ≤ 15) (words : List ℕ) (mode kind
 -- what the right to write says of PP
 writable : (key : Bool) (pp kind : ℕ) → kind ≡ 2 → page_allows key pp kind ≡ true → (key ≡ false → pp ≡ 3 → ⊥) × (key ≡ true → pp ≡ 2)
 unfolding page_allows page_writable storing
-writable true pp kind e allowed = ((λ q. absurd (true≢false q)), λ q. eqb_true pp 2 (rw (eq-eqb kind 2 e) at allowed))
+writable true pp kind e allowed = ((λ q. absurd (true≢false q)), λ q. eqb-true pp 2 (rw (eq-eqb kind 2 e) at allowed))
 writable false pp kind e allowed = ((λ q. eqb-false pp 3 (not-true (eqb pp 3) (rw (eq-eqb kind 2 e) at allowed))), λ q. absurd (true≢false (sym q)))
 
 pub steps_after : (kind : ℕ) (key : Bool) → StepsAfter kind key

@@ -10,7 +10,7 @@
 --   page_guarded, page_protected, page_done, page_by: what an entry that was found comes to, test by test, and in all three cases
 --   done_passes, passes_done: an access is done exactly where an entry was found that passes steps 5 and 6
 --   outcome_decided, outcome_searched: the outcome of all steps, decided before the search or by it
-use Rattle.words.proofs.Basics.{ℕ, ◌^◌, ◌<◌, ◌≡◌, refl, sym, ap, ◌∙◌, Bool, true, false, ◌&&◌, true≢false, List, ltb, arith, eqb_true}
+use Rattle.std.proofs.Common.{◌≡◌, ℕ, ◌^◌, ◌<◌, Bool, true, false, ◌&&◌, ltb, List, sym, refl, ap, ◌∙◌, true≢false, arith, eqb-true}
 use Rattle.words.proofs.Tests.{both}
 use Rattle.entry.specs.Entry.{wimg_of, pp_of}
 use Rattle.entry.proofs.Addresses.{index_lt}
@@ -32,7 +32,7 @@ use Rattle.translation.specs.declared.Searched.TheVariants.{Nothing, At, Contrad
 -- a test of a fetch that holds is of a fetch
 pub fetch_is : (kind : ℕ) (t : Bool) → fetching kind && t ≡ true → kind ≡ 0
 unfolding fetching
-fetch_is kind t e = eqb_true kind 0 (both (fetching kind) t e).0
+fetch_is kind t e = eqb-true kind 0 (both (fetching kind) t e).0
 
 -- ---- before the search
 

@@ -1,5 +1,5 @@
 -- Steps 1 to 3 by a short page's words are those by the same words as a long page's: BL of 11 bits beside BL of 15, and pairs that are off.
-use Rattle.words.proofs.Basics.{ℕ, ◌<◌, ◌≡◌, refl, sym, ap, ap₂, ◌∙◌, Bool, true, false, cond, not, ◌&&◌, List, ltb, length, arith, lt-ltb, ltb-true}
+use Rattle.std.proofs.Common.{◌≡◌, ℕ, ◌<◌, Bool, true, false, cond, not, ◌&&◌, ltb, List, length, sym, refl, ap, ◌∙◌, ap₂, arith, ltb-true, lt-ltb}
 use Rattle.words.specs.Bits.{bits}
 use Rattle.words.proofs.Below.{FirstOf, same_first, none_first, first_passes}
 use Rattle.register_words.specs.Segment.{no_execute}

@@ -1,5 +1,5 @@
 -- The rule that decided a part of an operand, and what it went by (rules 5): rule r is step r + 1.
-use Rattle.words.specs.Basics.{ℕ, ◌+◌, ◌*◌, Bool, cond}
+use Rattle.std.specs.Prelude.{ℕ, ◌+◌, ◌*◌, Bool, cond}
 use Rattle.numbers.specs.Numbers.{rule_real, rule_block, rule_no_execute, rule_no_match, rule_guarded, rule_protection, rule_done}
 use Rattle.entry.specs.Entry.{pp_of}
 use Rattle.translation.specs.declared.Outcome.{Outcome}

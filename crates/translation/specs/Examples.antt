@@ -1,5 +1,5 @@
 -- Tables that pin the steps of an access and what an outcome answers, each closed by computation: a good and a bad row for each step and its order.
-use Rattle.words.specs.Basics.{ℕ, ◌+◌, ◌*◌, Bool, true, false, cond, ◌&&◌, List, [], ◌∷◌, ◌++◌, map, eqb, replicate}
+use Rattle.std.specs.Prelude.{ℕ, ◌+◌, ◌*◌, Bool, true, false, cond, ◌&&◌, List, [], ◌∷◌, ◌++◌, map, replicate, ◌==◌}
 use Rattle.numbers.specs.Numbers.{done, data_storage_fault, instruction_storage_fault, refused_contradiction}
 use Rattle.words.specs.Rows.{Hold, each_bit}
 use Rattle.register_words.specs.Block.{bl_width}
@@ -37,7 +37,7 @@ outcomes fetch load store = fetch ∷ load ∷ store ∷ []
 
 -- the search of a table that has page index 0xFFA of VSID 0x0C701C alone
 abbrev pub holding : ℕ → Wanted → Searched
-holding second wanted = cond (eqb wanted.vsid 0x0C701C && eqb wanted.index 0x0FFA) (At second) Nothing
+holding second wanted = cond (wanted.vsid == 0x0C701C && wanted.index == 0x0FFA) (At second) Nothing
 
 -- a whole access to that table
 abbrev pub whole_access : ℕ → List ℕ → ℕ → ℕ → ℕ → Answer

@@ -1,6 +1,6 @@
 -- An operand of one to 128 bytes (rules 5): its bytes lie in one page or in two, and each page's part goes through the steps by itself.
 -- In what follows false is the first part and true the second.
-use Rattle.words.specs.Basics.{ℕ, ◌+◌, ◌-◌, ◌%◌, ◌^◌, Bool, true, false, cond, eqb, ltb}
+use Rattle.std.specs.Prelude.{ℕ, ◌+◌, ◌-◌, ◌%◌, ◌^◌, Bool, true, false, cond, ◌==◌, nat_lt}
 use Rattle.numbers.specs.Numbers.{done, page_size}
 use Rattle.translation.specs.declared.Answer.{Answer}
 use Rattle.translation.specs.declared.decision.Decision.{Decision}
@@ -8,11 +8,11 @@ use Rattle.translation.specs.declared.operand.OperandAnswer.{OperandAnswer}
 
 -- the bytes in the first page: all, or those up to the page's end
 unfoldable pub first_bytes : ℕ → ℕ → ℕ
-first_bytes address length = let room = page_size - address % page_size in cond (ltb length room) length room
+first_bytes address length = let room = page_size - address % page_size in cond (nat_lt length room) length room
 
 -- the operand goes over the page's end
 unfoldable pub over_edge : ℕ → ℕ → Bool
-over_edge address length = ltb (first_bytes address length) length
+over_edge address length = nat_lt (first_bytes address length) length
 
 -- the address of a part's first byte; after FFFFFFFF comes 00000000
 unfoldable pub part_start : ℕ → ℕ → Bool → ℕ
@@ -41,9 +41,9 @@ across_edge first decision second bytes length = record {
 -- the answer of an operand by what its parts answer and what decided each: the first part that is not done answers for all
 unfoldable pub operand_answer : ℕ → ℕ → (Bool → Answer) → (Bool → Decision) → OperandAnswer
 operand_answer address length answer decision =
-    cond (eqb (answer false).result done)
+    cond ((answer false).result == done)
     (cond (over_edge address length)
-    (cond (eqb (answer true).result done) (across_edge (answer false) (decision false) (answer true) (first_bytes address length) length)
+    (cond ((answer true).result == done) (across_edge (answer false) (decision false) (answer true) (first_bytes address length) length)
     (stopped (answer true) (decision true)))
     (within (answer false) (decision false) length))
     (stopped (answer false) (decision false))

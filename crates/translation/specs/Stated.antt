@@ -1,6 +1,6 @@
 -- What is stated of one access for all arguments, beside the rows of the tables: each step with its conditions (rules 5), and what an outcome answers.
-use Rattle.std.specs.Prelude.{◌≢◌}
-use Rattle.words.specs.Basics.{ℕ, ◌+◌, ◌/◌, ◌%◌, ◌^◌, ◌<◌, ◌≤◌, ◌≡◌, Bool, true, false, ◌&&◌, ◌↔◌, List, size}
+use Rattle.std.specs.Prelude.{◌≡◌, ℕ, ◌+◌, ◌/◌, ◌%◌, ◌^◌, ◌<◌, ◌≤◌, Bool, true, false, ◌&&◌, ◌↔◌, List, ◌≢◌}
+use Rattle.std.specs.Float.Ieee.{size}
 use Rattle.numbers.specs.Numbers.{done, data_storage_fault, instruction_storage_fault, refused_contradiction, fetch, store, attributes_real, page_size}
 use Rattle.numbers.specs.Examples.{NumbersTables}
 use Rattle.words.specs.Bits.{placed}

@@ -1,6 +1,6 @@
 -- One access by its steps (rules 5): what is decided before the search, what after it, and what an outcome answers.
 -- The register set is given by its words; `pairs` is the number of block pairs a side, and `width` the width of BL.
-use Rattle.words.specs.Basics.{ℕ, Bool, cond, not, ◌&&◌, List, ltb}
+use Rattle.std.specs.Prelude.{ℕ, Bool, cond, not, ◌&&◌, List, nat_lt}
 use Rattle.numbers.specs.Numbers.{done, refused_contradiction, attributes_real}
 use Rattle.words.specs.Bits.{bits}
 use Rattle.entry.specs.Entry.{wimg_of, pp_of, page_index, physical_address}
@@ -42,7 +42,7 @@ module _ (pairs width : ℕ) where
       let pair = covering_pair pairs width words (side_of kind) (user_mode mode) address in
       let segment = segment_at words address in
       cond (not (relocated mode kind)) (Decided Real)
-      (cond (ltb pair pairs) (Decided (block_outcome words kind address pair))
+      (cond (nat_lt pair pairs) (Decided (block_outcome words kind address pair))
       (cond (fetching kind && no_execute segment) (Decided NoExecute) (Search (wanted_of (user_mode mode) segment address))))
 
 -- steps 5 to 7, by the second word of the entry found

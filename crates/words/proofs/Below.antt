@@ -9,8 +9,15 @@
 --   first_passes, first_before: the first that passes does pass, and those before it fail
 --   FirstOf, same_first, none_first: the first below n and the first below m are the same number, or both are none
 --   first_further: they are so where the further numbers, from n to m, fail
-use Rattle.words.proofs.Basics.{ℕ, zero, suc, ◌+◌, ◌<◌, ◌≤◌, ◌≡◌, refl, sym, ap, ap₂, ◌∙◌, Bool, true, false, cond, ◌&&◌, ⊎_elim, ltb, leb}
-use Rattle.words.proofs.Basics.{not-suc-le-zero, add-one, arith, leb-false, leb-true, ltb-false, ltb-true}
+use mathlib.Core.Path.{◌≡◌, refl, sym, ap, ap₂, ◌∙◌}
+use mathlib.Core.Bool.{Bool, true, false, cond, ◌&&◌}
+use mathlib.Core.Logic.{⊎_elim}
+use Prim.Native.Nat.{ℕ, zero, suc, ◌+◌, ◌<◌, ◌≤◌}
+use native.Mathlib.Nat.{not-suc-le-zero}
+use native.Mathlib.Numerals.{add-one}
+use native.Mathlib.Omega.{arith}
+use lib.Dec.{ltb, leb}
+use borrow.Author.Tests.{ltb-true, ltb-false, leb-true, leb-false}
 use Rattle.words.proofs.Tests.{both, three}
 use Rattle.words.specs.Below.{every_below, first_below}
 

@@ -1,8 +1,9 @@
 -- Laws of `bits` and `with_bits`, over the bits' numbers: what is put in is read back, and every other bit is kept.
-use Rattle.words.proofs.Basics.{ℕ, ◌+◌, ◌-◌, ◌*◌, ◌/◌, ◌%◌, ◌^◌, ◌<◌, ◌≤◌, ◌≡◌, sym, ap, ◌∙◌, field, high, low, mod-mod-pow, mod-pow-add, pow-add}
-use Rattle.words.proofs.Basics.{pow_pos, shr-shr, split, add_comm, add-mul, div-one, mod-lt, mul_assoc, arith}
-use lib.Pow.{shr_lt}
-use native.Mathlib.Nat.{div-lt_iff_lt-mul}
+use mathlib.Core.Path.{◌≡◌, sym, ap, ◌∙◌}
+use Prim.Native.Nat.{ℕ, ◌+◌, ◌-◌, ◌*◌, ◌/◌, ◌%◌, ◌^◌, ◌≤◌, ◌<◌}
+use native.Mathlib.Nat.{add_comm, add-mul, mul_assoc, mod-lt, div-one, div-lt_iff_lt-mul}
+use native.Mathlib.Omega.{arith}
+use lib.Pow.{pow_pos, pow-add, shr-shr, shr_lt, split, high, low, field, mod-pow-add, mod-mod-pow}
 use Rattle.words.specs.Bits.{bits, placed, with_bits}
 
 -- a word with v in the n bits above its k lowest

@@ -1,6 +1,5 @@
 -- What rows compute with: where `words-compute` unfolds, so does every definition of this crate.
-use Rattle.words.proofs.Basics.{size}
-use lib.Ieee.{climb, span}
+use lib.Ieee.{size, span, climb}
 use Rattle.words.specs.Ones.{low_ones}
 use Rattle.words.specs.Words.{word_bytes, word_at, swapped, with_word, bytes_of, words_at}
 use Rattle.words.specs.Below.{every_below, first_below}

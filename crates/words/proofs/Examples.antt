@@ -1,5 +1,5 @@
 -- Every row of the tables of words holds: both sides compute to the same.
-use Rattle.words.proofs.Basics.{refl}
+use mathlib.Core.Path.{refl}
 use Rattle.words.specs.Examples.{WordsTables}
 use Rattle.words.proofs.Computes.{words_compute}
 

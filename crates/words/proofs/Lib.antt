@@ -1,5 +1,4 @@
 -- What callers' proofs cite of words: masks and shifts, ones at the low end, words among bytes, tests below a bound.
-pub mod Basics
 pub mod Tests
 pub mod Masks
 pub mod Bits

@@ -4,11 +4,13 @@
 --   or_full: k ones or any k bits are k ones
 --   and_top: in 32 bits `a & (2 ^ 32 - 2 ^ k)` clears the k low bits
 --   and_not_in: in w bits `a & !(2 ^ k - 1)` clears the k low bits
-use Rattle.words.proofs.Basics.{ℕ, suc, ◌+◌, ◌-◌, ◌*◌, ◌/◌, ◌%◌, ◌^◌, ◌<◌, ◌≤◌, max, ◌≡◌, sym, ap, ap₂, ◌∙◌, bit_and, bit_or, and_high, and_mask}
-use Rattle.words.proofs.Basics.{or_add_and, or_shifted, or_step, or_zero_r, pow_pos, shr_mod, shr-shr, split, add-mul, add-zero, mod-lt, mul_assoc}
-use Rattle.words.proofs.Basics.{one-mul, pow-suc, add-one, arith}
-use lib.Bits.{or_block}
-use native.Mathlib.Nat.{mod-mod}
+use mathlib.Core.Path.{◌≡◌, sym, ap, ap₂, ◌∙◌}
+use Prim.Native.Nat.{ℕ, suc, ◌+◌, ◌-◌, ◌*◌, ◌/◌, ◌%◌, ◌^◌, ◌≤◌, ◌<◌, max}
+use native.Mathlib.Nat.{add-zero, one-mul, add-mul, mul_assoc, mod-lt, mod-mod, pow-suc}
+use native.Mathlib.Numerals.{add-one}
+use native.Mathlib.Omega.{arith}
+use lib.Bits.{bit_and, bit_or, and_mask, and_high, or_shifted, or_block, or_step, or_zero_r, or_add_and}
+use lib.Pow.{pow_pos, split, shr_mod, shr-shr}
 
 -- `x | y`, where the k low bits of x are zero and y is below 2 ^ k, is their sum
 pub or_sum : (k x y : ℕ) → x % 2 ^ k ≡ 0 → y < 2 ^ k → bit_or x y ≡ x + y

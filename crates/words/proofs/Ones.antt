@@ -1,7 +1,15 @@
 -- The laws of `size` and `low_ones`: one step of halving, and that `low_ones` holds exactly for the fields 2 ^ k - 1.
-use Rattle.words.proofs.Basics.{ℕ, zero, suc, ◌-◌, ◌/◌, ◌^◌, ◌<◌, ◌≤◌, ◌≡◌, refl, Bool, true, false, ⊎_elim, leb, pow_mono, pow_pos, size, size-lt}
-use Rattle.words.proofs.Basics.{size_reaches, pow-suc, arith, eq-eqb, eqb_true, leb-false, leb-true}
-use lib.Pow.{pow-lt}
+use mathlib.Core.Path.{◌≡◌, refl}
+use mathlib.Core.Bool.{Bool, true, false}
+use mathlib.Core.Logic.{⊎_elim}
+use Prim.Native.Nat.{ℕ, zero, suc, ◌-◌, ◌/◌, ◌^◌, ◌≤◌, ◌<◌}
+use native.Mathlib.Nat.{pow-suc}
+use native.Mathlib.Omega.{arith}
+use lib.Pow.{pow_pos, pow_mono, pow-lt}
+use lib.Dec.{leb}
+use lib.Ieee.{size}
+use lib.Ieee.Digits.{size-lt, size_reaches}
+use borrow.Author.Tests.{eq-eqb, eqb-true, leb-true, leb-false}
 use Rattle.words.proofs.Tests.{three}
 use Rattle.words.specs.Ones.{low_ones}
 
@@ -30,7 +38,7 @@ size_ones k = size_is (2 ^ k - 1) k (omega (arith, pow_pos k)) (λ m l. omega (a
 -- what the test says: the field is 2 ^ k - 1, where k is its length in bits
 pub ones_true : (f : ℕ) → low_ones f ≡ true → f ≡ 2 ^ size f - 1
 unfolding low_ones
-ones_true f e = eqb_true f (2 ^ size f - 1) e
+ones_true f e = eqb-true f (2 ^ size f - 1) e
 
 -- and every such number passes
 pub true_ones : (f k : ℕ) → f ≡ 2 ^ k - 1 → low_ones f ≡ true

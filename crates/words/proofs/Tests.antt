@@ -6,8 +6,13 @@
 --   eqb_same: two tests of equality are equal where each equation gives the other
 --   both_zero: the test of a number for zero is the tests of two others, where it is zero exactly where they are
 --   three: of two numbers one is less, or they are equal
-use Rattle.words.proofs.Basics.{ℕ, ◌<◌, ◌≤◌, ◌≡◌, refl, sym, Bool, true, false, cond, ◌&&◌, ◌⊎◌, inl, inr, eqb, ltb, arith, eq-eqb, eqb-false, eqb_true}
-use Rattle.words.proofs.Basics.{ltb-false, ltb-true, ne_eqb}
+use mathlib.Core.Bool.{Bool, true, false, cond, ◌&&◌}
+use mathlib.Core.Logic.{◌⊎◌, inl, inr}
+use mathlib.Core.Path.{◌≡◌, refl, sym}
+use Prim.Native.Nat.{ℕ, ◌≤◌, ◌<◌}
+use native.Mathlib.Omega.{arith}
+use lib.Dec.{eqb, ltb}
+use borrow.Author.Tests.{eqb-true, eqb-false, eq-eqb, ne_eqb, ltb-true, ltb-false}
 
 -- both parts of a conjunction that holds
 pub both : (a b : Bool) → a && b ≡ true → (a ≡ true) × (b ≡ true)
@@ -19,7 +24,7 @@ pub eqb_same : (a b c d : ℕ) → (a ≡ b → c ≡ d) → (c ≡ d → a ≡ 
 eqb_same a b c d to from = go (eqb c d) refl
   where
     go : (t : Bool) → eqb c d ≡ t → eqb a b ≡ t
-    go true e = eq-eqb a b (from (eqb_true c d e))
+    go true e = eq-eqb a b (from (eqb-true c d e))
     go false e = ne_eqb a b (λ p. eqb-false c d e (to p))
 
 -- two tests agree where each that holds gives the other
@@ -32,8 +37,8 @@ same_test false false to from = refl
 pub both_zero : (n a b : ℕ) → (n ≡ 0 → (a ≡ 0) × (b ≡ 0)) → (a ≡ 0 → b ≡ 0 → n ≡ 0) → eqb n 0 ≡ (eqb a 0 && eqb b 0)
 both_zero n a b to from =
     same_test (eqb n 0) (eqb a 0 && eqb b 0)
-    (λ e. let (p, q) = to (eqb_true n 0 e) in rw (eq-eqb a 0 p, eq-eqb b 0 q))
-    (λ e. let (p, q) = both (eqb a 0) (eqb b 0) e in eq-eqb n 0 (from (eqb_true a 0 p) (eqb_true b 0 q)))
+    (λ e. let (p, q) = to (eqb-true n 0 e) in rw (eq-eqb a 0 p, eq-eqb b 0 q))
+    (λ e. let (p, q) = both (eqb a 0) (eqb b 0) e in eq-eqb n 0 (from (eqb-true a 0 p) (eqb-true b 0 q)))
 
 -- what holds of both cases of a test holds of the case that it picks
 pub cond_by : {A : Type 0} (P : A → Type 0) (t : Bool) (x y : A) → (t ≡ true → P x) → (t ≡ false → P y) → P (cond t x y)

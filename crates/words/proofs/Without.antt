@@ -1,6 +1,9 @@
 -- Laws of a number without the bits of a mask, `x & (2 ^ k - 1 - a)`: bit by bit, by induction on the width k.
-use Rattle.words.proofs.Basics.{ℕ, zero, suc, ◌+◌, ◌-◌, ◌*◌, ◌/◌, ◌%◌, ◌^◌, ◌<◌, min, max, ◌≡◌, sym, ap, ap₂, ◌∙◌, bit_and, bit_or, and_shr, and_step}
-use Rattle.words.proofs.Basics.{and_zero_l, or_shr, or_step, pow-suc, arith}
+use mathlib.Core.Path.{◌≡◌, sym, ap, ap₂, ◌∙◌}
+use Prim.Native.Nat.{ℕ, zero, suc, ◌+◌, ◌-◌, ◌*◌, ◌/◌, ◌%◌, ◌^◌, ◌<◌, min, max}
+use native.Mathlib.Nat.{pow-suc}
+use native.Mathlib.Omega.{arith}
+use lib.Bits.{bit_and, bit_or, and_step, or_step, and_shr, or_shr, and_zero_l}
 
 pub or_odd : (a b : ℕ) → bit_or a b % 2 ≡ max (a % 2) (b % 2)
 or_odd a b = omega (arith, or_step a b)

@@ -12,11 +12,16 @@
 --   word_same: the word written is read back; withWord-bytes: after the write every element is still a byte
 --   written, written_more, written_all: words written one after the other; one word more; words that fill a list leave their own bytes
 --   length_words_at, get_or_words_at: how many words a list of bytes is read as, and which word each is
-use Rattle.words.proofs.Basics.{ℕ, zero, suc, ◌+◌, ◌*◌, ◌/◌, ◌%◌, ◌^◌, ◌<◌, ◌≤◌, ◌≡◌, refl, sym, ap, ap₂, ◌∙◌, ◌⊎◌, inl, inr, ⊎_elim, List, [], ◌∷◌}
-use Rattle.words.proofs.Basics.{◌++◌, append_assoc, append-nil, eqb, lit<, lit≤, length, get_or, set, take, drop, length-append, length-set, sets}
-use Rattle.words.proofs.Basics.{get_or-set_other, get_or-set_same, length-sets, length-take-le, sets-eq, take_at, take-length, shr-shr, split, add-suc}
-use Rattle.words.proofs.Basics.{add-zero, le_of_suc-le-suc, not-suc-le-zero, suc-add, arith}
-use lib.Seq.{set_comm, set_out}
+use mathlib.Core.Path.{◌≡◌, refl, sym, ap, ap₂, ◌∙◌}
+use mathlib.Core.Logic.{⊎_elim, ◌⊎◌, inl, inr}
+use mathlib.Core.List.{List, [], ◌∷◌, ◌++◌, append_assoc, append-nil}
+use Prim.Native.Nat.{ℕ, zero, suc, ◌+◌, ◌*◌, ◌/◌, ◌%◌, ◌^◌, ◌≤◌, ◌<◌}
+use native.Mathlib.Nat.{add-zero, add-suc, suc-add, not-suc-le-zero, le_of_suc-le-suc}
+use native.Mathlib.Omega.{arith}
+use lib.ListN.{length, get_or, set, take, drop, length-set, length-append}
+use lib.Dec.{eqb, lit≤, lit<}
+use lib.Pow.{shr-shr, split}
+use lib.Seq.{sets, length-sets, sets-eq, get_or-set_same, get_or-set_other, set_out, set_comm, take_at, take-length, length-take-le}
 use Rattle.words.proofs.Tests.{three, eqb_same}
 use Rattle.words.specs.Bits.{bits, placed}
 use Rattle.words.proofs.Bits.{bits_split, bits_all}

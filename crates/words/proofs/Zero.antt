@@ -1,9 +1,15 @@
 -- A mask that leaves nothing: of numbers put together by or it leaves nothing exactly where it leaves nothing of each, and of a number where it leaves
 -- nothing above a bit and below it.
-use Rattle.words.proofs.Basics.{ℕ, zero, suc, ◌+◌, ◌*◌, ◌/◌, ◌%◌, ◌^◌, ◌<◌, ◌≤◌, min, max, ◌≡◌, sym, ap, ap₂, ◌∙◌, ◌&&◌, eqb, bit_and, bit_or, and_le_l}
-use Rattle.words.proofs.Basics.{and_le_r, and_mod, and_shr, and_step, and_zero_l, or_add_and, or_shr, or_step, or_zero_l, pow_mono, split, size, size-lt}
-use Rattle.words.proofs.Basics.{pow-suc, arith}
-use native.Mathlib.Nat.{zero-div, zero-mod}
+use mathlib.Core.Path.{◌≡◌, sym, ap, ap₂, ◌∙◌}
+use mathlib.Core.Bool.{◌&&◌}
+use Prim.Native.Nat.{ℕ, zero, suc, ◌+◌, ◌*◌, ◌/◌, ◌%◌, ◌^◌, ◌<◌, ◌≤◌, min, max}
+use native.Mathlib.Nat.{pow-suc, zero-div, zero-mod}
+use native.Mathlib.Omega.{arith}
+use lib.Bits.{bit_and, bit_or, and_step, or_step, and_shr, or_shr, and_mod, and_zero_l, or_zero_l, or_add_and, and_le_l, and_le_r}
+use lib.Dec.{eqb}
+use lib.Ieee.{size}
+use lib.Ieee.Digits.{size-lt}
+use lib.Pow.{split, pow_mono}
 use Rattle.words.proofs.Tests.{both_zero}
 use Rattle.words.proofs.Without.{or_odd, and_odd, digit_lt}
 
@@ -35,7 +41,7 @@ and_or a b m =
     let second : 2 ^ size b ≤ 2 ^ k = pow_mono (omega arith) in
     and_or_in k a b m (omega (arith, size-lt a)) (omega (arith, size-lt b))
 
-pub or_none : (a b : ℕ) → bit_or a b ≡ 0 → (a ≡ 0) × (b ≡ 0)
+or_none : (a b : ℕ) → bit_or a b ≡ 0 → (a ≡ 0) × (b ≡ 0)
 or_none a b e =
     let sum = or_add_and a b in
     let left = and_le_l a b in

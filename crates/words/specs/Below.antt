@@ -1,5 +1,5 @@
 -- Tests of the numbers below a bound.
-use Rattle.words.specs.Basics.{ℕ, zero, suc, Bool, true, cond, ◌&&◌, List, [], ◌∷◌, ◌++◌}
+use Rattle.std.specs.Prelude.{ℕ, zero, suc, Bool, true, cond, ◌&&◌}
 
 -- each number below n passes the test
 unfoldable pub every_below : ℕ → (ℕ → Bool) → Bool
@@ -10,8 +10,3 @@ every_below (suc n) test = every_below n test && test n
 unfoldable pub first_below : ℕ → (ℕ → Bool) → ℕ
 first_below zero test = 0
 first_below (suc n) test = cond (test 0) 0 (suc (first_below n (λ i. test (suc i))))
-
--- the numbers below n that pass the test, in order
-unfoldable pub all_below : ℕ → (ℕ → Bool) → List ℕ
-all_below zero test = []
-all_below (suc n) test = all_below n test ++ cond (test n) (n ∷ []) []

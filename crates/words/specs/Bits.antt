@@ -1,5 +1,5 @@
 -- Fields of a 32-bit word (rules 1): bit 0 is the most significant.
-use Rattle.words.specs.Basics.{ℕ, ◌+◌, ◌-◌, ◌*◌, ◌/◌, ◌%◌, ◌^◌}
+use Rattle.std.specs.Prelude.{ℕ, ◌+◌, ◌-◌, ◌*◌, ◌/◌, ◌%◌, ◌^◌}
 
 -- bits a to b of a word, as a number
 abbrev pub bits : ℕ → ℕ → ℕ → ℕ

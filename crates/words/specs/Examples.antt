@@ -1,5 +1,5 @@
 -- Worked examples of words, fields and tests below a bound, each row closed by computation (rules 1).
-use Rattle.words.specs.Basics.{ℕ, suc, true, false, [], ◌∷◌, ◌++◌, map, eqb, ltb, replicate}
+use Rattle.std.specs.Prelude.{ℕ, suc, true, false, [], ◌∷◌, ◌++◌, map, eqb, ltb, replicate}
 use Rattle.words.specs.Bits.{bits, placed, with_bits}
 use Rattle.words.specs.Ones.{low_ones}
 use Rattle.words.specs.Words.{word_bytes, word_at, swapped, with_word, bytes_of, words_at}

@@ -1,5 +1,4 @@
 -- Words of 32 bits: their bits, fields that are ones only at their low end, words among bytes; tests of the numbers below a bound; and rows.
-pub mod Basics
 pub mod Bits
 pub mod Ones
 pub mod Words

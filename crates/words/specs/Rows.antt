@@ -1,5 +1,5 @@
 -- Tables of cases: what a definition computes beside what the papers state; and words that have one bit alone, or lack one alone.
-use Rattle.words.specs.Basics.{ℕ, zero, suc, ◌-◌, ◌^◌, ◌≡◌, Bool, true, false, List, [], ◌∷◌, ◌++◌, map, replicate}
+use Rattle.std.specs.Prelude.{ℕ, zero, suc, ◌-◌, ◌^◌, Bool, true, false, List, [], ◌∷◌, ◌++◌, map, ◌≡◌, replicate}
 
 -- each row's computed value is the one stated beside it
 pub record Hold {A : Type 0} (rows : List (A × A)) : Type 0 where

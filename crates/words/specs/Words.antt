@@ -1,5 +1,6 @@
 -- Big-endian words of 32 bits in a list of bytes.
-use Rattle.words.specs.Basics.{ℕ, zero, suc, ◌+◌, List, [], ◌∷◌, ◌++◌, get_or, sets}
+use Rattle.std.specs.Prelude.{ℕ, zero, suc, ◌+◌, List, [], ◌∷◌, ◌++◌, get_or}
+use Rattle.std.proofs.lemmas.List.Edits.{sets}
 use Rattle.words.specs.Bits.{bits, placed}
 
 -- the four bytes of a word, the most significant first

@@ -51,7 +51,7 @@ pub fn word_of(a: u8, b: u8, c: u8, d: u8) -> u32
 }
 
 // The four bytes from `at` on as a little-endian machine loads them: the word with its bytes in reverse order.
-fn raw_word(s: &[u8], at: usize) -> u32
+pub fn raw_word(s: &[u8], at: usize) -> u32
     requires { at + 4 ≤ length s.now }
     ensures { result ≡ swapped (word_at s.now at) }
 {

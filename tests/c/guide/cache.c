@@ -11,8 +11,7 @@
 #include "cache.inc"
 
 enum { SIZE = 0x20000, CALLS = 40000 };
-enum left_out { NOTHING, UNMAP, PROTECT, CLEAR, NEW_TABLE, OTHER_WRITER, EARLY, REFUSED, NOT_ZEROS,
-                OTHER_CACHE, FLAWS };
+enum left_out { NOTHING, UNMAP, PROTECT, CLEAR, NEW_TABLE, OTHER_WRITER, EARLY, REFUSED, NOT_ZEROS, FLAWS };
 
 /* Two tables, in the two halves of memory. */
 static const uint32_t sdr1s[2] = { 0x00000000u, 0x00010000u };
@@ -21,7 +20,7 @@ static uint8_t memories[2][SIZE];
 static struct core cores[2];
 static uint8_t cache[MMU_CACHE_SIZE];
 static uint32_t now; /* Which table is in use. */
-static unsigned long hits, hit_faults, over_edge, used;
+static unsigned long hits, hit_faults, over_edge;
 
 /* Registers of both cores: a segment's VSID, keys and N, or a data block on and off. The cache stays as it is. */
 static void change_registers(void)
@@ -91,24 +90,6 @@ static void change_table(enum left_out flaw)
         tlbia(cache);
 }
 
-/* A step of a sweep over both tables, one with the cache in use and one with zeros; both must list the same. */
-static void sweep(enum left_out flaw)
-{
-    uint32_t group = (some_vsid() ^ some_page()) & 0x3FFu, i;
-    static uint8_t zeros[MMU_CACHE_SIZE];
-    uint8_t pages[2][MMU_SWEPT_SIZE];
-    uint64_t returned[2];
-    for (i = 0; i < 2; i++)
-        returned[i] = mmu_sweep(sdr1s[now], group, memories[i] + sdr1s[now], 65536,
-                                i && flaw != OTHER_CACHE ? cache : zeros, MMU_CACHE_SIZE, pages[i], MMU_SWEPT_SIZE);
-    EXPECT(mmu_result_of(returned[0]) == MMU_DONE);
-    EXPECT((returned[0] == returned[1] && memcmp(pages[0], pages[1], MMU_SWEPT_SIZE) == 0) || flaw != NOTHING);
-    for (i = 0; i < MMU_CACHE_SIZE; i++)
-        EXPECT(zeros[i] == 0);
-    for (i = 0; i < mmu_count_of(returned[1]); i++)
-        used += mmu_read_swept(pages[1], i).referenced;
-}
-
 /* One access of both cores, every other one over or up to a page's end; whether they answer the same. */
 static int access_agrees(void)
 {
@@ -164,8 +145,6 @@ static int run(enum left_out flaw)
             write_table(flaw);
         else if (choice < 40)
             change_table(flaw);
-        else if (choice < 48)
-            sweep(flaw);
         else if (!access_agrees())
             return call;
         if (memcmp(memories[0], memories[1], SIZE) != 0)
@@ -191,7 +170,7 @@ int main(void)
 {
     int flaw;
     test_all_sets();
-    EXPECT(run(NOTHING) == CALLS && over_edge > 100 && hits > 1000 && hit_faults > 100 && used > 100);
+    EXPECT(run(NOTHING) == CALLS && over_edge > 100 && hits > 1000 && hit_faults > 100);
     for (flaw = UNMAP; flaw < FLAWS; flaw++)
         EXPECT(run((enum left_out)flaw) < CALLS);
     return 0;

@@ -11,7 +11,7 @@
 #include "tlb.inc"
 
 enum { SIZE = 0x20000, TABLE = 0x10000, CALLS = 40000 };
-enum left_out { NOTHING, UNMAP, PROTECT, SWEEP, CLEAR, REGISTERS, KIND, FLAWS };
+enum left_out { NOTHING, UNMAP, PROTECT, CLEAR, REGISTERS, KIND, FLAWS };
 
 #define SDR1 0x00010000u
 
@@ -19,7 +19,6 @@ static uint8_t memories[2][SIZE];
 static struct core cores[2];
 static struct tlb tlb;
 static unsigned long over_edge; /* Accesses that were done in two parts. */
-static unsigned long used;      /* Pages that sweeps listed with R. */
 
 /* Registers of both cores: a segment's VSID, keys and N, or a data block on and off. */
 static void change_registers(enum left_out flaw)
@@ -58,25 +57,6 @@ static void change_table(enum left_out flaw)
         drop_all(&tlb);
 }
 
-/* A step of a sweep over both tables; both must list the same. */
-static void sweep(enum left_out flaw)
-{
-    uint32_t group = (some_vsid() ^ some_page()) & 0x3FFu, i;
-    static uint8_t zeros[MMU_CACHE_SIZE];
-    uint8_t pages[2][MMU_SWEPT_SIZE];
-    uint64_t returned[2];
-    for (i = 0; i < 2; i++)
-        returned[i] = mmu_sweep(SDR1, group, memories[i] + TABLE, 65536, zeros, sizeof zeros, pages[i], MMU_SWEPT_SIZE);
-    EXPECT(mmu_result_of(returned[0]) == MMU_DONE);
-    EXPECT((returned[0] == returned[1] && memcmp(pages[0], pages[1], MMU_SWEPT_SIZE) == 0) || flaw != NOTHING);
-    for (i = 0; i < mmu_count_of(returned[1]); i++) {
-        struct mmu_swept page = mmu_read_swept(pages[1], i);
-        used += page.referenced;
-        if (page.referenced && flaw != SWEEP)
-            drop_page(&tlb, page.page_index);
-    }
-}
-
 /* One access of both cores, every other one over or up to a page's end; whether they answer the same. */
 static int access_agrees(enum left_out flaw)
 {
@@ -112,8 +92,6 @@ static int run(enum left_out flaw)
             change_registers(flaw);
         else if (choice < 16)
             change_table(flaw);
-        else if (choice < 20)
-            sweep(flaw);
         else if (!access_agrees(flaw))
             return call;
         if (memcmp(memories[0], memories[1], SIZE) != 0)
@@ -125,7 +103,7 @@ static int run(enum left_out flaw)
 int main(void)
 {
     int flaw;
-    EXPECT(run(NOTHING) == CALLS && over_edge > 100 && used > 100);
+    EXPECT(run(NOTHING) == CALLS && over_edge > 100);
     for (flaw = UNMAP; flaw < FLAWS; flaw++)
         EXPECT(run((enum left_out)flaw) < CALLS);
     return 0;

@@ -4,9 +4,9 @@ use std::fmt::Write;
 
 use model::bytes::Model;
 use model::cache::{CACHE, SET};
-use model::call::{Call, HandedBack, Lengths, Lent};
+use model::call::{Call, Lengths, Lent};
 use model::registers::{Layout, Side, LONG_PAGE, SHORT_PAGE};
-use model::search::{places, Place, ENTRY, GROUP};
+use model::search::{places, Place};
 use model::words::word_at;
 
 use crate::machine::Machine;
@@ -59,8 +59,6 @@ pub struct Bench<'a> {
     pub other: Region,
     pub cache: Region,
     pub answer: Region,
-    /// What the subject's last call counted.
-    pub count: u32,
     pub tally: Tally,
 }
 
@@ -75,7 +73,6 @@ impl<'a> Bench<'a> {
             other: Region::new(other),
             cache: Region::new(CACHE),
             answer: Region::new(0),
-            count: 0,
             tally: Tally::default(),
         };
         bench.registers.lend(SHORT_PAGE, Edge::End);
@@ -116,7 +113,7 @@ impl<'a> Bench<'a> {
     pub fn perform(&mut self, call: &Call, lending: Lending) -> u32 {
         self.soil_answer();
         self.tally.calls += 1;
-        self.on_subject(call, lending).number
+        self.on_subject(call, lending)
     }
 
     /// The call on the table, with the model or without it.
@@ -143,9 +140,9 @@ impl<'a> Bench<'a> {
         let before = self.before(call, lending);
         let expected = self.on_model(call, lending);
         let got = self.on_subject(call, lending);
-        self.tally.count(call, expected.number, self.registers.length());
+        self.tally.count(call, expected, self.registers.length());
         if expected != got {
-            let text = format!("result\n  expected {expected:?}\n  got      {got:?}");
+            let text = format!("result number\n  expected {expected}\n  got      {got}");
             return Err(self.difference(call, lending, &before, &text));
         }
         for (name, region) in [
@@ -161,7 +158,7 @@ impl<'a> Bench<'a> {
                 return Err(self.difference(call, lending, &before, &text));
             }
         }
-        Ok(got.number)
+        Ok(got)
     }
 
     /// Old bytes in the answer, other ones each time, show what a call leaves unwritten.
@@ -190,34 +187,28 @@ impl<'a> Bench<'a> {
             _ => Vec::new(),
         };
         let pages = pages.into_iter();
-        let mut places: Vec<Place> =
-            pages.flat_map(|(sdr1, page)| places(sdr1, page, table)).collect();
-        if let Call::Sweep { group, .. } = *call {
-            places.extend(entries_of(group as usize, table));
-        }
+        let places = pages.flat_map(|(sdr1, page)| places(sdr1, page, table)).collect();
         Before { registers: registers.to_vec(), places, sets }
     }
 
-    fn on_model(&mut self, call: &Call, lending: Lending) -> HandedBack {
+    fn on_model(&mut self, call: &Call, lending: Lending) -> u32 {
         let table = match lending {
             Lending::Table => self.table.model(),
             Lending::Other => self.other.model(),
         };
         let (registers, cache) = (self.registers.model(), self.cache.model());
         let lent = Lent { registers, table, cache, answer: self.answer.model() };
-        self.model.handed_back(call, lent)
+        self.model.perform(call, lent)
     }
 
-    fn on_subject(&mut self, call: &Call, lending: Lending) -> HandedBack {
+    fn on_subject(&mut self, call: &Call, lending: Lending) -> u32 {
         let table = match lending {
             Lending::Table => self.table.subject(),
             Lending::Other => self.other.subject(),
         };
         let (registers, cache) = (self.registers.subject(), self.cache.subject());
         let lent = Lent { registers, table, cache, answer: self.answer.subject() };
-        let got = self.subject.handed_back(call, lent);
-        self.count = got.count;
-        got
+        self.subject.perform(call, lent)
     }
 
     /// A report of a difference: the inputs, then what was expected and what was got.
@@ -244,16 +235,6 @@ impl<'a> Bench<'a> {
         let calls = self.tally.calls;
         Difference { text, calls }
     }
-}
-
-/// The entries of a group, where the table has it.
-fn entries_of(group: usize, table: &[u8]) -> Vec<Place> {
-    let entry = |entry: usize| {
-        let bytes = table.get(GROUP * group + ENTRY * entry..)?.get(..ENTRY)?;
-        let (first, second) = (word_at(bytes, 0), word_at(bytes, 4));
-        Some(Place { group, entry, h: first >> 6 & 1, first, second })
-    };
-    (0..8).filter_map(entry).collect()
 }
 
 fn lent_as_table<'a>(table: &'a Region, other: &'a Region, lending: Lending) -> &'a Region {

@@ -7,7 +7,7 @@ use std::collections::BTreeSet;
 
 use model::bytes::Model;
 use model::cache::{Cache, CACHE, HIT_ENTRY};
-use model::call::{Access, Call, HandedBack, Page};
+use model::call::{Access, Call, Page};
 use model::finite_map::FiniteMap;
 use model::record;
 use model::registers::Registers;
@@ -19,11 +19,10 @@ use crate::machine::Machine;
 use crate::random::Random;
 use crate::region::Edge;
 use crate::scenes::{arguments, groups, operands, registers};
-use crate::swept;
 use crate::tally::Tally;
 
 /// Ones of the mask, how many runs, and how many calls in each.
-const RUNS: [(u32, u32, u32); 3] = [(0, 300, 500), (1, 20, 500), (3, 6, 500)];
+const RUNS: [(u32, u32, u32); 3] = [(0, 260, 500), (1, 20, 500), (3, 6, 500)];
 
 /// Room for slices of another length.
 const OTHER: usize = 2 * 65_536 + 4_096;
@@ -43,7 +42,7 @@ pub fn run_with(subject: &dyn Machine, factor: u32, judges: Judges) -> Result<Ta
         let [mut cached, plain] = [0; 2].map(|_| Bench::new(subject, 65_536 << ones, OTHER));
         cached.tally = tally;
         let mut stage = Stage {
-            random: Random::new(0x2107 + u64::from(ones)),
+            random: Random::new(0x2007 + u64::from(ones)),
             cached,
             plain,
             judges,
@@ -160,7 +159,6 @@ impl Stage<'_> {
             23 if random.once_in(6) => Call::Clear { sdr1 },
             23..=26 => Call::Invalidate { page_index: page.page_index },
             27..=32 => Call::Access(self.access(page)),
-            33..=35 => Call::Sweep { sdr1, group: swept::group_of(random, sdr1, page) },
             _ => Call::AccessCached(self.access(page)),
         }
     }
@@ -285,14 +283,9 @@ impl Stage<'_> {
         if number == 11 && old_cache != self.cached.cache.subject_bytes() {
             return Err(self.cached.difference(&call, lending, &before, "the cache changed at 11"));
         }
-        let written = call.has_written(number, lengths.answer);
+        let written = call.answer_length() == Some(lengths.answer) && number != 11;
         let words: Option<Vec<u32>> = written.then(|| words_of(self.cached.answer.subject_bytes()));
-        let count = self.cached.count;
-        let counted = match call {
-            Call::Sweep { .. } => self.plain.count,
-            _ => 0,
-        };
-        let same = [number, count] == [expected, counted]
+        let same = number == expected
             && self.cached.table.subject_bytes() == self.plain.table.subject_bytes()
             && words.as_ref().is_none_or(|words| {
                 let mut others = words_of(self.plain.answer.subject_bytes());
@@ -310,9 +303,8 @@ impl Stage<'_> {
             return Err(self.cached.difference(&call, lending, &before, &text));
         }
         if let Some(map) = &mut self.map {
-            let listed = swept::listed(&call, count, self.cached.answer.subject_bytes());
-            let reply = map.perform(&call, &registers, lengths, &listed);
-            if !reply.allows(HandedBack { number, count }, words.as_deref()) {
+            let reply = map.perform(&call, &registers, lengths);
+            if !reply.allows(number, words.as_deref()) {
                 let text = format!(
                     "the finite map\n  expected {reply:x?}\n  got      {number} {words:x?}"
                 );
@@ -322,8 +314,7 @@ impl Stage<'_> {
         Ok(number)
     }
 
-    /// What the call gives in the run that has no cache: an access that would be 11 for its cache is 11, and a sweep is
-    /// lent zeros.
+    /// What the call gives in the run that has no cache: an access that would be 11 for its cache is 11.
     fn without_cache(&mut self, call: &Call, lending: Lending) -> Result<u32, Difference> {
         let fits = self.cached.cache.length() == CACHE;
         match *call {
@@ -332,10 +323,7 @@ impl Stage<'_> {
             Call::AccessCached(access) => {
                 self.plain.judge_lent(&Call::Access(access), lending, self.judges)
             }
-            _ => {
-                self.plain.cache.lend(self.cached.cache.length(), Edge::End);
-                self.plain.judge_lent(call, lending, self.judges)
-            }
+            _ => self.plain.judge_lent(call, lending, self.judges),
         }
     }
 

@@ -3,14 +3,13 @@
 use model::bytes::Model;
 use model::flaw::{CacheFlaw, Flaw, MapFlaw, RecordFlaw};
 use model::rights_flaw::RightsFlaw;
-use model::sweep_flaw::SweepFlaw;
 
 use crate::bench::{self, Difference};
 use crate::lists::{self, Judges};
 use crate::tally::Tally;
 use crate::{
     cached, cached_limits, cached_runs, edges, exhaustive, lengths, lost, lost_limits, packing,
-    quick, rights, singles, stretches, sweep_limits, swept, turned, widened, Section,
+    quick, rights, singles, turned, widened, Section,
 };
 
 /// The comparisons a wrong model goes through, as the library does, until one finds it.
@@ -37,12 +36,6 @@ pub struct Found {
     pub of_rights: usize,
     /// Those of them that three accesses of the same machine show, with no other judge.
     pub by_accesses: usize,
-    /// Those about sweeps.
-    pub of_sweeps: usize,
-    /// Those of them that the finite map shows, with no other judge.
-    pub by_map_of_sweeps: usize,
-    /// Those of them that a stretch shows in which each page is listed once, with no other judge.
-    pub by_stretches: usize,
     /// Those that two runs show of which one lacks a call, with no other judge.
     pub by_lost_call: usize,
     pub maps: usize,
@@ -74,7 +67,6 @@ pub fn run(factor: u32) -> Result<Found, Difference> {
     of_the_cache(&mut found, factor)?;
     by_a_run_without_cache(&mut found, factor)?;
     of_rights(&mut found, factor)?;
-    of_sweeps(&mut found, factor)?;
     by_a_lost_call(&mut found, factor)?;
     of_the_map(&mut found, factor)?;
     left_to_the_table(&mut found, factor)?;
@@ -174,13 +166,11 @@ fn by_a_run_without_cache(found: &mut Found, factor: u32) -> Result<(), Differen
     let alone = bench::Judges::StatementAlone;
     cached_limits::run(&Model::default(), factor)?;
     cached_runs::run_with(&Model::default(), factor, alone)?;
-    let unseen = CacheFlaw::UNSEEN_IN_RUNS.into_iter().map(Flaw::Cache);
-    for flaw in unseen.chain(SweepFlaw::UNSEEN_IN_RUNS.into_iter().map(Flaw::Sweep)) {
-        cached_runs::run_with(&Model::with(flaw), factor, alone)?;
+    for flaw in CacheFlaw::UNSEEN_IN_RUNS {
+        cached_runs::run_with(&Model::with(Flaw::Cache(flaw)), factor, alone)?;
     }
-    let seen = CacheFlaw::IN_RUNS.into_iter().map(Flaw::Cache);
-    for flaw in seen.chain(SweepFlaw::IN_RUNS.into_iter().map(Flaw::Sweep)) {
-        let outcome = cached_runs::run_with(&Model::with(flaw), factor, alone);
+    for flaw in CacheFlaw::IN_RUNS {
+        let outcome = cached_runs::run_with(&Model::with(Flaw::Cache(flaw)), factor, alone);
         found.calls(outcome, &format!("{flaw:?} by a run without a cache"))?;
         found.by_runs += 1;
     }
@@ -200,33 +190,6 @@ fn of_rights(found: &mut Found, factor: u32) -> Result<(), Difference> {
         let outcome = rights::run_with(&model, factor, alone);
         found.calls(outcome, &format!("{flaw:?} by three accesses"))?;
         found.by_accesses += 1;
-    }
-    Ok(())
-}
-
-/// Each mistake about sweeps shows on any bytes beside the model, or by lengths. Some show again beside the finite map
-/// alone, which is told the pages listed; some by stretches alone, in which the right one lists each page once.
-fn of_sweeps(found: &mut Found, factor: u32) -> Result<(), Difference> {
-    let alone = bench::Judges::StatementAlone;
-    swept::run(&Model::default(), factor)?;
-    sweep_limits::run(&Model::default(), factor)?;
-    stretches::run_with(&Model::default(), factor, alone)?;
-    for flaw in SweepFlaw::ALL {
-        let model = Model::with(Flaw::Sweep(flaw));
-        let outcome = swept::run(&model, factor);
-        found.calls(outcome, &format!("{flaw:?} by groups swept"))?;
-        found.of_sweeps += 1;
-    }
-    for flaw in SweepFlaw::IN_MAP {
-        let model = Model::with(Flaw::Sweep(flaw));
-        let outcome = lists::run_with(&model, factor, Judges::MapAlone, None);
-        found.calls(outcome, &format!("{flaw:?} by the finite map"))?;
-        found.by_map_of_sweeps += 1;
-    }
-    for flaw in SweepFlaw::IN_STRETCHES {
-        let outcome = stretches::run_with(&Model::with(Flaw::Sweep(flaw)), factor, alone);
-        found.calls(outcome, &format!("{flaw:?} by a stretch"))?;
-        found.by_stretches += 1;
     }
     Ok(())
 }
@@ -256,12 +219,11 @@ fn of_the_map(found: &mut Found, factor: u32) -> Result<(), Difference> {
 }
 
 /// A wrong place passes the finite map, which has none to hold it to; and so do rights that are wrong about it, about
-/// entries that no call leaves, or at 11, and sweeps that list too few.
+/// entries that no call leaves, or at 11.
 fn left_to_the_table(found: &mut Found, factor: u32) -> Result<(), Difference> {
     let of_rights = RightsFlaw::UNSEEN_BY_MAP.into_iter().map(Flaw::Rights);
     let of_place = RecordFlaw::OF_PLACE.into_iter().map(Flaw::Record).chain(Flaw::OF_FREE_PLACE);
-    let of_sweeps = SweepFlaw::UNSEEN_BY_MAP.into_iter().map(Flaw::Sweep);
-    for flaw in of_place.chain(of_rights).chain(of_sweeps) {
+    for flaw in of_place.chain(of_rights) {
         let model = Model::with(flaw);
         lists::run_with(&model, factor, Judges::MapAlone, None)?;
         found.left_to_table += 1;

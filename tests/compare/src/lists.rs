@@ -2,7 +2,7 @@
 
 use std::collections::BTreeMap;
 
-use model::call::{Access, Call, HandedBack, Page};
+use model::call::{Access, Call, Page};
 use model::entry::Fields;
 use model::finite_map::FiniteMap;
 use model::flaw::MapFlaw;
@@ -13,7 +13,6 @@ use crate::machine::Machine;
 use crate::random::Random;
 use crate::region::Edge;
 use crate::scenes::{arguments, operands, registers};
-use crate::swept;
 use crate::tally::Tally;
 
 /// Ones of the mask, how many lists, and how many calls in each.
@@ -53,7 +52,7 @@ pub fn run(subject: &dyn Machine, factor: u32) -> Result<Tally, Difference> {
 
 /// Results that have to occur in the lists.
 #[rustfmt::skip]
-const MET: [(&str, u32); 43] = [
+const MET: [(&str, u32); 38] = [
     ("clear", 0), ("clear", 1), ("clear", 2),
     ("map", 0), ("map", 1), ("map", 2), ("map", 6), ("map", 7), ("map", 9),
     ("unmap", 0), ("unmap", 1), ("unmap", 6), ("unmap", 8), ("unmap", 11),
@@ -63,7 +62,6 @@ const MET: [(&str, u32); 43] = [
     ("access", 12),
     ("rights", 0), ("rights", 1), ("rights", 2), ("rights", 3), ("rights", 4), ("rights", 5),
     ("rights", 6), ("rights", 11),
-    ("sweep", 0), ("sweep", 1), ("sweep", 2), ("sweep", 11), ("sweep", 13),
 ];
 
 pub fn run_with(
@@ -115,7 +113,6 @@ impl Stage<'_> {
         let random = &mut self.random;
         self.bench.table.fill(|bytes| random.fill(bytes));
         self.bench.other.fill(|bytes| random.fill(bytes));
-        self.bench.cache.fill(|bytes| random.fill(bytes));
         self.perform(Call::Clear { sdr1: self.sdr1 }, Lending::Table)?;
         for number in 0..calls {
             let quarter = number * 4 / calls;
@@ -185,12 +182,11 @@ impl Stage<'_> {
         }
     }
 
-    /// A call that no rule on numbers, registers or lengths refuses, but a sweep past the last group; an access has no
-    /// operand yet.
+    /// A call that no rule on numbers, registers or lengths refuses; an access has no operand yet.
     fn call(&mut self, page: Page, filling: bool) -> Call {
         let random = &mut self.random;
         let sdr1 = self.sdr1;
-        match random.below(if filling { 44 } else { 54 }) {
+        match random.below(if filling { 40 } else { 50 }) {
             0..=3 => Call::Look { sdr1, page },
             4..=8 => {
                 let pp = random.below(4);
@@ -211,13 +207,6 @@ impl Stage<'_> {
                 wimg: arguments::wimg(random),
                 pp: random.below(4),
             },
-            40..=43 => {
-                let group = match random.once_in(8) {
-                    true => arguments::past_the_end(random, sdr1),
-                    false => swept::group_of(random, sdr1, page),
-                };
-                Call::Sweep { sdr1, group }
-            }
             _ => Call::Unmap { sdr1, page },
         }
     }
@@ -348,16 +337,14 @@ impl Stage<'_> {
             Judges::MapAlone => self.bench.perform(&call, lending),
         };
         let answer = self.bench.answer.subject_bytes();
-        let written = call.has_written(number, answer.len());
-        let listed = swept::listed(&call, self.bench.count, answer);
+        let written = call.answer_length() == Some(answer.len()) && number != 11;
         let words: Vec<u32> = answer.chunks_exact(4).map(|word| word_at(word, 0)).collect();
         let words = written.then_some(&words[..]);
-        let expected = self.map.perform(&call, &registers, lengths, &listed);
-        let got = HandedBack { number, count: self.bench.count };
-        if expected.allows(got, words) {
+        let expected = self.map.perform(&call, &registers, lengths);
+        if expected.allows(number, words) {
             return Ok(());
         }
-        let got = format!("{got:?} {words:x?}");
+        let got = format!("{number} {words:x?}");
         let text = format!("the finite map\n  expected {expected:x?}\n  got      {got}");
         let before = Before { registers, places: Vec::new(), sets: Vec::new() };
         Err(self.bench.difference(&call, lending, &before, &text))

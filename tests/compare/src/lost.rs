@@ -15,7 +15,6 @@ use crate::machine::Machine;
 use crate::random::Random;
 use crate::region::Edge;
 use crate::scenes::{arguments, operands, registers};
-use crate::swept;
 use crate::tally::Tally;
 
 /// Ones of the mask, how many pairs of runs, and how many calls in each run after the maps that fill the groups.
@@ -227,8 +226,7 @@ impl Stage<'_> {
             58..=60 => Call::Look { sdr1, page },
             61 if random.once_in(3) => Call::Clear { sdr1 },
             61..=66 => Call::Invalidate { page_index: page.page_index },
-            67..=72 => Call::Access(self.access(page)),
-            73..=77 => Call::Sweep { sdr1, group: swept::group_of(random, sdr1, page) },
+            67..=76 => Call::Access(self.access(page)),
             _ => Call::AccessCached(self.access(page)),
         };
         self.lend(&call, page.vsid);

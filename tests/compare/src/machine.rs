@@ -2,39 +2,27 @@
 
 use mmu::Mmu;
 use model::bytes::Model;
-use model::call::{Call, HandedBack, Lent, Page};
+use model::call::{Call, Lent, Page};
 
 use crate::watch;
 
 pub trait Machine {
-    fn handed_back(&self, call: &Call, lent: Lent) -> HandedBack;
-
-    /// A call of which the number is wanted alone.
-    fn perform(&self, call: &Call, lent: Lent) -> u32 {
-        self.handed_back(call, lent).number
-    }
+    fn perform(&self, call: &Call, lent: Lent) -> u32;
 }
 
 impl Machine for Model {
-    fn handed_back(&self, call: &Call, lent: Lent) -> HandedBack {
-        Model::handed_back(self, call, lent)
+    fn perform(&self, call: &Call, lent: Lent) -> u32 {
+        Model::perform(self, call, lent)
     }
 }
 
 impl Machine for Mmu {
-    fn handed_back(&self, call: &Call, lent: Lent) -> HandedBack {
-        watch::during(call, lent.lengths(), || match *call {
-            Call::Sweep { sdr1, group } => {
-                let Lent { table, cache, answer, .. } = lent;
-                HandedBack::of_both(self.sweep(sdr1, group, table, cache, answer))
-            }
-            _ => HandedBack::of_number(number(*self, call, lent)),
-        })
+    fn perform(&self, call: &Call, lent: Lent) -> u32 {
+        watch::during(call, lent.lengths(), || call_library(*self, call, lent))
     }
 }
 
-/// A call that counts nothing.
-fn number(library: Mmu, call: &Call, lent: Lent) -> u32 {
+fn call_library(library: Mmu, call: &Call, lent: Lent) -> u32 {
     let Lent { registers, table, cache, answer } = lent;
     let numbers = |page: Page| [page.vsid, page.page_index];
     match *call {
@@ -57,7 +45,6 @@ fn number(library: Mmu, call: &Call, lent: Lent) -> u32 {
         }
         Call::Rights { mode, address } => library.rights(registers, mode, address, table, answer),
         Call::Invalidate { page_index } => library.invalidate(page_index, cache),
-        Call::Sweep { .. } => panic!("a sweep counts"),
         Call::Pack(fields) => library.pack(fields.list(), answer),
         Call::Unpack { first, second } => library.unpack(first, second, answer),
     }

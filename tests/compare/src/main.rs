@@ -30,9 +30,6 @@ mod region;
 mod rights;
 mod scenes;
 mod singles;
-mod stretches;
-mod sweep_limits;
-mod swept;
 mod tally;
 mod told;
 mod turned;
@@ -54,7 +51,7 @@ use tally::Tally;
 /// A comparison of some machine with the model, its random part so many times as long.
 type Section = fn(&dyn Machine, u32) -> Result<Tally, Difference>;
 
-const SECTIONS: [(&str, Empty, Section); 20] = [
+const SECTIONS: [(&str, Empty, Section); 17] = [
     ("recorded accesses", Empty::Null, vectors::run),
     ("packing", Empty::Null, packing::run),
     ("complete tables", Empty::Null, exhaustive::run),
@@ -70,9 +67,6 @@ const SECTIONS: [(&str, Empty, Section); 20] = [
     ("caches of any bytes", Empty::Null, cached::run),
     ("runs with a cache", Empty::Null, cached_runs::run),
     ("limits of the promise", Empty::Null, cached_limits::run),
-    ("groups swept", Empty::Null, swept::run),
-    ("stretches with sweeps", Empty::Null, stretches::run),
-    ("limits of a sweep", Empty::Null, sweep_limits::run),
     ("runs with a lost call", Empty::Null, lost::run),
     ("limits of a lost call", Empty::Null, lost_limits::run),
 ];
@@ -133,7 +127,6 @@ fn test_the_tests(factor: u32) -> Result<(), Difference> {
          {} more by a bit turned at a place, {} more at the edges of the quick test; \
          of the cache {}, {} of them by a run without a cache alone; \
          of rights {}, {} of them by three accesses alone; \
-         of sweeps {}, {} of them by the finite map alone, {} by a stretch alone; \
          wrong maps found: {}; none took more than {} calls; {} wrong models only the table shows",
         found.models,
         found.by_map,
@@ -147,9 +140,6 @@ fn test_the_tests(factor: u32) -> Result<(), Difference> {
         found.by_runs,
         found.of_rights,
         found.by_accesses,
-        found.of_sweeps,
-        found.by_map_of_sweeps,
-        found.by_stretches,
         found.maps,
         found.most_calls,
         found.left_to_table
@@ -200,15 +190,6 @@ fn print_results(total: &Tally) {
         counts.join("  ")
     );
     println!("maps that took a place in front of used entries: {}", total.gaps.in_front);
-    let counts: Vec<_> =
-        total.swept.by_count().iter().map(|(pages, count)| format!("{pages}: {count}")).collect();
-    println!("steps of sweeps over any bytes, by the pages listed: {}", counts.join("  "));
-    println!(
-        "pages mapped throughout a stretch, each listed once: {}; unmapped between, listed never {}, twice {}",
-        total.stretches.of(stretches::STAYED),
-        total.stretches.of(stretches::NEVER),
-        total.stretches.of(stretches::TWICE)
-    );
     let lost = &total.lost;
     println!(
         "after calls later than a lost one, by {} looks: mapped pages differ {}, each has one {}; \

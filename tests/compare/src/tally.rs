@@ -16,8 +16,6 @@ use crate::hits::Hits;
 use crate::lost;
 use crate::operands::Operands;
 use crate::pages::Pages;
-use crate::stretches;
-use crate::swept::Swept;
 use crate::told::Told;
 
 /// Counts of calls by what they met.
@@ -40,8 +38,6 @@ pub struct Tally {
     pub hits: Hits,
     pub lost: lost::Counts,
     pub told: Told,
-    pub swept: Swept,
-    pub stretches: stretches::Counts,
 }
 
 impl Tally {
@@ -67,8 +63,6 @@ impl Tally {
         self.hits.add(&other.hits);
         self.lost.add(&other.lost);
         self.told.add(&other.told);
-        self.swept.add(&other.swept);
-        self.stretches.add(&other.stretches);
     }
 
     /// Notes the state a call comes upon.
@@ -237,7 +231,7 @@ const WITHOUT_CACHE: [&str; 10] = [
 ];
 
 /// Every result number a call can give.
-const NUMBERS: [(&str, &[u32]); 14] = [
+const NUMBERS: [(&str, &[u32]); 13] = [
     ("check", &[0, 11, 2, 3, 4, 5]),
     ("set", &[0, 11, 6, 2, 3, 4, 5]),
     ("clear", &[0, 2, 1]),
@@ -249,14 +243,13 @@ const NUMBERS: [(&str, &[u32]); 14] = [
     ("cached", &[0, 64, 65, 11, 6, 12, 2, 3, 4, 5, 1, 10]),
     ("rights", &[0, 11, 6, 2, 3, 4, 5, 1]),
     ("invalidate", &[0, 11, 6]),
-    ("sweep", &[0, 11, 2, 1, 13]),
     ("pack", &[0, 11, 6]),
     ("unpack", &[0, 11]),
 ];
 
 /// Two causes that can hold at once, the one to be answered first.
 #[rustfmt::skip]
-const ORDERS: [(&str, &[(u32, u32)]); 13] = [
+const ORDERS: [(&str, &[(u32, u32)]); 12] = [
     ("check", &[(2, 3), (2, 4), (2, 5), (3, 4), (3, 5), (4, 5)]),
     ("set", &[
         (11, 6), (6, 2), (6, 3), (6, 4), (6, 5),
@@ -289,7 +282,6 @@ const ORDERS: [(&str, &[(u32, u32)]); 13] = [
         (2, 3), (2, 4), (2, 5), (2, 1), (3, 4), (3, 5), (3, 1), (4, 5), (4, 1), (5, 1),
     ]),
     ("invalidate", &[(11, 6)]),
-    ("sweep", &[(11, 2), (11, 1), (11, 13), (2, 1), (2, 13), (1, 13)]),
     ("pack", &[(11, 6)]),
 ];
 

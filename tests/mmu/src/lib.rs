@@ -85,16 +85,6 @@ mod c {
             answer_len: usize,
         ) -> u32;
         pub fn mmu_invalidate(page_index: u32, cache: *mut u8, cache_len: usize) -> u32;
-        pub fn mmu_sweep(
-            sdr1: u32,
-            group: u32,
-            table: *mut u8,
-            table_len: usize,
-            cache: *mut u8,
-            cache_len: usize,
-            pages: *mut u8,
-            pages_len: usize,
-        ) -> u64;
         pub fn mmu_pack(
             v: u32,
             vsid: u32,
@@ -261,23 +251,6 @@ impl Mmu {
 
     pub fn invalidate(self, page_index: u32, cache: &mut [u8]) -> u32 {
         unsafe { c::mmu_invalidate(page_index, self.start_mut(cache), cache.len()) }
-    }
-
-    /// A step of a sweep: the count in the upper 32 bits, the result number in the lower.
-    pub fn sweep(
-        self,
-        sdr1: u32,
-        group: u32,
-        table: &mut [u8],
-        cache: &mut [u8],
-        pages: &mut [u8],
-    ) -> u64 {
-        let (start, length) = (self.start_mut(table), table.len());
-        let (cache_start, pages_start) = (self.start_mut(cache), self.start_mut(pages));
-        let (of_cache, of_pages) = (cache.len(), pages.len());
-        unsafe {
-            c::mmu_sweep(sdr1, group, start, length, cache_start, of_cache, pages_start, of_pages)
-        }
     }
 
     /// `fields` are V, VSID, H, API, RPN, R, C, WIMG and PP.

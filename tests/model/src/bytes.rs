@@ -1,7 +1,7 @@
 //! The calls on bytes: each gives its number and rewrites what is lent, as the rules say.
 
 use crate::cache::{Cache, Hit};
-use crate::call::{Access, Call, HandedBack, Lengths, Lent, Page, LOAD};
+use crate::call::{Access, Call, Lengths, Lent, Page, LOAD};
 use crate::entry::{Fields, CHANGED, IGNORED_BITS, REFERENCED};
 use crate::flaw::{CacheFlaw, Flaw, RecordFlaw};
 use crate::operand;
@@ -10,7 +10,6 @@ use crate::registers::{put_register, table_length, Registers, Segment};
 use crate::rights;
 use crate::rules;
 use crate::search::{self, Place, GROUP};
-use crate::sweep;
 use crate::translation::{self, BeforeSearch, Outcome};
 use crate::words::{put_word, put_words, word_at};
 
@@ -32,26 +31,8 @@ impl Model {
         self.flaw == Some(flaw)
     }
 
-    /// One call, of which the number is wanted alone.
-    pub fn perform(&self, call: &Call, lent: Lent) -> u32 {
-        self.handed_back(call, lent).number
-    }
-
     /// One call.
-    pub fn handed_back(&self, call: &Call, lent: Lent) -> HandedBack {
-        match *call {
-            Call::Sweep { sdr1, group } => {
-                match self.broken(call, lent.registers, lent.lengths()).first() {
-                    Some(&number) => sweep::refuse(self.flaw, number, lent.answer),
-                    None => sweep::perform(self.flaw, sdr1, group, lent),
-                }
-            }
-            _ => HandedBack::of_number(self.number(call, lent)),
-        }
-    }
-
-    /// A call that counts nothing.
-    fn number(&self, call: &Call, lent: Lent) -> u32 {
+    pub fn perform(&self, call: &Call, lent: Lent) -> u32 {
         if let Some(&number) = self.broken(call, lent.registers, lent.lengths()).first() {
             if let Call::SetRegister { number: register, word } = *call {
                 self.spoil_page(number, lent.registers, register, word);
@@ -99,7 +80,6 @@ impl Model {
                 cache.write(lent.cache);
                 0
             }
-            Call::Sweep { .. } => panic!("a sweep counts"),
             Call::Pack(fields) => {
                 put_words(lent.answer, &fields.words());
                 0

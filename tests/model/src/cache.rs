@@ -204,16 +204,6 @@ impl Cache {
         }
     }
 
-    /// The mistake by which a sweep empties only the places that hold its page.
-    pub fn empty_page(&mut self, page: Page) {
-        let number = self.number(page.page_index);
-        for place in 0..2 {
-            if self.holds(page, self.sets[number][place]) {
-                self.sets[number][place] = [0; 4];
-            }
-        }
-    }
-
     /// The mistakes by which a hit changes the cache.
     pub fn touch(&mut self, page: Page, hit: &Hit) {
         let number = self.number(page.page_index);

@@ -2,7 +2,6 @@
 
 use crate::entry::Fields;
 use crate::rights;
-use crate::sweep;
 
 /// A virtual page.
 #[derive(Clone, Copy, Debug, PartialEq, Eq, PartialOrd, Ord)]
@@ -79,17 +78,15 @@ pub enum Call {
     /// What an access of each kind to one byte would come to.
     Rights { mode: u32, address: u32 },
     Invalidate { page_index: u32 },
-    /// A step of a sweep.
-    Sweep { sdr1: u32, group: u32 },
     Pack(Fields),
     Unpack { first: u32, second: u32 },
 }
 
-/// The names of the fourteen calls.
+/// The names of the thirteen calls.
 #[rustfmt::skip]
-pub const NAMES: [&str; 14] = [
+pub const NAMES: [&str; 13] = [
     "check", "set", "clear", "map", "unmap", "protect", "look", "access", "cached", "rights",
-    "invalidate", "sweep", "pack", "unpack",
+    "invalidate", "pack", "unpack",
 ];
 
 impl Call {
@@ -106,7 +103,6 @@ impl Call {
             Call::AccessCached(_) => "cached",
             Call::Rights { .. } => "rights",
             Call::Invalidate { .. } => "invalidate",
-            Call::Sweep { .. } => "sweep",
             Call::Pack(_) => "pack",
             Call::Unpack { .. } => "unpack",
         }
@@ -119,8 +115,7 @@ impl Call {
             | Call::Map { sdr1, .. }
             | Call::Unmap { sdr1, .. }
             | Call::Protect { sdr1, .. }
-            | Call::Look { sdr1, .. }
-            | Call::Sweep { sdr1, .. } => Some(sdr1),
+            | Call::Look { sdr1, .. } => Some(sdr1),
             _ => None,
         }
     }
@@ -177,27 +172,19 @@ impl Call {
     }
 
     pub fn is_lent_cache(&self) -> bool {
-        matches!(self, Call::AccessCached(_) | Call::Invalidate { .. } | Call::Sweep { .. })
+        matches!(self, Call::AccessCached(_) | Call::Invalidate { .. })
     }
 
-    /// The length an answer has to have; pack's entry, unpack's fields and the bytes that a sweep tells pages in are
-    /// answers too.
+    /// The length an answer has to have; pack's entry and unpack's fields are answers too.
     pub fn answer_length(&self) -> Option<usize> {
         match self {
             Call::Unmap { .. } | Call::Look { .. } => Some(16),
             Call::Access(_) | Call::AccessCached(_) => Some(48),
             Call::Rights { .. } => Some(rights::SIZE),
-            Call::Sweep { .. } => Some(sweep::SWEPT),
             Call::Pack(_) => Some(8),
             Call::Unpack { .. } => Some(36),
             _ => None,
         }
-    }
-
-    /// Whether a call that ended with this number wrote an answer that was lent in this length.
-    pub fn has_written(&self, number: u32, answer: usize) -> bool {
-        let left = number == 11 || number != 0 && matches!(self, Call::Sweep { .. });
-        self.answer_length() == Some(answer) && !left
     }
 }
 
@@ -226,22 +213,4 @@ pub struct Lengths {
     pub table: usize,
     pub cache: usize,
     pub answer: usize,
-}
-
-/// What a call hands back: its number, and beside it its count, 0 where it counts nothing.
-#[derive(Clone, Copy, Debug, PartialEq, Eq)]
-pub struct HandedBack {
-    pub number: u32,
-    pub count: u32,
-}
-
-impl HandedBack {
-    pub fn of_number(number: u32) -> HandedBack {
-        HandedBack { number, count: 0 }
-    }
-
-    /// The number from the lower 32 bits, the count from the upper.
-    pub fn of_both(both: u64) -> HandedBack {
-        HandedBack { number: both as u32, count: (both >> 32) as u32 }
-    }
 }

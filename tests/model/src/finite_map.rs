@@ -3,37 +3,35 @@
 use std::collections::BTreeMap;
 
 use crate::arrangement;
-use crate::call::{Access, Call, HandedBack, Lengths, Page};
+use crate::call::{Access, Call, Lengths, Page};
 use crate::entry::Fields;
 use crate::flaw::{MapFlaw, RecordFlaw};
 use crate::operand;
 use crate::record;
 use crate::registers::Registers;
 use crate::rules;
-use crate::sweep::SWEPT;
 use crate::translation::{self, BeforeSearch, Outcome};
 
 /// What a page is mapped to; V, VSID, H and API are left zero here.
 type Frame = Fields;
 
-/// A call's number and count and, where it has an answer that is written, the answer's words; a word that
+/// A call's number and, where it has an answer that is written, the answer's words; a word that
 /// follows from the table alone is none.
 #[derive(Clone, Debug, PartialEq, Eq)]
 pub struct Reply {
     pub number: u32,
-    pub count: u32,
     pub answer: Option<Vec<Option<u32>>>,
 }
 
 impl Reply {
-    /// Whether a call's number and count and the words of its answer are these.
-    pub fn allows(&self, got: HandedBack, answer: Option<&[u32]>) -> bool {
+    /// Whether a call's number and the words of its answer are these.
+    pub fn allows(&self, number: u32, answer: Option<&[u32]>) -> bool {
         let same = |stated: &[Option<u32>], words: &[u32]| {
             let mut pairs = stated.iter().zip(words);
             stated.len() == words.len()
                 && pairs.all(|(one, word)| one.is_none_or(|one| one == *word))
         };
-        (self.number, self.count) == (got.number, got.count)
+        self.number == number
             && match (&self.answer, answer) {
                 (Some(stated), Some(words)) => same(stated, words),
                 (stated, words) => stated.is_none() && words.is_none(),
@@ -57,15 +55,9 @@ impl FiniteMap {
         &self.pages
     }
 
-    /// One call on a table: clear, map, unmap, protect, look, an access with a cache or without, rights, a step of a
-    /// sweep, for which it is told the pages listed; or an invalidate, which is nothing to the map.
-    pub fn perform(
-        &mut self,
-        call: &Call,
-        registers: &[u8],
-        lengths: Lengths,
-        listed: &[Page],
-    ) -> Reply {
+    /// One call on a table: clear, map, unmap, protect, look, an access with a cache or without, rights; or an
+    /// invalidate, which is nothing to the map.
+    pub fn perform(&mut self, call: &Call, registers: &[u8], lengths: Lengths) -> Reply {
         if let Some(&number) = rules::broken(None, call, registers, lengths).first() {
             return self.refusal(call, number);
         }
@@ -93,7 +85,6 @@ impl FiniteMap {
             Call::Access(access) | Call::AccessCached(access) => self.access(registers, access),
             Call::Rights { .. } => self.rights(call, registers),
             Call::Invalidate { .. } => done(None),
-            Call::Sweep { .. } => self.sweep(listed),
             _ => panic!("{} is no call on a table", call.name()),
         }
     }
@@ -160,7 +151,7 @@ impl FiniteMap {
         }
         let record = self.record(&registers, &ends);
         let answer = words.into_iter().map(Some).chain(record).collect();
-        Reply { number: words[0], count: 0, answer: Some(answer) }
+        Reply { number: words[0], answer: Some(answer) }
     }
 
     /// What each kind of access would answer, then what it would newly mark; the map stays as it is.
@@ -182,30 +173,7 @@ impl FiniteMap {
             }
         }
         answers.extend(marks);
-        Reply { number: 0, count: 0, answer: Some(answers) }
-    }
-
-    /// R and C of the pages told, in their order, and zeros; then R is cleared. Of a page that is not mapped there is
-    /// nothing to say, and no answer is allowed.
-    fn sweep(&mut self, listed: &[Page]) -> Reply {
-        let mut words = Vec::new();
-        for page in listed {
-            let Some(frame) = self.pages.get_mut(page) else {
-                return Reply { number: 0, count: 0, answer: None };
-            };
-            let r = match self.flaw {
-                Some(MapFlaw::SweepTellsCleared) => 0,
-                _ => frame.r,
-            };
-            words.extend([page.vsid, page.page_index, r, frame.c].map(Some));
-            match self.flaw {
-                Some(MapFlaw::SweepKeepsReferenced) => {}
-                Some(MapFlaw::SweepClearsChanged) => (frame.r, frame.c) = (0, 0),
-                _ => frame.r = 0,
-            }
-        }
-        words.resize(SWEPT / 4, Some(0));
-        Reply { number: 0, count: listed.len() as u32, answer: Some(words) }
+        Reply { number: 0, answer: Some(answers) }
     }
 
     /// The record of the part that is shown; where an entry was used, its place follows from the table.
@@ -222,8 +190,7 @@ impl FiniteMap {
 
     /// The number and zeros, where an answer is written at all.
     fn refusal(&self, call: &Call, number: u32) -> Reply {
-        let left = number == 11 || matches!(call, Call::Sweep { .. });
-        let written = call.answer_length().filter(|_| !left);
+        let written = call.answer_length().filter(|_| number != 11);
         let answer = written.map(|length| {
             let mut words = vec![Some(0); length / 4];
             words[0] = Some(number);
@@ -237,7 +204,7 @@ impl FiniteMap {
             }
             words
         });
-        Reply { number, count: 0, answer }
+        Reply { number, answer }
     }
 
     fn parts(&self, registers: &Registers, access: Access) -> Vec<Access> {
@@ -292,5 +259,5 @@ fn second_word(frame: &Frame) -> u32 {
 }
 
 fn done(second: Option<u32>) -> Reply {
-    Reply { number: 0, count: 0, answer: second.map(|word| [0, word, 0, 0].map(Some).to_vec()) }
+    Reply { number: 0, answer: second.map(|word| [0, word, 0, 0].map(Some).to_vec()) }
 }

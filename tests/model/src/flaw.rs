@@ -1,7 +1,6 @@
 //! Ways to get the rules wrong, each of which the comparison has to find in the model.
 
 use crate::rights_flaw::RightsFlaw;
-use crate::sweep_flaw::SweepFlaw;
 
 /// One mistake; a model without any is the one the library is held to.
 #[derive(Clone, Copy, Debug, PartialEq, Eq)]
@@ -261,8 +260,6 @@ pub enum Flaw {
     Cache(CacheFlaw),
     /// Rights are told wrongly.
     Rights(RightsFlaw),
-    /// A step of a sweep is done wrongly.
-    Sweep(SweepFlaw),
 }
 
 /// Ways to get the translation cache wrong.
@@ -764,19 +761,13 @@ pub enum MapFlaw {
     RightsMark,
     /// Rights tell the marks as they would stand.
     RightsTellMarks,
-    /// A sweep leaves R.
-    SweepKeepsReferenced,
-    /// A sweep clears C too.
-    SweepClearsChanged,
-    /// A sweep tells R after it was cleared.
-    SweepTellsCleared,
     /// The rule that decided is shown wrong.
     Record(RecordFlaw),
 }
 
 impl MapFlaw {
     /// Those about pages and marks.
-    pub const OF_PAGES: [MapFlaw; 15] = [
+    pub const OF_PAGES: [MapFlaw; 12] = [
         MapFlaw::GroupOfSeven,
         MapFlaw::GroupOfNine,
         MapFlaw::PrimaryOnly,
@@ -789,8 +780,5 @@ impl MapFlaw {
         MapFlaw::ChangedInFirstOnly,
         MapFlaw::RightsMark,
         MapFlaw::RightsTellMarks,
-        MapFlaw::SweepKeepsReferenced,
-        MapFlaw::SweepClearsChanged,
-        MapFlaw::SweepTellsCleared,
     ];
 }

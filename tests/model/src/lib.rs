@@ -1,4 +1,4 @@
-//! Document 01 and requests 1 to 9 written twice in plain Rust, from their text alone: the calls on
+//! Document 01 and requests 1 to 7 written twice in plain Rust, from their text alone: the calls on
 //! bytes (`bytes`), and the finite map (`finite_map`). They share the rules on numbers, registers and
 //! lengths, the parts of an operand, the steps of an access that need no table, and the rule and
 //! detail of a record; hash, search, room, marks and places are written in each on its own. Rights
@@ -19,7 +19,5 @@ pub mod rights;
 pub mod rights_flaw;
 pub mod rules;
 pub mod search;
-pub mod sweep;
-pub mod sweep_flaw;
 pub mod translation;
 pub mod words;

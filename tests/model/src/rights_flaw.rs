@@ -130,10 +130,11 @@ impl RightsFlaw {
         RightsFlaw::RealModeUnchecked,
     ];
 
-    /// Those that the finite map lets pass: about entries that no list after a clear leads to (several matches), about
-    /// the place, which follows from the table, and about an answer that is left at 11.
-    pub const UNSEEN_BY_MAP: [RightsFlaw; 6] = [
+    /// Those that the finite map lets pass: about entries that no list after a clear leads to (several matches, C without
+    /// R), about the place, which follows from the table, and about an answer that is left at 11.
+    pub const UNSEEN_BY_MAP: [RightsFlaw; 7] = [
         RightsFlaw::WrittenAtEleven,
+        RightsFlaw::ReferencedWithChanged,
         RightsFlaw::LastMatch,
         RightsFlaw::AnyMatch,
         RightsFlaw::MarksOfContradiction,

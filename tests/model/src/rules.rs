@@ -6,11 +6,10 @@ use crate::flaw::{CacheFlaw, Flaw};
 use crate::operand;
 use crate::registers::{sdr1_is_well_formed, table_length, Block, Layout, Registers};
 use crate::rights;
-use crate::sweep;
 use crate::words::{bits, ending_at};
 
 /// The numbers a call can be refused with before its table is searched, first tested first.
-fn order(flaw: Option<Flaw>, call: &Call) -> &'static [u32] {
+fn order(call: &Call) -> &'static [u32] {
     match call {
         Call::Check => &[11, 2, 3, 4, 5],
         Call::SetRegister { .. } => &[11, 6, 2, 3, 4, 5],
@@ -20,7 +19,6 @@ fn order(flaw: Option<Flaw>, call: &Call) -> &'static [u32] {
         Call::Access(_) | Call::AccessCached(_) => &[11, 6, 12, 2, 3, 4, 5, 1],
         Call::Rights { .. } => &[11, 6, 2, 3, 4, 5, 1],
         Call::Invalidate { .. } => &[11, 6],
-        Call::Sweep { .. } => sweep::order(flaw),
         Call::Pack(_) => &[11, 6],
         Call::Unpack { .. } => &[11],
     }
@@ -28,7 +26,7 @@ fn order(flaw: Option<Flaw>, call: &Call) -> &'static [u32] {
 
 /// Every rule that a call breaks, in the order of the refusals: the first is answered.
 pub fn broken(flaw: Option<Flaw>, call: &Call, registers: &[u8], lengths: Lengths) -> Vec<u32> {
-    let mut numbers = order(flaw, call).to_vec();
+    let mut numbers = order(call).to_vec();
     if let Some(Flaw::Swapped(earlier, later)) = flaw {
         swap(&mut numbers, earlier, later);
     }
@@ -52,7 +50,6 @@ pub fn broken(flaw: Option<Flaw>, call: &Call, registers: &[u8], lengths: Length
         11 => length_is_wrong(flaw, call, judged.is_some(), lengths),
         6 => !arguments_in_range(flaw, call, judged.as_ref()),
         12 => !operand_in_range(flaw, call),
-        13 => sweep::is_past_the_end(flaw, call),
         3..=5 if flaw == Some(Flaw::OpenTaken) && is_open() => false,
         3 if flaw == Some(Flaw::OpenRefused) && is_open() => true,
         2 => sdr1.is_some_and(|sdr1| !sdr1_fits(flaw, sdr1)),
@@ -108,7 +105,6 @@ fn judged_set(flaw: Option<Flaw>, call: &Call, registers: &[u8]) -> Option<Regis
 fn length_is_wrong(flaw: Option<Flaw>, call: &Call, has_registers: bool, lengths: Lengths) -> bool {
     let answer_is_wrong = match call {
         Call::Rights { .. } => !rights::length_fits(flaw, lengths.answer),
-        Call::Sweep { .. } => !sweep::length_fits(flaw, lengths.answer),
         _ => call.answer_length().is_some_and(|length| lengths.answer != length),
     };
     let cache_is_wrong = call.is_lent_cache() && !cache::length_fits(flaw, lengths.cache);

@@ -1,5 +1,9 @@
 -- `access_rights::new_marks` meets its contract: marks make a word larger or leave it, and a part has an entry to mark or none.
-use Rattle.words.proofs.Basics.{ℕ, ◌-◌, ◌≤◌, ◌≡◌, ap, ◌∙◌, subst, Bool, true, le-ltb, lt-ltb, needs}
+use borrow.Author.Rules.{rules}
+use borrow.Author.Tests.{lt-ltb, le-ltb}
+use mathlib.Core.Path.{◌≡◌, ap, subst, ◌∙◌}
+use mathlib.Core.Bool.{Bool, true}
+use Prim.Native.Nat.{ℕ, ◌-◌, ◌≤◌}
 use Rattle.entry.specs.Entry.{with_marks}
 use Rattle.protection.specs.Access.{storing}
 use Rattle.access_rights.proofs.Marks.{marks_grow}
@@ -14,10 +18,10 @@ word_is : (c : tie.After-with-marks) → let a = (begin c.before.before).args in
 word_is c = let a = (begin c.before.before).args in c.with-marks.ensures ∙ ap (λ (store : Bool). with_marks true store a.found.second) c.before.is_IsStore.ensures
 
 is-store-requires : tie.Need-is-store-requires
-is-store-requires c κs = search needs
+is-store-requires c κs = search rules
 
 with-marks-requires : tie.Need-with-marks-requires
-with-marks-requires c κs = search needs
+with-marks-requires c κs = search rules
 
 sub-result : tie.Need-overflow-sub-result
 sub-result c = rw c.with-marks.ensures (marks_grow _ _ _)

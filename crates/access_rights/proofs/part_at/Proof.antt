@@ -1,6 +1,12 @@
 -- `access_rights::part_at` meets its contract: real mode by itself, else the steps before the search by the pair of the kind's side, and those after it
 -- by what was found once for all kinds.
-use Rattle.words.proofs.Basics.{ℕ, ◌≡◌, refl, sym, ap, ◌∙◌, Bool, true, false, not, ⊎_elim, List, not-false, not-true, needs}
+use borrow.Author.Rules.{rules}
+use borrow.Author.Tests.{not-true, not-false}
+use mathlib.Core.Path.{◌≡◌, refl, sym, ap, ◌∙◌}
+use mathlib.Core.Logic.{⊎_elim}
+use mathlib.Core.Bool.{Bool, true, false, not}
+use mathlib.Core.List.{List}
+use Prim.Native.Nat.{ℕ}
 use Rattle.registers.specs.Set.{set_words, covering_pair}
 use Rattle.protection.specs.Access.{user_mode, fetching, relocated, side_of}
 use Rattle.translation.specs.Steps.{before_search}
@@ -19,10 +25,10 @@ abbrev early : tie.Start → Early
 early c = before_search 8 15 (set_words c.args.registers.now) c.args.mode c.args.kind c.args.address
 
 is-relocated-requires : tie.Need-is-relocated-requires
-is-relocated-requires c κs = search needs
+is-relocated-requires c κs = search rules
 
 real-part-requires : tie.Need-real-part-requires
-real-part-requires c κs = search needs
+real-part-requires c κs = search rules
 
 returns : tie.Need-returns
 unfolding part_by
@@ -35,7 +41,7 @@ returns c k t is =
     (before_real 8 15 (set_words a.registers.now) a.mode a.kind a.address (sym at-relocated.is-relocated.ensures ∙ not-true _ then1.if1.true)))
 
 is-fetch-requires : tie.Need-is-fetch-requires
-is-fetch-requires c κs = search needs
+is-fetch-requires c κs = search rules
 
 abbrev begin : tie.Joined2 → tie.Start
 begin c = let else1 = c.before.before in else1.before.before.before
@@ -61,13 +67,13 @@ before-search-requires c κs =
     (start.pre.0, sym else1.before.is-relocated.ensures ∙ not-false _ else1.if1.false, pair_is c)
 
 enum-known-part : tie.Need-enum-known-part
-enum-known-part c = search needs
+enum-known-part c = search rules
 
 enum-known-wanted : tie.Need-enum-known-wanted
-enum-known-wanted c = search needs
+enum-known-wanted c = search rules
 
 after-search-requires : tie.Need-after-search-requires
-after-search-requires c κs = search needs
+after-search-requires c κs = search rules
 
 returns-2 : tie.Need-returns-2
 returns-2 c k t is =

@@ -1,5 +1,6 @@
 -- `access_rights::refused` meets its contract: a refusal answers its number and zero words.
-use Rattle.words.proofs.Basics.{refl, ap₂, ◌∙◌, needs}
+use borrow.Author.Rules.{rules}
+use mathlib.Core.Path.{refl, ap₂, ◌∙◌}
 use Rattle.translation.specs.Operand.{stopped}
 use Rattle.translation.specs.declared.Answer.{Answer}
 use Rattle.translation.specs.declared.decision.Decision.{Decision}
@@ -7,13 +8,13 @@ use Rattle.access_rights.proofs.refused.Statement.{statement}
 use Rattle.access_rights.proofs.refused.Tie as tie
 
 refused-answer-requires : tie.Need-refused-answer-requires
-refused-answer-requires c κs = search needs
+refused-answer-requires c κs = search rules
 
 decided-requires : tie.Need-decided-requires
-decided-requires c κs = search needs
+decided-requires c κs = search rules
 
 stopped-requires : tie.Need-stopped-requires
-stopped-requires c κs = search needs
+stopped-requires c κs = search rules
 
 returns : tie.Need-returns
 returns c =

@@ -1,5 +1,8 @@
 -- `access_rights::right_of` meets its contract: the access of one byte is its only part, stopped or done.
-use Rattle.words.proofs.Basics.{ℕ, ◌≡◌, refl, sym, subst, List, needs}
+use borrow.Author.Rules.{rules}
+use mathlib.Core.Path.{◌≡◌, refl, sym, subst}
+use mathlib.Core.List.{List}
+use Prim.Native.Nat.{ℕ}
 use Rattle.register_words.specs.Sdr1.{mask_ones}
 use Rattle.registers.specs.Set.{sdr1_of, set_words}
 use Rattle.translation.specs.Steps.{before_search}
@@ -34,7 +37,7 @@ own c t stands =
     subst (ByTable (ones start) t a.kind a.address early) (sym (c.part_at.ensures (ones start) t stands.1)) (by_table (ones start) t a.kind a.address early)
 
 stopped-requires : tie.Need-stopped-requires
-stopped-requires c κs = search needs
+stopped-requires c κs = search rules
 
 returns : tie.Need-returns
 returns c t stands kept =
@@ -44,10 +47,10 @@ returns c t stands kept =
     stopped_tells (call start) start.requires.0 start.args.kind t kept stands.0 at_part.part_at.result (own at_part t stands) then1.if1.true _ c.stopped.ensures refl
 
 within-requires : tie.Need-within-requires
-within-requires c κs = search needs
+within-requires c κs = search rules
 
 new-marks-requires : tie.Need-new-marks-requires
-new-marks-requires c κs = search needs
+new-marks-requires c κs = search rules
 
 returns-2 : tie.Need-returns-2
 returns-2 c t stands kept =

@@ -1,9 +1,15 @@
 -- `access_rights::standing_at` meets its contract: the page that is searched for is the one that each kind wants.
-use Rattle.words.proofs.Basics.{ℕ, ◌^◌, ◌<◌, ◌≡◌, sym, ap, ap₂, ◌∙◌, subst, Bool, true, false, length, shr_mod, arith, needs}
+use borrow.Author.Rules.{rules}
+use mathlib.Core.Path.{◌≡◌, sym, ap, ap₂, subst, ◌∙◌}
+use mathlib.Core.Bool.{Bool, true, false}
+use Prim.Native.Nat.{ℕ, ◌^◌, ◌<◌}
+use native.Mathlib.Omega.{arith}
+use lib.Pow.{shr_mod}
 use Rattle.entry.proofs.Addresses.{index_lt}
 use Rattle.register_words.specs.Sdr1.{mask_ones}
 use Rattle.register_words.specs.Segment.{segment_vsid}
 use Rattle.groups.specs.Hash.{TableOf, SomeTable}
+use lib.ListN.{length}
 use Rattle.registers.specs.Set.{sdr1_of, set_words, segment_of, covering_pair}
 use Rattle.protection.specs.Access.{user_mode}
 use Rattle.translation.specs.Steps.{segment_at, wanted_of}
@@ -19,16 +25,16 @@ use Rattle.access_rights.proofs.standing_at.Statement.{statement}
 use Rattle.access_rights.proofs.standing_at.Tie as tie
 
 user-mode-requires : tie.Need-user-mode-requires
-user-mode-requires c κs = search needs
+user-mode-requires c κs = search rules
 
 cast-segment : tie.Need-overflow-cast-segment
-cast-segment c = search needs
+cast-segment c = search rules
 
 segment-requires : tie.Need-segment-requires
-segment-requires c κs = search needs
+segment-requires c κs = search rules
 
 wanted-of-requires : tie.Need-wanted-of-requires
-wanted-of-requires c κs = search needs
+wanted-of-requires c κs = search rules
 
 abbrev begin : tie.After-user-mode → tie.Start
 begin c = c.before.before.before
@@ -86,10 +92,10 @@ told_of c =
     search_told _ start.args.table.now at-wanted.wanted-of.result _ _ _ start.pre.1 (in_range_law at-wanted) at-primary.before.locate.ensures at-primary.in_primary_law.ensures c.in_secondary_law.ensures
 
 covering-pair-requires : tie.Need-covering-pair-requires
-covering-pair-requires c κs = search needs
+covering-pair-requires c κs = search rules
 
 covering-pair-requires-2 : tie.Need-covering-pair-requires-2
-covering-pair-requires-2 c κs = search needs
+covering-pair-requires-2 c κs = search rules
 
 found-in-requires : tie.Need-found-in-requires
 found-in-requires c κs =

@@ -1,5 +1,8 @@
 -- `access_rights::tell` meets its contract: the rules of a fetch are those of a load and a store, and each access is told by what stands at the address.
-use Rattle.words.proofs.Basics.{ℕ, ◌≡◌, sym, ◌∙◌, length, needs}
+use borrow.Author.Rules.{rules}
+use mathlib.Core.Path.{◌≡◌, sym, ◌∙◌}
+use Prim.Native.Nat.{ℕ}
+use lib.ListN.{length}
 use Rattle.registers.specs.Rules.{first_broken}
 use Rattle.theory_calls.specs.Request.{access, fed}
 use Rattle.theory_calls.specs.Rules.{refusal}
@@ -17,14 +20,14 @@ abbrev call : tie.Start → RightsCall
 call c = record { registers = c.args.registers.now; mode = c.args.mode; address = c.args.address }
 
 refusal-requires : tie.Need-refusal-requires
-refusal-requires c κs = search needs
+refusal-requires c κs = search rules
 
 -- the number is the refusal of a fetch
 refusal_is : (c : tie.After-refusal) → let start = begin c in c.refusal.result ≡ refusal (fed (access (asking (call start) 0))) (length start.args.table.now)
 refusal_is c = let start = begin c in c.refusal.ensures ∙ sym (own_rules_law (call start) start.pre 0 (length start.args.table.now))
 
 refused-requires : tie.Need-refused-requires
-refused-requires c κs = search needs
+refused-requires c κs = search rules
 
 returns : tie.Need-returns
 returns c =

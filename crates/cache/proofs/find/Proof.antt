@@ -1,6 +1,13 @@
 -- `cache::find` meets its contract. Where the arms meet, the byte is that of the place that holds the page, place 0 first, and a hit is what is met
 -- there.
-use Rattle.words.proofs.Basics.{ℕ, ◌+◌, ◌≤◌, ◌≡◌, sym, ap, ◌∙◌, Bool, true, false, ⊎_elim, length, arith, not-false, not-true, needs}
+use Prim.Native.Nat.{ℕ, ◌+◌, ◌≤◌}
+use mathlib.Core.Path.{◌≡◌, sym, ap, ◌∙◌}
+use mathlib.Core.Bool.{Bool, true, false}
+use mathlib.Core.Logic.{⊎_elim}
+use native.Mathlib.Omega.{arith}
+use borrow.Author.Rules.{rules}
+use borrow.Author.Tests.{not-true, not-false}
+use lib.ListN.{length}
 use Rattle.words.specs.Words.{word_at}
 use Rattle.entry.specs.Entry.{changed}
 use Rattle.groups.specs.Page.{Page}
@@ -11,10 +18,10 @@ use Rattle.cache.proofs.find.Statement.{statement}
 use Rattle.cache.proofs.find.Tie as tie
 
 set-start-requires : tie.Need-set-start-requires
-set-start-requires c κs = search needs
+set-start-requires c κs = search rules
 
 add-further : tie.Need-overflow-add-further
-add-further c = search needs
+add-further c = search rules
 
 holds-requires : tie.Need-holds-requires
 holds-requires c κs = let start = c.before.before in (omega (arith, set_lt start.args.index), start.requires.1)
@@ -72,7 +79,7 @@ read-word-requires : tie.Need-read-word-requires
 read-word-requires c κs = omega (arith, spot-le c.before)
 
 is-changed-requires : tie.Need-is-changed-requires
-is-changed-requires c κs = search needs
+is-changed-requires c κs = search rules
 
 read-word-requires-2 : tie.Need-read-word-requires-2
 read-word-requires-2 c κs = omega (arith, spot-le c.before.before.before)

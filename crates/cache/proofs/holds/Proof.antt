@@ -1,5 +1,5 @@
 -- `cache::holds` meets its contract: the shifted first word is V and VSID, and the third word is the page index.
-use Rattle.words.proofs.Basics.{needs}
+use borrow.Author.Rules.{rules}
 use Rattle.words.specs.Words.{word_at}
 use Rattle.words.proofs.Words.{word_lt}
 use Rattle.cache.specs.Cache.{holds}
@@ -8,13 +8,13 @@ use Rattle.cache.proofs.holds.Statement.{statement}
 use Rattle.cache.proofs.holds.Tie as tie
 
 read-word-requires : tie.Need-read-word-requires
-read-word-requires c κs = search needs
+read-word-requires c κs = search rules
 
 add-read-word : tie.Need-overflow-add-read-word
-add-read-word c = search needs
+add-read-word c = search rules
 
 read-word-requires-2 : tie.Need-read-word-requires-2
-read-word-requires-2 c κs = search needs
+read-word-requires-2 c κs = search rules
 
 returns : tie.Need-returns
 unfolding holds

@@ -1,5 +1,10 @@
 -- `cache::load_place` meets its contract: it asks both places in order, and then whose load is the newer.
-use Rattle.words.proofs.Basics.{ℕ, ◌+◌, ◌≡◌, sym, ap, ap₂, ◌∙◌, true, false, not, ◌&&◌, eqb, arith, needs}
+use mathlib.Core.Path.{◌≡◌, sym, ap, ap₂, ◌∙◌}
+use mathlib.Core.Bool.{true, false, not, ◌&&◌}
+use Prim.Native.Nat.{ℕ, ◌+◌}
+use native.Mathlib.Omega.{arith}
+use borrow.Author.Rules.{rules}
+use lib.Dec.{eqb}
 use Rattle.words.specs.Words.{word_at}
 use Rattle.groups.specs.Page.{Page}
 use Rattle.cache.specs.Cache.{place_at, holds, older_place}
@@ -28,7 +33,7 @@ returns : tie.Need-returns
 returns c = sym (load_0 _ _ (sym (held-0 c.before) ∙ c.if1.true))
 
 add_holds : tie.Need-overflow-add-holds
-add_holds c = search needs
+add_holds c = search rules
 
 holds-requires-2 : tie.Need-holds-requires-2
 holds-requires-2 c κs = let start = c.before.before.before in (omega (arith, set_lt start.args.index), start.requires.1)
@@ -37,16 +42,16 @@ returns-2 : tie.Need-returns-2
 returns-2 c = sym (load_1 _ _ (sym (held-0 c.before.before.before) ∙ c.before.before.if1.false) (sym (held-1 c.before) ∙ c.if2.true))
 
 add-read-word : tie.Need-overflow-add-read-word
-add-read-word c = search needs
+add-read-word c = search rules
 
 read-word-requires : tie.Need-read-word-requires
 read-word-requires c κs = omega (arith, set_lt (begin c.before.before.before).args.index)
 
 add-read-word-2 : tie.Need-overflow-add-read-word-2
-add-read-word-2 c = search needs
+add-read-word-2 c = search rules
 
 add-read-word-3 : tie.Need-overflow-add-read-word-3
-add-read-word-3 c = search needs
+add-read-word-3 c = search rules
 
 read-word-requires-2 : tie.Need-read-word-requires-2
 read-word-requires-2 c κs = let tests = c.before in omega (arith, set_lt (begin tests.before.before.before).args.index)

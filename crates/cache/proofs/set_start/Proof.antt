@@ -1,14 +1,15 @@
 -- `cache::set_start` meets its contract: the low six bits of the page index are its set, and a set is 32 bytes.
-use Rattle.words.proofs.Basics.{arith, needs}
+use native.Mathlib.Omega.{arith}
+use borrow.Author.Rules.{rules}
 use Rattle.cache.specs.Cache.{set_of}
 use Rattle.cache.proofs.set_start.Statement.{statement}
 use Rattle.cache.proofs.set_start.Tie as tie
 
 cast-result : tie.Need-overflow-cast-result
-cast-result c = search needs
+cast-result c = search rules
 
 mul-result : tie.Need-overflow-mul-result
-mul-result c = search needs
+mul-result c = search rules
 
 returns : tie.Need-returns
 unfolding set_of

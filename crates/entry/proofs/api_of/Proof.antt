@@ -1,5 +1,5 @@
 -- `entry::api_of` meets its contract: the shift is the definition's quotient.
-use Rattle.words.proofs.Basics.{refl}
+use mathlib.Core.Path.{refl}
 use Rattle.entry.specs.Entry.{api_of}
 use Rattle.entry.proofs.api_of.Statement.{statement}
 use Rattle.entry.proofs.api_of.Tie as tie

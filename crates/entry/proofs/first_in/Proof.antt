@@ -1,9 +1,14 @@
 -- `entry::first_in` meets its contract: the word that matches in either group, its bytes in order again.
-use Rattle.words.proofs.Basics.{◌^◌, ◌<◌, ◌≡◌, ap, ◌∙◌, Bool, true, false, cond, ⊎_elim, lit<, needs}
+use Prim.Native.Nat.{◌<◌, ◌^◌}
+use mathlib.Core.Path.{◌≡◌, ap, ◌∙◌}
+use mathlib.Core.Bool.{Bool, true, false, cond}
+use mathlib.Core.Logic.{⊎_elim}
+use lib.Dec.{lit<}
 use Rattle.words.specs.Words.{swapped}
 use Rattle.words.proofs.Words.{swapped_twice}
 use Rattle.entry.specs.Entry.{first_word}
 use Rattle.entry.proofs.Packing.{first_lt}
+use borrow.Author.Rules.{rules}
 use Rattle.entry.proofs.first_in.Statement.{statement}
 use Rattle.entry.proofs.first_in.Tie as tie
 
@@ -13,10 +18,10 @@ h_lt true = lit< tt
 h_lt false = lit< tt
 
 secondary-word-requires : tie.Need-secondary-word-requires
-secondary-word-requires c κs = search needs
+secondary-word-requires c κs = search rules
 
 swapped-requires : tie.Need-swapped-requires
-swapped-requires c κs = search needs
+swapped-requires c κs = search rules
 
 returns : tie.Need-returns
 returns c vsid api v a e =

@@ -1,5 +1,6 @@
 -- `entry::is_changed` meets its contract: the mask leaves the one bit C.
-use Rattle.words.proofs.Basics.{◌/◌, ◌^◌, and_mask}
+use Prim.Native.Nat.{◌/◌, ◌^◌}
+use lib.Bits.{and_mask}
 use Rattle.entry.specs.Entry.{changed}
 use Rattle.entry.proofs.is_changed.Statement.{statement}
 use Rattle.entry.proofs.is_changed.Tie as tie

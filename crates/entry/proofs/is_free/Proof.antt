@@ -1,5 +1,7 @@
 -- `entry::is_free` meets its contract: above V there is no bit to take away.
-use Rattle.words.proofs.Basics.{◌/◌, ◌%◌, ◌^◌, ◌≡◌, arith}
+use mathlib.Core.Path.{◌≡◌}
+use Prim.Native.Nat.{◌/◌, ◌%◌, ◌^◌}
+use native.Mathlib.Omega.{arith}
 use Rattle.entry.specs.Entry.{free}
 use Rattle.entry.proofs.is_free.Statement.{statement}
 use Rattle.entry.proofs.is_free.Tie as tie

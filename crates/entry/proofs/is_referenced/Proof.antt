@@ -1,5 +1,6 @@
 -- `entry::is_referenced` meets its contract: the mask leaves the one bit R.
-use Rattle.words.proofs.Basics.{◌/◌, ◌^◌, and_mask}
+use Prim.Native.Nat.{◌/◌, ◌^◌}
+use lib.Bits.{and_mask}
 use Rattle.entry.specs.Entry.{referenced}
 use Rattle.entry.proofs.is_referenced.Statement.{statement}
 use Rattle.entry.proofs.is_referenced.Tie as tie

@@ -1,5 +1,6 @@
 -- `entry::is_secondary` meets its contract: the mask leaves the one bit H.
-use Rattle.words.proofs.Basics.{◌/◌, ◌^◌, and_mask}
+use Prim.Native.Nat.{◌/◌, ◌^◌}
+use lib.Bits.{and_mask}
 use Rattle.entry.proofs.is_secondary.Statement.{statement}
 use Rattle.entry.proofs.is_secondary.Tie as tie
 

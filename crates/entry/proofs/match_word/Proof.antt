@@ -1,14 +1,15 @@
 -- `entry::match_word` meets its contract: the packed word is handed on.
-use Rattle.words.proofs.Basics.{ap, ◌∙◌, needs}
+use mathlib.Core.Path.{ap, ◌∙◌}
 use Rattle.words.specs.Words.{swapped}
+use borrow.Author.Rules.{rules}
 use Rattle.entry.proofs.match_word.Statement.{statement}
 use Rattle.entry.proofs.match_word.Tie as tie
 
 first-word-requires : tie.Need-first-word-requires
-first-word-requires c κs = search needs
+first-word-requires c κs = search rules
 
 swapped-requires : tie.Need-swapped-requires
-swapped-requires c κs = search needs
+swapped-requires c κs = search rules
 
 returns : tie.Need-returns
 returns c = c.swapped.ensures ∙ ap swapped c.before.first_word_law.ensures

@@ -1,12 +1,14 @@
 -- `entry::pack` meets its contract. Where the test passed, each field is within its width, as the two words ask.
-use Rattle.words.proofs.Basics.{sym, ◌∙◌, arith, needs}
+use borrow.Author.Rules.{rules}
+use mathlib.Core.Path.{sym, ◌∙◌}
+use native.Mathlib.Omega.{arith}
 use Rattle.entry.specs.Entry.{packed}
 use Rattle.entry.proofs.Widths.{within}
 use Rattle.entry.proofs.pack.Statement.{statement}
 use Rattle.entry.proofs.pack.Tie as tie
 
 within-widths-requires : tie.Need-within-widths-requires
-within-widths-requires c κs = search needs
+within-widths-requires c κs = search rules
 
 first-word-requires : tie.Need-first-word-requires
 first-word-requires c κs = omega (arith, within c.before.before.args.f (sym c.before.within-widths.ensures ∙ c.if1.true))

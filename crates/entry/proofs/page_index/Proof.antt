@@ -1,5 +1,6 @@
 -- `entry::page_index` meets its contract: the mask leaves sixteen bits.
-use Rattle.words.proofs.Basics.{◌/◌, ◌^◌, and_mask}
+use Prim.Native.Nat.{◌/◌, ◌^◌}
+use lib.Bits.{and_mask}
 use Rattle.entry.specs.Entry.{page_index}
 use Rattle.entry.proofs.page_index.Statement.{statement}
 use Rattle.entry.proofs.page_index.Tie as tie

@@ -1,5 +1,10 @@
 -- `entry::physical_address` meets its contract: one mask leaves the RPN in its place, the other the byte in the page.
-use Rattle.words.proofs.Basics.{◌*◌, ◌/◌, ◌%◌, ◌^◌, ◌≡◌, lit≤, and_mask, div-one, arith}
+use mathlib.Core.Path.{◌≡◌}
+use Prim.Native.Nat.{◌/◌, ◌*◌, ◌%◌, ◌^◌}
+use native.Mathlib.Nat.{div-one}
+use native.Mathlib.Omega.{arith}
+use lib.Bits.{and_mask}
+use lib.Dec.{lit≤}
 use Rattle.words.proofs.Masks.{or_sum, and_top}
 use Rattle.entry.specs.Entry.{physical_address}
 use Rattle.entry.proofs.physical_address.Statement.{statement}

@@ -1,5 +1,7 @@
 -- `entry::pp_of` meets its contract: the remainder is the low two bits.
-use Rattle.words.proofs.Basics.{ℕ, ◌%◌, sym, ap, div-one}
+use mathlib.Core.Path.{sym, ap}
+use Prim.Native.Nat.{ℕ, ◌%◌}
+use native.Mathlib.Nat.{div-one}
 use Rattle.entry.proofs.pp_of.Statement.{statement}
 use Rattle.entry.proofs.pp_of.Tie as tie
 

@@ -1,5 +1,7 @@
 -- `entry::second_word` meets its contract. No shift loses a bit, and no two of the shifted fields have a bit in common.
-use Rattle.words.proofs.Basics.{◌+◌, ◌*◌, ◌%◌, ◌^◌, ◌≡◌, arith}
+use mathlib.Core.Path.{◌≡◌}
+use Prim.Native.Nat.{◌+◌, ◌*◌, ◌%◌, ◌^◌}
+use native.Mathlib.Omega.{arith}
 use Rattle.words.proofs.Masks.{or_sum}
 use Rattle.entry.specs.Entry.{second_word}
 use Rattle.entry.proofs.second_word.Statement.{statement}

@@ -1,5 +1,7 @@
 -- `entry::secondary_word` meets its contract. H stands alone in its bit: the three other bytes stay, and the last one, which stands first, has 64 more.
-use Rattle.words.proofs.Basics.{ℕ, ◌+◌, ◌*◌, ◌/◌, ◌%◌, ◌^◌, ◌<◌, ◌≡◌, ◌∙◌, arith}
+use mathlib.Core.Path.{◌≡◌, ◌∙◌}
+use Prim.Native.Nat.{ℕ, ◌+◌, ◌*◌, ◌/◌, ◌%◌, ◌^◌, ◌<◌}
+use native.Mathlib.Omega.{arith}
 use Rattle.words.specs.Bits.{bits}
 use Rattle.words.specs.Words.{word_of, swapped}
 use Rattle.words.proofs.Masks.{or_bit}

@@ -1,5 +1,9 @@
 -- `entry::unpack` meets its contract. A mask of k ones leaves the remainder by 2 ^ k; above V and RPN there is no bit to take away.
-use Rattle.words.proofs.Basics.{◌/◌, ◌%◌, ◌^◌, ◌≡◌, and_mask, div-one, arith}
+use mathlib.Core.Path.{◌≡◌}
+use Prim.Native.Nat.{◌/◌, ◌%◌, ◌^◌}
+use native.Mathlib.Nat.{div-one}
+use native.Mathlib.Omega.{arith}
+use lib.Bits.{and_mask}
 use Rattle.entry.specs.Entry.{unpacked}
 use Rattle.entry.proofs.unpack.Statement.{statement}
 use Rattle.entry.proofs.unpack.Tie as tie

@@ -1,5 +1,6 @@
 -- `entry::vsid_of` meets its contract: the mask leaves 24 bits.
-use Rattle.words.proofs.Basics.{◌/◌, ◌^◌, and_mask}
+use Prim.Native.Nat.{◌/◌, ◌^◌}
+use lib.Bits.{and_mask}
 use Rattle.entry.proofs.vsid_of.Statement.{statement}
 use Rattle.entry.proofs.vsid_of.Tie as tie
 

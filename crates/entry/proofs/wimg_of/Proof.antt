@@ -1,5 +1,6 @@
 -- `entry::wimg_of` meets its contract: the mask leaves four bits.
-use Rattle.words.proofs.Basics.{◌/◌, ◌^◌, and_mask}
+use Prim.Native.Nat.{◌/◌, ◌^◌}
+use lib.Bits.{and_mask}
 use Rattle.entry.proofs.wimg_of.Statement.{statement}
 use Rattle.entry.proofs.wimg_of.Tie as tie
 

@@ -1,5 +1,10 @@
 -- `entry::with_marks` meets its contract: each mark is or-ed in as a one in its place, or as a zero, which changes nothing.
-use Rattle.words.proofs.Basics.{ℕ, ◌*◌, ◌%◌, ◌^◌, ◌≡◌, Bool, true, false, bit_or, or_zero_r, needs, bool_byte}
+use borrow.Author.Rules.{rules}
+use mathlib.Core.Bool.{Bool, true, false}
+use mathlib.Core.Path.{◌≡◌}
+use Prim.Native.Nat.{ℕ, ◌*◌, ◌%◌, ◌^◌}
+use lib.Bits.{bit_or, or_zero_r}
+use mir.Val.{bool_byte}
 use Rattle.words.specs.Bits.{with_bits}
 use Rattle.words.proofs.Masks.{or_bit}
 use Rattle.entry.specs.Entry.{with_marks}
@@ -7,10 +12,10 @@ use Rattle.entry.proofs.with_marks.Statement.{statement}
 use Rattle.entry.proofs.with_marks.Tie as tie
 
 cast-result : tie.Need-overflow-cast-result
-cast-result c = search needs
+cast-result c = search rules
 
 cast-result-2 : tie.Need-overflow-cast-result-2
-cast-result-2 c = search needs
+cast-result-2 c = search rules
 
 marks : (r c : Bool) (w : ℕ) → bit_or (bit_or w ((bool_byte r * 2 ^ 8) % 2 ^ 32)) ((bool_byte c * 2 ^ 7) % 2 ^ 32) ≡ with_marks r c w
 unfolding with_marks

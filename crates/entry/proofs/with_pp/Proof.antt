@@ -1,5 +1,7 @@
 -- `entry::with_pp` meets its contract: the mask clears PP alone, and the new one has no bit in common with what is left.
-use Rattle.words.proofs.Basics.{◌*◌, ◌/◌, ◌^◌, lit≤, arith}
+use Prim.Native.Nat.{◌/◌, ◌*◌, ◌^◌}
+use native.Mathlib.Omega.{arith}
+use lib.Dec.{lit≤}
 use Rattle.words.proofs.Masks.{or_sum, and_top}
 use Rattle.entry.specs.Entry.{with_pp}
 use Rattle.entry.proofs.with_pp.Statement.{statement}

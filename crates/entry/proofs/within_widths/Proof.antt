@@ -1,5 +1,11 @@
 -- `entry::within_widths` meets its contract: numbers put together by or are below 2 exactly where each is.
-use Rattle.words.proofs.Basics.{ℕ, ◌^◌, ◌<◌, ◌≡◌, true, ◌&&◌, ltb, bit_and, bit_or, and_le_l, and_le_r, or_add_and, or_lt, arith, lt-ltb, ltb-true}
+use mathlib.Core.Path.{◌≡◌}
+use mathlib.Core.Bool.{true, ◌&&◌}
+use Prim.Native.Nat.{ℕ, ◌^◌, ◌<◌}
+use native.Mathlib.Omega.{arith}
+use lib.Bits.{bit_and, bit_or, or_add_and, and_le_l, and_le_r, or_lt}
+use lib.Dec.{ltb}
+use borrow.Author.Tests.{ltb-true, lt-ltb}
 use Rattle.words.proofs.Tests.{both, same_test}
 use Rattle.entry.specs.declared.Fields.{Fields}
 use Rattle.entry.specs.Entry.{within_widths}

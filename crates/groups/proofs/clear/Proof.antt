@@ -1,5 +1,9 @@
 -- `groups::clear` meets its contract. The loop's invariant: the first i bytes are zero, and the rest is as it was.
-use Rattle.words.proofs.Basics.{ℕ, ◌-◌, ◌≤◌, ◌≡◌, refl, ap, ◌∙◌, List, ◌++◌, append-nil, length, set, drop, replicate, length-set, arith}
+use Prim.Native.Nat.{ℕ, ◌-◌, ◌≤◌}
+use mathlib.Core.Path.{◌≡◌, refl, ap, ◌∙◌}
+use mathlib.Core.List.{List, ◌++◌, append-nil}
+use native.Mathlib.Omega.{arith}
+use lib.ListN.{length, replicate, drop, set, length-set}
 use lib.Seq.{drop-length}
 use borrow.Author.Fill.{fill_more}
 use Rattle.groups.proofs.clear.Statement.{statement}

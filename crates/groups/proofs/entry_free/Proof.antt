@@ -1,9 +1,15 @@
 -- `groups::entry_free` meets its contract: a first byte below 128 is a first word below 2 ^ 31, whose highest bit is V.
-use Rattle.words.proofs.Basics.{ℕ, ◌+◌, ◌*◌, ◌/◌, ◌%◌, ◌^◌, ◌<◌, ◌≡◌, refl, sym, Bool, true, false, eqb, ltb, get_or, arith, eq-eqb, ltb-false, ltb-true, ne_eqb}
-use Rattle.words.proofs.Basics.{needs}
+use mathlib.Core.Path.{◌≡◌, refl, sym}
+use Prim.Native.Nat.{ℕ, ◌+◌, ◌*◌, ◌/◌, ◌%◌, ◌^◌, ◌<◌}
+use mathlib.Core.Bool.{Bool, true, false}
+use native.Mathlib.Omega.{arith}
+use lib.Dec.{eqb, ltb}
+use lib.ListN.{get_or}
+use borrow.Author.Tests.{ltb-true, ltb-false, eq-eqb, ne_eqb}
 use Rattle.words.specs.Words.{word_of, word_at}
 use Rattle.entry.specs.Entry.{free}
 use Rattle.groups.specs.Group.{first_at, entry_free}
+use borrow.Author.Rules.{rules}
 use Rattle.groups.proofs.entry_free.Statement.{statement}
 use Rattle.groups.proofs.entry_free.Tie as tie
 
@@ -17,10 +23,10 @@ top_bit a b c d la lb lc ld = go (ltb a 128) refl
     go false e = sym (ne_eqb (word_of a b c d / 2 ^ 31 % 2 ^ 1) 0 (λ z. omega (arith, ltb-false a 128 e)))
 
 mul-result : tie.Need-overflow-mul-result
-mul-result c = search needs
+mul-result c = search rules
 
 shared-slice-read-result : tie.Need-shared-slice-read-result
-shared-slice-read-result c = search needs
+shared-slice-read-result c = search rules
 
 returns : tie.Need-returns
 unfolding entry_free first_at word_at

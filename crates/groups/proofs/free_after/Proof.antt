@@ -1,5 +1,8 @@
 -- `groups::free_after` meets its contract. The invariant: the number tells the free ones among the entries passed, behind those told before.
-use Rattle.words.proofs.Basics.{◌-◌, ◌^◌, ◌<◌, ◌≤◌, ◌≡◌, refl, sym, ap, ◌∙◌, add-one, arith}
+use Prim.Native.Nat.{◌-◌, ◌≤◌, ◌<◌, ◌^◌}
+use mathlib.Core.Path.{◌≡◌, refl, sym, ap, ◌∙◌}
+use native.Mathlib.Numerals.{add-one}
+use native.Mathlib.Omega.{arith}
 use Rattle.groups.specs.Group.{free_to, free_after}
 use Rattle.groups.proofs.Free.{one_is, one_lt, free_more}
 use Rattle.groups.proofs.free_after.Statement.{statement}

@@ -1,5 +1,9 @@
 -- `groups::groups_of` meets its contract: under n ones the hash leaves its low n bits, and exclusive or with the ones leaves their complement.
-use Rattle.words.proofs.Basics.{◌%◌, ◌^◌, ap, and_mask, pow_pos, mod-lt}
+use mathlib.Core.Path.{ap}
+use Prim.Native.Nat.{◌%◌, ◌^◌}
+use native.Mathlib.Nat.{mod-lt}
+use lib.Bits.{and_mask}
+use lib.Pow.{pow_pos}
 use Rattle.groups.specs.Hash.{groups_of, primary_group, secondary_group}
 use Rattle.groups.proofs.Hash.{xor_ones}
 use Rattle.groups.proofs.groups_of.Statement.{statement}

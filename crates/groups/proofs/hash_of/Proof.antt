@@ -1,5 +1,5 @@
 -- `groups::hash_of` meets its contract: the mask of 19 ones leaves the low 19 bits of the VSID.
-use Rattle.words.proofs.Basics.{and_mask}
+use lib.Bits.{and_mask}
 use Rattle.groups.specs.Hash.{hash_of}
 use Rattle.groups.proofs.hash_of.Statement.{statement}
 use Rattle.groups.proofs.hash_of.Tie as tie

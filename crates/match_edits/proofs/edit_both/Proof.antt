@@ -1,5 +1,9 @@
 -- `edits::edit_both` meets its contract: the parts that are lent are the two groups, edited one after the other; the second is as it was at the start.
-use Rattle.words.proofs.Basics.{ℕ, ◌+◌, ◌*◌, ◌≤◌, ◌≡◌, sym, ap, ap₂, ◌∙◌, Bool, true, false, List, length, needs}
+use Prim.Native.Nat.{ℕ, ◌+◌, ◌*◌, ◌≤◌}
+use mathlib.Core.Path.{◌≡◌, sym, ap, ap₂, ◌∙◌}
+use mathlib.Core.Bool.{Bool, true, false}
+use mathlib.Core.List.{List}
+use lib.ListN.{length}
 use Rattle.theory_tables.specs.Matches.{Match}
 use Rattle.groups.specs.Group.{group_of, on_group}
 use Rattle.groups.proofs.Group.{group_other, length_group}
@@ -9,6 +13,7 @@ use Rattle.matches.proofs.Merged.{marks_append}
 use Rattle.match_edits.specs.Edit.{edit_matches}
 use Rattle.match_edits.specs.declared.Edit.{Edit}
 use Rattle.match_edits.proofs.Edits.{length_edit_matches}
+use borrow.Author.Rules.{rules}
 use Rattle.match_edits.proofs.edit_both.Statement.{statement}
 use Rattle.match_edits.proofs.edit_both.Tie as tie
 
@@ -27,46 +32,46 @@ other-stays edit vsid api t p s inside apart =
     group_other t p (edit_matches edit false vsid api (group_of t p)) inside (length_edit_matches edit false vsid api (group_of t p) ∙ length_group t p inside) s (λ e. apart (sym e))
 
 mul-from : tie.Need-overflow-mul-from
-mul-from c = search needs
+mul-from c = search rules
 
 add-to : tie.Need-overflow-add-to
-add-to c = search needs
+add-to c = search rules
 
 sub-edit-group : tie.Need-overflow-sub-edit-group
-sub-edit-group c = search needs
+sub-edit-group c = search rules
 
 part-edit-group-start : tie.Need-slice-bounds-edit-group-start
-part-edit-group-start c = search needs
+part-edit-group-start c = search rules
 
 part-edit-group-end : tie.Need-slice-bounds-edit-group-end
-part-edit-group-end c = search needs
+part-edit-group-end c = search rules
 
 edit-group-requires : tie.Need-edit-group-requires
-edit-group-requires c κs = search needs
+edit-group-requires c κs = search rules
 
 mul_next : tie.Need-overflow-mul-next
-mul_next c = search needs
+mul_next c = search rules
 
 add-end : tie.Need-overflow-add-end
-add-end c = search needs
+add-end c = search rules
 
 secondary-word-requires : tie.Need-secondary-word-requires
-secondary-word-requires c κs = search needs
+secondary-word-requires c κs = search rules
 
 sub-edit-group-2 : tie.Need-overflow-sub-edit-group-2
-sub-edit-group-2 c = search needs
+sub-edit-group-2 c = search rules
 
 part-edit-group-start-2 : tie.Need-slice-bounds-edit-group-start-2
-part-edit-group-start-2 c = search needs
+part-edit-group-start-2 c = search rules
 
 part-edit-group-end-2 : tie.Need-slice-bounds-edit-group-end-2
-part-edit-group-end-2 c = search needs
+part-edit-group-end-2 c = search rules
 
 edit-group-requires-2 : tie.Need-edit-group-requires-2
-edit-group-requires-2 c κs = search needs
+edit-group-requires-2 c κs = search rules
 
 same_length : tie.Need-same-length
-same_length c = search needs
+same_length c = search rules
 
 returns : tie.Need-returns
 unfolding pair_matches

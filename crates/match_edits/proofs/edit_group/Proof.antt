@@ -1,6 +1,12 @@
 -- `edits::edit_group` meets its contract. The loop's invariant: the matches among the first i entries, as the group was at the start, are edited, and the
 -- word has their marks.
-use Rattle.words.proofs.Basics.{ℕ, ◌-◌, ◌≤◌, ◌≡◌, refl, sym, ap, ap₂, ◌∙◌, Bool, ⊎_elim, List, length, arith}
+use Prim.Native.Nat.{ℕ, ◌-◌, ◌≤◌}
+use mathlib.Core.Path.{◌≡◌, refl, sym, ap, ap₂, ◌∙◌}
+use mathlib.Core.Bool.{Bool}
+use mathlib.Core.Logic.{⊎_elim}
+use mathlib.Core.List.{List}
+use native.Mathlib.Omega.{arith}
+use lib.ListN.{length}
 use Rattle.entry.specs.Entry.{matches}
 use Rattle.theory_tables.specs.Matches.{Match, matches_below}
 use Rattle.groups.specs.Group.{first_at, second_at, put_entry}

@@ -1,14 +1,15 @@
 -- `edits::edited_words` meets its contract: each arm is the edit's own case.
-use Rattle.words.proofs.Basics.{subst, needs}
+use mathlib.Core.Path.{subst}
 use Rattle.match_edits.specs.Edit.{EditFits}
+use borrow.Author.Rules.{rules}
 use Rattle.match_edits.proofs.edited_words.Statement.{statement}
 use Rattle.match_edits.proofs.edited_words.Tie as tie
 
 enum_told : tie.Need-enum-told
-enum_told c = search needs
+enum_told c = search rules
 
 enum-known-edit : tie.Need-enum-known-edit
-enum-known-edit c = search needs
+enum-known-edit c = search rules
 
 with-pp-requires : tie.Need-with-pp-requires
 with-pp-requires c κs = subst EditFits c.before.edit.given.1 c.before.before.before.requires

@@ -1,30 +1,34 @@
 -- `matches::in_primary` meets its contract: the part that is lent is the group, and nothing was told before.
-use Rattle.words.proofs.Basics.{refl, ap, ◌∙◌, false, [], arith, needs}
+use mathlib.Core.Path.{refl, ap, ◌∙◌}
+use mathlib.Core.Bool.{false}
+use mathlib.Core.List.{[]}
+use native.Mathlib.Omega.{arith}
 use Rattle.groups.proofs.Lent.{lent_part}
 use Rattle.matches.specs.Search.{in_primary}
+use borrow.Author.Rules.{rules}
 use Rattle.matches.proofs.in_primary.Statement.{statement}
 use Rattle.matches.proofs.in_primary.Tie as tie
 
 mul-from : tie.Need-overflow-mul-from
-mul-from c = search needs
+mul-from c = search rules
 
 add-to : tie.Need-overflow-add-to
-add-to c = search needs
+add-to c = search rules
 
 sub-search : tie.Need-overflow-sub-search
-sub-search c = search needs
+sub-search c = search rules
 
 part-search-start : tie.Need-slice-bounds-search-start
-part-search-start c = search needs
+part-search-start c = search rules
 
 part-search-end : tie.Need-slice-bounds-search-end
-part-search-end c = search needs
+part-search-end c = search rules
 
 nothing-requires : tie.Need-nothing-requires
-nothing-requires c κs = search needs
+nothing-requires c κs = search rules
 
 search-requires : tie.Need-search-requires
-search-requires c κs = search needs
+search-requires c κs = search rules
 
 returns : tie.Need-returns
 unfolding in_primary

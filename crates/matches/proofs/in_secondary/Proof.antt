@@ -1,32 +1,34 @@
 -- `matches::in_secondary` meets its contract: the part that is lent is the group, and the primary's matches and free entries stand before its own.
-use Rattle.words.proofs.Basics.{refl, ap, ◌∙◌, true, false, needs}
+use mathlib.Core.Path.{refl, ap, ◌∙◌}
+use mathlib.Core.Bool.{true, false}
 use Rattle.groups.specs.Group.{free_after}
 use Rattle.groups.proofs.Free.{free_one}
 use Rattle.groups.proofs.Lent.{lent_part}
 use Rattle.matches.specs.Search.{group_matches, pair_matches, in_primary, in_both}
+use borrow.Author.Rules.{rules}
 use Rattle.matches.proofs.in_secondary.Statement.{statement}
 use Rattle.matches.proofs.in_secondary.Tie as tie
 
 mul-from : tie.Need-overflow-mul-from
-mul-from c = search needs
+mul-from c = search rules
 
 add-to : tie.Need-overflow-add-to
-add-to c = search needs
+add-to c = search rules
 
 secondary-word-requires : tie.Need-secondary-word-requires
-secondary-word-requires c κs = search needs
+secondary-word-requires c κs = search rules
 
 sub-search : tie.Need-overflow-sub-search
-sub-search c = search needs
+sub-search c = search rules
 
 part-search-start : tie.Need-slice-bounds-search-start
-part-search-start c = search needs
+part-search-start c = search rules
 
 part-search-end : tie.Need-slice-bounds-search-end
-part-search-end c = search needs
+part-search-end c = search rules
 
 search-requires : tie.Need-search-requires
-search-requires c κs = search needs
+search-requires c κs = search rules
 
 returns : tie.Need-returns
 unfolding in_primary in_both pair_matches

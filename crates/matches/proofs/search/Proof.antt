@@ -1,13 +1,18 @@
--- `matches::search` meets its contract. The loop's invariant: the number and the word are those told of the matches before and of the first i entries.
-use Rattle.words.proofs.Basics.{ℕ, ◌+◌, ◌-◌, ◌*◌, ◌^◌, ◌<◌, ◌≤◌, ◌≡◌, refl, sym, ap, ◌∙◌, Bool, true, ⊎_elim, List, [], ◌∷◌, ◌++◌, append_assoc, append-nil}
-use Rattle.words.proofs.Basics.{arith}
+-- `matches::search` meets its contract. The loop's invariant: the number and the word are those told of the matches before and of the first i entries. At a
+-- further match the search ends, since the whole group is then compared with the first one.
+use Prim.Native.Nat.{ℕ, ◌+◌, ◌*◌, ◌-◌, ◌^◌, ◌≤◌, ◌<◌}
+use mathlib.Core.Path.{◌≡◌, refl, sym, ap, ◌∙◌}
+use mathlib.Core.Bool.{Bool}
+use mathlib.Core.List.{List, [], ◌∷◌, ◌++◌, append-nil, append_assoc}
+use mathlib.Core.Logic.{⊎_elim}
+use native.Mathlib.Omega.{arith}
 use Rattle.entry.specs.Entry.{matches}
 use Rattle.theory_tables.specs.Matches.{Match, matches_below}
 use Rattle.groups.specs.Group.{first_at, second_at, free_after}
-use Rattle.matches.specs.Search.{hOf, WantedWord, matches_to, group_matches, number_of, found_of, first_second, told}
+use Rattle.matches.specs.Search.{hOf, WantedWord, matches_to, group_matches, number_of, with_others, found_of, first_second, told}
 use Rattle.matches.specs.declared.Told.{Told}
-use Rattle.matches.proofs.Matches.{wanted_matches, entry_at, matches_more, matches_same}
-use Rattle.matches.proofs.Found.{found_nothing, found_first, found_more, second_stays}
+use Rattle.matches.proofs.Matches.{wanted_matches, entry_at, matches_more, matches_same, matches_extend}
+use Rattle.matches.proofs.Found.{found_nothing, found_first, others_are, second_stays}
 use Rattle.matches.proofs.search.Statement.{statement}
 use Rattle.matches.proofs.search.Tie as tie
 
@@ -84,6 +89,36 @@ frees c ms free few was =
     let same = was_free a.before ms free was in
     c.free-after.ensures (rw same few) ∙ ap (λ (n : ℕ). free_after n a.group.now) same
 
+with-others-requires : tie.Need-with-others-requires invariant-loop decreases-loop
+with-others-requires c κs = (begin c.before.before).pre.0
+
+returns : tie.Need-returns invariant-loop decreases-loop
+unfolding group_matches
+returns c secondary vsid api ms free wants at few was =
+    let w = c.before.before.before in
+    let l = at-loop w in
+    let a = (begin w).args in
+    let group = a.group.now in
+    let i = l.loop.i in
+    let to = matches_to secondary vsid api group i in
+    let x = entry_at secondary group i in
+    let so_far = l.loop.inv.1 secondary vsid api ms wants at (was-found a.before ms free was) (was-second a.before ms free was) in
+    let (m, (others, first)) = found_first (ms ++ to) (λ z. c.before.if2.true (so_far.0 ∙ z)) in
+    let (rest, more) = matches_extend secondary vsid api group (i + 1) 8 (omega arith) in
+    let one = matches_more secondary vsid api group i (sym (tested w secondary vsid api wants) ∙ c.before.before.if1.true) in
+    let all : matches_to secondary vsid api group 8 ≡ to ++ x ∷ rest = more ∙ ap (λ (ns : List Match). ns ++ rest) one ∙ append_assoc to (x ∷ []) rest in
+    let second = so_far.1 ∙ ap first_second first in
+    tells _ _ _ (ms ++ matches_to secondary vsid api group 8) _
+    (c.with-others.ensures secondary vsid api m others wants (so_far.0 ∙ ap found_of first) second
+    ∙ ap (λ (ns : List Match). with_others m (others ++ ns)) all
+    ∙ others_are ms to rest x m others first
+    ∙ sym (ap (λ (ns : List Match). found_of (ms ++ ns)) all))
+    (second ∙ sym (ap (λ (ns : List Match). first_second (ms ++ ns)) all ∙ ap first_second (sym (append_assoc ms to (x ∷ rest))) ∙ second_stays (ms ++ to) (x ∷ rest) m others first))
+    (frees (freed w) ms free few was)
+
+add-found : tie.Need-overflow-add-found invariant-loop decreases-loop
+add-found c = omega (arith, (begin c.before.before).pre.1)
+
 mul-read-word : tie.Need-overflow-mul-read-word invariant-loop decreases-loop
 mul-read-word c = omega arith
 
@@ -92,12 +127,6 @@ add-read-word c = omega arith
 
 read-word-requires : tie.Need-read-word-requires invariant-loop decreases-loop
 read-word-requires c κs = omega arith
-
-add-found : tie.Need-overflow-add-found invariant-loop decreases-loop
-add-found c = omega (arith, (begin c.before.before.before).pre.1)
-
-with-other-requires : tie.Need-with-other-requires invariant-loop decreases-loop
-with-other-requires c κs = tt
 
 add-i : tie.Need-overflow-add-i invariant-loop decreases-loop
 add-i c = omega arith
@@ -112,38 +141,34 @@ loop-again c =
     let l = at-loop w in
     let a = (begin w).args in
     let group = a.group.now in
-    let i = l.loop.i in (
+    let i = l.loop.i in
+    ⊎_elim
+    (λ v. (
       omega arith,
       λ secondary vsid api ms wants at found-was second-was.
           let to = matches_to secondary vsid api group i in
           let x = entry_at secondary group i in
           let so_far = l.loop.inv.1 secondary vsid api ms wants at found-was second-was in
-          let one : w.is_IsWord.result ≡ true → ms ++ matches_to secondary vsid api group (i + 1) ≡ (ms ++ to) ++ x ∷ [] = λ e.
-          ap (λ (ns : List Match). ms ++ ns) (matches_more secondary vsid api group i (sym (tested w secondary vsid api wants) ∙ e)) ∙ sym (append_assoc ms to (x ∷ [])) in
-          ⊎_elim
-          (λ v.
-          let none = found_nothing (ms ++ to) (sym so_far.0 ∙ v.2.taken) in
-          let only : ms ++ matches_to secondary vsid api group (i + 1) ≡ x ∷ [] = one v.0.taken ∙ ap (λ (ns : List Match). ns ++ x ∷ []) none in
+          let none = found_nothing (ms ++ to) (sym so_far.0 ∙ v.1.left) in
+          let one = matches_more secondary vsid api group i (sym (tested w secondary vsid api wants) ∙ v.0.taken) in
+          let only : ms ++ matches_to secondary vsid api group (i + 1) ≡ x ∷ [] =
+          ap (λ (ns : List Match). ms ++ ns) one ∙ sym (append_assoc ms to (x ∷ [])) ∙ ap (λ (ns : List Match). ns ++ x ∷ []) none in
           let number : a.from + i ≡ number_of x = omega (arith, at) in
-          (v.3 ∙ number ∙ sym (ap found_of only), v.4 ∙ v.1.ensures ∙ sym (ap first_second only)))
-          (⊎_elim
-          (λ v.
-          let (m, (others, first)) = found_first (ms ++ to) (λ z. v.2.left (so_far.0 ∙ z)) in
-          let second = so_far.1 ∙ ap first_second first in
-          let more = one v.0.taken in (
-            v.4 ∙ v.3.ensures m x others (so_far.0 ∙ ap found_of first) second v.1.ensures ∙ sym (ap found_of more ∙ found_more (ms ++ to) x m others first),
-            v.5 ∙ second ∙ sym (ap first_second more ∙ second_stays (ms ++ to) (x ∷ []) m others first),
-          ))
-          (λ v.
+          (v.3 ∙ number ∙ sym (ap found_of only), v.4 ∙ v.2.ensures ∙ sym (ap first_second only)),
+    ))
+    (λ v. (
+      omega arith,
+      λ secondary vsid api ms wants at found-was second-was.
+          let so_far = l.loop.inv.1 secondary vsid api ms wants at found-was second-was in
           let same = matches_same secondary vsid api group i (sym (tested w secondary vsid api wants) ∙ v.0.left) in
           let stays : ms ++ matches_to secondary vsid api group i ≡ ms ++ matches_to secondary vsid api group (i + 1) = sym (ap (λ (ns : List Match). ms ++ ns) same) in
-          (v.1 ∙ so_far.0 ∙ ap found_of stays, v.2 ∙ so_far.1 ∙ ap first_second stays)))
-          c.if1.branch,
-    )
+          (v.1 ∙ so_far.0 ∙ ap found_of stays, v.2 ∙ so_far.1 ∙ ap first_second stays),
+    ))
+    c.if1.branch
 
-returns : tie.Need-returns invariant-loop decreases-loop
+returns-2 : tie.Need-returns-2 invariant-loop decreases-loop
 unfolding group_matches
-returns c secondary vsid api ms free wants at few was =
+returns-2 c secondary vsid api ms free wants at few was =
     let l = c.before in
     let a = l.before.before.before.args in
     let e : l.loop.i ≡ 8 = omega arith in
@@ -161,12 +186,13 @@ search-spec =
     mul-loop
     mul-is-word
     is-word-requires
+    with-others-requires
+    returns
+    add-found
     mul-read-word
     add-read-word
     read-word-requires
-    add-found
-    with-other-requires
     add-i
     loop-less
     loop-again
-    returns)
+    returns-2)

@@ -1,5 +1,9 @@
 -- `matches::words_agree` meets its contract. A mask of k ones leaves the remainder by 2 ^ k; above the RPN there is no bit to take away.
-use Rattle.words.proofs.Basics.{◌/◌, ◌%◌, ◌^◌, ◌≡◌, and_mask, div-one, arith}
+use mathlib.Core.Path.{◌≡◌}
+use Prim.Native.Nat.{◌/◌, ◌%◌, ◌^◌}
+use native.Mathlib.Nat.{div-one}
+use native.Mathlib.Omega.{arith}
+use lib.Bits.{and_mask}
 use Rattle.matches.specs.Search.{agree}
 use Rattle.matches.proofs.words_agree.Statement.{statement}
 use Rattle.matches.proofs.words_agree.Tie as tie

@@ -1,12 +1,16 @@
 -- `mmu::mmu_check` meets its contract: a page of right length is checked by its own limits.
-use Rattle.words.proofs.Basics.{◌≡◌, sym, ◌∙◌, true, length, not-false, not-true, needs}
+use borrow.Author.Tests.{not-true, not-false}
+use mathlib.Core.Path.{◌≡◌, sym, ◌∙◌}
+use mathlib.Core.Bool.{true}
+use lib.ListN.{length}
 use Rattle.registers.specs.Set.{is_page}
 use Rattle.theory_calls.specs.WithoutTable.{check_call}
+use borrow.Author.Rules.{rules}
 use Rattle.mmu.proofs.mmu_check.Statement.{statement}
 use Rattle.mmu.proofs.mmu_check.Tie as tie
 
 is-page-requires : tie.Need-is-page-requires
-is-page-requires c κs = search needs
+is-page-requires c κs = search rules
 
 returns : tie.Need-returns
 unfolding check_call

@@ -1,13 +1,17 @@
 -- `mmu::mmu_set_register` meets its contract: on a page of right length it is the replacing of a word.
-use Rattle.words.proofs.Basics.{◌≡◌, sym, ◌∙◌, true, length, not-false, not-true, needs}
+use borrow.Author.Tests.{not-true, not-false}
+use mathlib.Core.Path.{◌≡◌, sym, ◌∙◌}
+use mathlib.Core.Bool.{true}
+use lib.ListN.{length}
 use Rattle.registers.specs.Set.{is_page}
 use Rattle.register_pages.specs.Replace.{page_replaced}
 use Rattle.theory_calls.specs.WithoutTable.{set_register_call}
+use borrow.Author.Rules.{rules}
 use Rattle.mmu.proofs.mmu_set_register.Statement.{statement}
 use Rattle.mmu.proofs.mmu_set_register.Tie as tie
 
 is-page-requires : tie.Need-is-page-requires
-is-page-requires c κs = search needs
+is-page-requires c κs = search rules
 
 returns : tie.Need-returns
 unfolding set_register_call
@@ -21,11 +25,11 @@ set-word-requires : tie.Need-set-word-requires
 set-word-requires c κs = page c.before
 
 same_length : tie.Need-same-length
-same_length c = search needs
+same_length c = search rules
 
 returns-2 : tie.Need-returns-2
 unfolding set_register_call page_replaced
-returns-2 c = let replaced = c.before.before in rw (page replaced.before.before) replaced.set_word.ensures
+returns-2 c = rw (page c.before.before.before.before) c.before.before.set_word.ensures
 
 pub mmu-set-register-spec : {M : Type 1} → statement M
 mmu-set-register-spec = tie.close (tie.spec is-page-requires returns set-word-requires same_length returns-2)

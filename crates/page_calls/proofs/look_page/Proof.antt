@@ -1,10 +1,14 @@
 -- `page_calls::look_page` meets its contract: by what the search of the page's groups told: none, matches that contradict, or the first one's second word.
-use Rattle.words.proofs.Basics.{ℕ, sym, ap, ◌∙◌, length, not-false, not-true, needs}
+use mathlib.Core.Path.{sym, ap, ◌∙◌}
+use Prim.Native.Nat.{ℕ}
+use lib.ListN.{length}
+use borrow.Author.Tests.{not-true, not-false}
 use Rattle.groups.specs.Hash.{TableOf}
 use Rattle.theory_calls.specs.Answers.{word_answer}
 use Rattle.theory_calls.specs.OnBytes.{ended}
 use Rattle.theory_calls.proofs.PageCalls.{look_missing, look_contradicted, look_done}
 use Rattle.page_calls.proofs.Searched.{locatable, primary_asked, secondary_asked, KnownOf, known, First, differs_is}
+use borrow.Author.Rules.{rules}
 use Rattle.page_calls.proofs.look_page.Statement.{statement}
 use Rattle.page_calls.proofs.look_page.Tie as tie
 
@@ -53,10 +57,10 @@ look-page-spec =
     (λ c κs. locatable _ _ c.before.requires.0 c.before.requires.1)
     (λ c κs. let start = c.before.before in primary_asked _ start.args.table.now _ start.requires.0 start.requires.1 c.locate.ensures)
     (λ c κs. let located = c.before in let start = located.before.before in secondary_asked _ start.args.table.now _ start.requires.0 start.requires.1 located.locate.ensures)
-    (λ c κs. search needs)
-    (λ c κs. search needs)
+    (λ c κs. search rules)
+    (λ c κs. search rules)
     returns
-    (λ c κs. search needs)
-    (λ c κs. search needs)
+    (λ c κs. search rules)
+    (λ c κs. search rules)
     returns-2
     returns-3)

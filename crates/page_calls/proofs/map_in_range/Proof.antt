@@ -1,6 +1,12 @@
 -- `page_calls::map_in_range` meets its contract: W and I are both one where WIMG is 12 or more.
-use Rattle.words.proofs.Basics.{ℕ, ◌/◌, ◌^◌, ◌≡◌, refl, sym, Bool, true, false, not, ◌&&◌, ltb, arith, eq-eqb, ltb-false, ltb-true, ne_eqb, needs}
+use Prim.Native.Nat.{ℕ, ◌^◌, ◌/◌}
+use mathlib.Core.Path.{◌≡◌, refl, sym}
+use mathlib.Core.Bool.{Bool, true, false, not, ◌&&◌}
+use native.Mathlib.Omega.{arith}
+use lib.Dec.{ltb}
+use borrow.Author.Tests.{ltb-true, ltb-false, eq-eqb, ne_eqb}
 use Rattle.theory_calls.specs.Rules.{page_in_range, write_through_inhibited}
+use borrow.Author.Rules.{rules}
 use Rattle.page_calls.proofs.map_in_range.Statement.{statement}
 use Rattle.page_calls.proofs.map_in_range.Tie as tie
 
@@ -25,7 +31,7 @@ narrow true d w = go (ltb w 12) refl (ltb w (2 ^ 4)) refl
     go false e false f = refl
 
 page-in-range-requires : tie.Need-page-in-range-requires
-page-in-range-requires c κs = search needs
+page-in-range-requires c κs = search rules
 
 returns : tie.Need-returns
 returns c sdr1 =

@@ -1,11 +1,15 @@
 -- `page_calls::map_page` meets its contract: where the search told of no match, the page's entry goes to the first free place that it told.
-use Rattle.words.proofs.Basics.{ℕ, ◌≡◌, sym, ap, ◌∙◌, List, [], length, needs}
+use mathlib.Core.Path.{◌≡◌, sym, ap, ◌∙◌}
+use mathlib.Core.List.{List, []}
+use Prim.Native.Nat.{ℕ}
+use lib.ListN.{length}
 use Rattle.register_words.specs.Sdr1.{mask_ones}
 use Rattle.groups.specs.Hash.{TableOf}
 use Rattle.entry.specs.Entry.{second_word}
 use Rattle.theory_calls.specs.OnBytes.{ended}
 use Rattle.theory_calls.proofs.PageCalls.{page_matches, map_matched, map_full, map_placed}
 use Rattle.page_calls.proofs.Searched.{locatable, primary_asked, secondary_asked, KnownOf, known, group_inside, free_is, place_lt, placed_is}
+use borrow.Author.Rules.{rules}
 use Rattle.page_calls.proofs.map_page.Statement.{statement}
 use Rattle.page_calls.proofs.map_page.Tie as tie
 
@@ -79,17 +83,17 @@ map-page-spec =
     (λ c κs. locatable _ _ c.before.requires.0 c.before.requires.1)
     (λ c κs. let start = c.before.before.before in primary_asked _ start.args.table.now _ start.requires.0 start.requires.1 c.before.locate.ensures)
     (λ c κs. let located = c.before.before.before in let start = located.before.before in secondary_asked _ start.args.table.now _ start.requires.0 start.requires.1 located.locate.ensures)
-    (λ c κs. search needs)
-    (λ c. search needs)
+    (λ c κs. search rules)
+    (λ c. search rules)
     returns
-    (λ c κs. search needs)
-    (λ c. search needs)
-    (λ c κs. search needs)
-    (λ c κs. search needs)
-    (λ c κs. search needs)
+    (λ c κs. search rules)
+    (λ c. search rules)
+    (λ c κs. search rules)
+    (λ c κs. search rules)
+    (λ c κs. search rules)
     put-entry-requires
-    (λ c. search needs)
-    (λ c. search needs)
+    (λ c. search rules)
+    (λ c. search rules)
     returns-2
-    (λ c. search needs)
+    (λ c. search rules)
     returns-3)

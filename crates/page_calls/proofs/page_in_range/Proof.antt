@@ -1,5 +1,5 @@
 -- `page_calls::page_in_range` meets its contract: the two tests are the definition's.
-use Rattle.words.proofs.Basics.{refl}
+use mathlib.Core.Path.{refl}
 use Rattle.theory_calls.specs.Rules.{page_in_range}
 use Rattle.page_calls.proofs.page_in_range.Statement.{statement}
 use Rattle.page_calls.proofs.page_in_range.Tie as tie

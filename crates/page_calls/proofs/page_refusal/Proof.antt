@@ -1,19 +1,20 @@
 -- `page_calls::page_refusal` meets its contract: the rules are tried in the order of the definition.
-use Rattle.words.proofs.Basics.{eq-eqb, ne_eqb, needs}
+use borrow.Author.Tests.{eq-eqb, ne_eqb}
+use borrow.Author.Rules.{rules}
 use Rattle.page_calls.proofs.page_refusal.Statement.{statement}
 use Rattle.page_calls.proofs.page_refusal.Tie as tie
 
 returns : tie.Need-returns
-returns c = search needs
+returns c = search rules
 
 sdr1-shape-requires : tie.Need-sdr1-shape-requires
-sdr1-shape-requires c κs = search needs
+sdr1-shape-requires c κs = search rules
 
 returns-2 : tie.Need-returns-2
 returns-2 c = rw (c.before.before.if1.false, ← c.before.sdr1-shape.ensures, c.if2.true)
 
 table-length-requires : tie.Need-table-length-requires
-table-length-requires c κs = search needs
+table-length-requires c κs = search rules
 
 returns-3 : tie.Need-returns-3
 returns-3 c =

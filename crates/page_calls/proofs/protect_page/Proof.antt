@@ -1,8 +1,12 @@
 -- `page_calls::protect_page` meets its contract: where the search told of a match, each match gets the new PP.
-use Rattle.words.proofs.Basics.{ℕ, sym, length, not-false, not-true, needs}
+use Prim.Native.Nat.{ℕ}
+use lib.ListN.{length}
+use mathlib.Core.Path.{sym}
+use borrow.Author.Tests.{not-true, not-false}
 use Rattle.groups.specs.Hash.{TableOf}
 use Rattle.theory_calls.proofs.PageCalls.{protect_missing, protect_done}
 use Rattle.page_calls.proofs.Searched.{locatable, primary_asked, secondary_asked, KnownOf, known, First, entry_asked, all_edited, alone_edited}
+use borrow.Author.Rules.{rules}
 use Rattle.page_calls.proofs.protect_page.Statement.{statement}
 use Rattle.page_calls.proofs.protect_page.Tie as tie
 
@@ -70,16 +74,16 @@ protect-page-spec =
     (λ c κs. locatable _ _ c.before.requires.0 c.before.requires.1)
     (λ c κs. let start = c.before.before.before in primary_asked _ start.args.table.now _ start.requires.0 start.requires.1 c.before.locate.ensures)
     (λ c κs. let located = c.before.before.before in let start = located.before.before in secondary_asked _ start.args.table.now _ start.requires.0 start.requires.1 located.locate.ensures)
-    (λ c κs. search needs)
-    (λ c. search needs)
+    (λ c κs. search rules)
+    (λ c. search rules)
     returns
-    (λ c κs. search needs)
+    (λ c κs. search rules)
     edit-both-requires
-    (λ c κs. search needs)
-    (λ c κs. search needs)
-    (λ c κs. search needs)
+    (λ c κs. search rules)
+    (λ c κs. search rules)
+    (λ c κs. search rules)
     edit-entry-requires
-    (λ c. search needs)
+    (λ c. search rules)
     returns-2
-    (λ c. search needs)
+    (λ c. search rules)
     returns-3)

@@ -1,5 +1,5 @@
 -- `page_calls::word_refusal` meets its contract: the refusal by the page's range, SDR1 and the table's length.
-use Rattle.words.proofs.Basics.{needs}
+use borrow.Author.Rules.{rules}
 use Rattle.page_calls.proofs.word_refusal.Statement.{statement}
 use Rattle.page_calls.proofs.word_refusal.Tie as tie
 
@@ -9,4 +9,4 @@ returns c =
     rw (c.refused.ensures, number.page-refusal.ensures, number.before.page_in_range_law.ensures)
 
 pub word-refusal-spec : {M : Type 1} → statement M
-word-refusal-spec = tie.close (tie.spec (λ c κs. search needs) (λ c κs. search needs) (λ c κs. search needs) returns)
+word-refusal-spec = tie.close (tie.spec (λ c κs. search rules) (λ c κs. search rules) (λ c κs. search rules) returns)

@@ -1,5 +1,9 @@
 -- `protection::block_allows` meets its contract: PP 10 allows all, and any other PP that is not 00 all but a store.
-use Rattle.words.proofs.Basics.{ℕ, ◌≡◌, refl, Bool, true, false, cond, not, ◌&&◌, eqb, ne_eqb}
+use borrow.Author.Tests.{ne_eqb}
+use mathlib.Core.Bool.{Bool, true, false, cond, not, ◌&&◌}
+use mathlib.Core.Path.{◌≡◌, refl}
+use Prim.Native.Nat.{ℕ}
+use lib.Dec.{eqb}
 use Rattle.protection.specs.Access.{storing}
 use Rattle.protection.specs.Protection.{block_allows}
 use Rattle.protection.proofs.block_allows.Statement.{statement}

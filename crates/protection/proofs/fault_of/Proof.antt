@@ -1,36 +1,38 @@
 -- `protection::fault_of` meets its contract: each arm gives what `fault_of` computes at the arm's numbers.
-use Rattle.words.proofs.Basics.{◌∙◌, ne_eqb, needs}
+use borrow.Author.Rules.{rules}
+use borrow.Author.Tests.{ne_eqb}
+use mathlib.Core.Path.{◌∙◌}
 use Rattle.protection.specs.Access.{fetching, storing}
 use Rattle.protection.specs.Fault.{cause_word, fault_of}
 use Rattle.protection.proofs.fault_of.Statement.{statement}
 use Rattle.protection.proofs.fault_of.Tie as tie
 
 fault-with-requires : tie.Need-fault-with-requires
-fault-with-requires c κs = search needs
+fault-with-requires c κs = search rules
 
 fault-with-requires-2 : tie.Need-fault-with-requires-2
-fault-with-requires-2 c κs = search needs
+fault-with-requires-2 c κs = search rules
 
 fault-with-requires-3 : tie.Need-fault-with-requires-3
-fault-with-requires-3 c κs = search needs
+fault-with-requires-3 c κs = search rules
 
 fault-with-requires-4 : tie.Need-fault-with-requires-4
-fault-with-requires-4 c κs = search needs
+fault-with-requires-4 c κs = search rules
 
 fault-with-requires-5 : tie.Need-fault-with-requires-5
-fault-with-requires-5 c κs = search needs
+fault-with-requires-5 c κs = search rules
 
 fault-with-requires-6 : tie.Need-fault-with-requires-6
-fault-with-requires-6 c κs = search needs
+fault-with-requires-6 c κs = search rules
 
 fault-with-requires-7 : tie.Need-fault-with-requires-7
-fault-with-requires-7 c κs = search needs
+fault-with-requires-7 c κs = search rules
 
 fault-with-requires-8 : tie.Need-fault-with-requires-8
-fault-with-requires-8 c κs = search needs
+fault-with-requires-8 c κs = search rules
 
 fault-with-requires-9 : tie.Need-fault-with-requires-9
-fault-with-requires-9 c κs = search needs
+fault-with-requires-9 c κs = search rules
 
 returns : tie.Need-returns
 unfolding fault_of cause_word fetching storing

@@ -1,5 +1,5 @@
 -- `protection::is_fetch` meets its contract: it is the definition.
-use Rattle.words.proofs.Basics.{refl}
+use mathlib.Core.Path.{refl}
 use Rattle.protection.specs.Access.{fetching}
 use Rattle.protection.proofs.is_fetch.Statement.{statement}
 use Rattle.protection.proofs.is_fetch.Tie as tie

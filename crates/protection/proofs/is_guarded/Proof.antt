@@ -1,5 +1,5 @@
 -- `protection::is_guarded` meets its contract: it is the definition.
-use Rattle.words.proofs.Basics.{refl}
+use mathlib.Core.Path.{refl}
 use Rattle.protection.specs.Protection.{guarded}
 use Rattle.protection.proofs.is_guarded.Statement.{statement}
 use Rattle.protection.proofs.is_guarded.Tie as tie

@@ -1,5 +1,7 @@
 -- `protection::is_relocated` meets its contract: the mask leaves the mode's bit of the kind.
-use Rattle.words.proofs.Basics.{◌/◌, and_mask, eq-eqb, ne_eqb}
+use borrow.Author.Tests.{eq-eqb, ne_eqb}
+use Prim.Native.Nat.{◌/◌}
+use lib.Bits.{and_mask}
 use Rattle.protection.specs.Access.{fetching, relocated}
 use Rattle.protection.proofs.is_relocated.Statement.{statement}
 use Rattle.protection.proofs.is_relocated.Tie as tie

@@ -1,5 +1,5 @@
 -- `protection::is_store` meets its contract: it is the definition.
-use Rattle.words.proofs.Basics.{refl}
+use mathlib.Core.Path.{refl}
 use Rattle.protection.specs.Access.{storing}
 use Rattle.protection.proofs.is_store.Statement.{statement}
 use Rattle.protection.proofs.is_store.Tie as tie

@@ -1,5 +1,6 @@
 -- `protection::key_of` meets its contract: the mask leaves Kp or Ks.
-use Rattle.words.proofs.Basics.{◌/◌, ◌^◌, and_mask}
+use Prim.Native.Nat.{◌/◌, ◌^◌}
+use lib.Bits.{and_mask}
 use Rattle.register_words.specs.Segment.{key_of}
 use Rattle.protection.proofs.key_of.Statement.{statement}
 use Rattle.protection.proofs.key_of.Tie as tie

@@ -1,5 +1,5 @@
 -- `protection::page_allows` meets its contract: its tests are those of the rights to read and to write.
-use Rattle.words.proofs.Basics.{eq-eqb, ne_eqb}
+use borrow.Author.Tests.{eq-eqb, ne_eqb}
 use Rattle.protection.specs.Access.{storing}
 use Rattle.protection.specs.Protection.{page_readable, page_writable, page_allows}
 use Rattle.protection.proofs.page_allows.Statement.{statement}

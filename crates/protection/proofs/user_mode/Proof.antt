@@ -1,5 +1,6 @@
 -- `protection::user_mode` meets its contract: the mask leaves the one bit PR.
-use Rattle.words.proofs.Basics.{◌/◌, ◌^◌, and_mask}
+use Prim.Native.Nat.{◌/◌, ◌^◌}
+use lib.Bits.{and_mask}
 use Rattle.protection.specs.Access.{user_mode}
 use Rattle.protection.proofs.user_mode.Statement.{statement}
 use Rattle.protection.proofs.user_mode.Tie as tie

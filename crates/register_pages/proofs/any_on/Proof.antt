@@ -1,5 +1,10 @@
 -- `register_pages::any_on` meets its contract. The invariant: each pair that was passed is off.
-use Rattle.words.proofs.Basics.{ℕ, ◌-◌, ◌*◌, ◌/◌, ◌%◌, ◌≤◌, ◌≡◌, refl, ap, ◌∙◌, true, true≢false, length, arith, needs}
+use borrow.Author.Rules.{rules}
+use native.Mathlib.Omega.{arith}
+use mathlib.Core.Bool.{true, true≢false}
+use mathlib.Core.Path.{◌≡◌, refl, ap, ◌∙◌}
+use Prim.Native.Nat.{ℕ, ◌-◌, ◌*◌, ◌/◌, ◌%◌, ◌≤◌}
+use lib.ListN.{length}
 use Rattle.words.specs.Below.{every_below}
 use Rattle.words.specs.Words.{word_at}
 use Rattle.register_words.specs.Block.{off}
@@ -19,19 +24,19 @@ unfolding pairs_off every_below
 loop-holds c = (omega arith, refl, refl)
 
 add-if1 : tie.Need-overflow-add-if1 invariant-loop decreases-loop
-add-if1 c = search needs
+add-if1 c = search rules
 
 shared-slice-read-if1 : tie.Need-shared-slice-read-if1 invariant-loop decreases-loop
-shared-slice-read-if1 c = search needs
+shared-slice-read-if1 c = search rules
 
 returns : tie.Need-returns invariant-loop decreases-loop
 returns c = λ e. absurd (true≢false e)
 
 add_at : tie.Need-overflow-add-at invariant-loop decreases-loop
-add_at c = search needs
+add_at c = search rules
 
 loop-less : tie.Need-loop-smaller invariant-loop decreases-loop
-loop-less c = search needs
+loop-less c = search rules
 
 loop-again : tie.Need-loop-preserved invariant-loop decreases-loop
 unfolding pairs_off

@@ -1,41 +1,47 @@
 -- `register_pages::blocks_on` meets its contract: the eight pairs of a short page lie in one part, the sixteen of a long one in two.
-use Rattle.words.proofs.Basics.{ℕ, ◌+◌, ◌-◌, ◌*◌, ◌<◌, ◌≡◌, sym, ap, ◌∙◌, Bool, true, true≢false, ltb, length, arith, eq-eqb, ltb-false, ltb-true, ne_eqb}
-use Rattle.words.proofs.Basics.{needs}
+use borrow.Author.Tests.{eq-eqb, ne_eqb, ltb-true, ltb-false}
+use native.Mathlib.Omega.{arith}
+use mathlib.Core.Bool.{Bool, true, true≢false}
+use mathlib.Core.Path.{◌≡◌, sym, ap, ◌∙◌}
+use Prim.Native.Nat.{ℕ, ◌+◌, ◌-◌, ◌*◌, ◌<◌}
+use lib.Dec.{ltb}
+use lib.ListN.{length}
 use Rattle.words.specs.Words.{word_at}
 use Rattle.words.proofs.Tests.{by_test}
 use Rattle.register_words.specs.Block.{off}
 use Rattle.registers.specs.Set.{is_long, block_pairs}
 use Rattle.register_pages.proofs.Page.{page_least}
 use Rattle.register_pages.proofs.Sides.{part_off, off_kept}
+use borrow.Author.Rules.{rules}
 use Rattle.register_pages.proofs.blocks_on.Statement.{statement}
 use Rattle.register_pages.proofs.blocks_on.Tie as tie
 
 sub-any-on : tie.Need-overflow-sub-any-on
-sub-any-on c = search needs
+sub-any-on c = search rules
 
 part-any-on-start : tie.Need-slice-bounds-any-on-start
-part-any-on-start c = search needs
+part-any-on-start c = search rules
 
 part-any-on-end : tie.Need-slice-bounds-any-on-end
 part-any-on-end c = omega (arith, page_least (length c.before.args.page.now) c.before.requires)
 
 any-on-requires : tie.Need-any-on-requires
-any-on-requires c κs = search needs
+any-on-requires c κs = search rules
 
 returns : tie.Need-returns
 returns c = λ e. absurd (true≢false e)
 
 sub-any-on-2 : tie.Need-overflow-sub-any-on-2
-sub-any-on-2 c = search needs
+sub-any-on-2 c = search rules
 
 part-any-on-start-2 : tie.Need-slice-bounds-any-on-start-2
-part-any-on-start-2 c = search needs
+part-any-on-start-2 c = search rules
 
 part-any-on-end-2 : tie.Need-slice-bounds-any-on-end-2
-part-any-on-end-2 c = search needs
+part-any-on-end-2 c = search rules
 
 any-on-requires-2 : tie.Need-any-on-requires-2
-any-on-requires-2 c κs = search needs
+any-on-requires-2 c κs = search rules
 
 abbrev begin : tie.After-any-on → tie.Start
 begin c = c.before.before.before

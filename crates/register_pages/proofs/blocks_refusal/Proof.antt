@@ -1,22 +1,27 @@
 -- `register_pages::blocks_refusal` meets its contract. The invariant: what the laws of Sides say of the sides that were passed.
-use Rattle.words.proofs.Basics.{ℕ, ◌+◌, ◌-◌, ◌*◌, ◌/◌, ◌%◌, ◌<◌, ◌≤◌, ◌≡◌, refl, sym, ap, ap₂, ◌∙◌, subst, Bool, true, cond, ◌&&◌, and_true, ⊎_elim, List}
-use Rattle.words.proofs.Basics.{length, take, drop, bit_and, bit_or, arith, needs}
-use Rattle.words.proofs.Without.{and_odd}
+use borrow.Author.Rules.{rules}
+use borrow.Author.Tests.{not-true, not-false}
+use native.Mathlib.Omega.{arith}
+use mathlib.Core.Bool.{Bool, true, cond, ◌&&◌, and-true}
+use mathlib.Core.List.{List}
+use mathlib.Core.Logic.{⊎_elim}
+use mathlib.Core.Path.{◌≡◌, refl, sym, ap, subst, ◌∙◌}
+use Prim.Native.Nat.{ℕ, ◌+◌, ◌-◌, ◌*◌, ◌/◌, ◌%◌, ◌≤◌}
+use lib.ListN.{length, take, drop}
 use Rattle.register_words.specs.Asked.{bl_place}
 use Rattle.registers.specs.Set.{is_page, is_long, block_pairs}
 use Rattle.register_pages.proofs.Page.{page_least, PageSize, short_size, long_size, page_size_law}
-use Rattle.register_pages.proofs.Sides.{times_most, half_whole, shaped, unshared, wrong_shaped, wrong_unshared, flag_shaped, flag_unshared}
-use Rattle.register_pages.proofs.Sides.{SidesSeen, sides_none, sides_more, sides_wrong, sides_right, lent_length, lent_good, lent_rises, lent_apart}
+use Rattle.register_pages.proofs.Sides.{times_most, half_whole, SidesSeen, sides_none, sides_more, sides_wrong, sides_right, lent_length, lent_good, lent_rises, lent_apart}
 use Rattle.register_pages.proofs.blocks_refusal.Statement.{statement}
 use Rattle.register_pages.proofs.blocks_refusal.Tie as tie
 
 abbrev invariant-loop : tie.invariant-loop
-invariant-loop page half lengths broken₀ side₀ broken side =
+invariant-loop page half lengths good₀ apart₀ side₀ good apart side =
     (side ≤ 2) × (half ≡ 8 * block_pairs (is_long (length page))) × (68 + 2 * half ≡ length page) × (lengths ≡ bl_place (is_long (length page)))
-    × ((right : is_page (length page) ≡ true) → SidesSeen page right side broken)
+    × ((right : is_page (length page) ≡ true) → SidesSeen page right side good apart)
 
 abbrev decreases-loop : tie.decreases-loop
-decreases-loop page half lengths broken₀ side₀ broken side = 2 - side
+decreases-loop page half lengths good₀ apart₀ side₀ good apart side = 2 - side
 
 sub-half : tie.Need-overflow-sub-half invariant-loop decreases-loop
 sub-half c = omega (arith, page_least (length c.before.args.page.now) c.before.requires)
@@ -87,31 +92,31 @@ add-to : tie.Need-overflow-add-to invariant-loop decreases-loop
 add-to c = omega (arith, most c)
 
 sub-side-of : tie.Need-overflow-sub-side-of invariant-loop decreases-loop
-sub-side-of c = search needs
+sub-side-of c = search rules
 
 part-side-of-start : tie.Need-slice-bounds-side-of-start invariant-loop decreases-loop
-part-side-of-start c = search needs
+part-side-of-start c = search rules
 
 part-side-of-end : tie.Need-slice-bounds-side-of-end invariant-loop decreases-loop
 part-side-of-end c = omega (arith, most c)
 
 mul-side-of : tie.Need-overflow-mul-side-of invariant-loop decreases-loop
-mul-side-of c = search needs
+mul-side-of c = search rules
 
 side-of-requires : tie.Need-side-of-requires invariant-loop decreases-loop
 side-of-requires c κs = let (whole, few) = half_whole (is_long (length (page c.before))) in (ap (λ (n : ℕ). n % 32) (own_length c.before) ∙ whole, omega (arith, own_length c.before))
 
-mul-broken : tie.Need-overflow-mul-broken invariant-loop decreases-loop
-mul-broken c = search needs
+mul-good : tie.Need-overflow-mul-good invariant-loop decreases-loop
+mul-good c = search rules
 
-sub-broken : tie.Need-overflow-sub-broken invariant-loop decreases-loop
-sub-broken c = search needs
+sub-good : tie.Need-overflow-sub-good invariant-loop decreases-loop
+sub-good c = search rules
 
 sub-side-apart : tie.Need-overflow-sub-side-apart invariant-loop decreases-loop
-sub-side-apart c = search needs
+sub-side-apart c = search rules
 
 part-side-apart-start : tie.Need-slice-bounds-side-apart-start invariant-loop decreases-loop
-part-side-apart-start c = search needs
+part-side-apart-start c = search rules
 
 -- what the pass over the side told, and the side that it passed
 abbrev told_at : tie.After-struct-known2 invariant-loop decreases-loop → tie.After-side-of invariant-loop decreases-loop
@@ -126,18 +131,11 @@ part-side-apart-end c = omega (arith, most (own-side c.before))
 side-apart-requires : tie.Need-side-apart-requires invariant-loop decreases-loop
 side-apart-requires c κs = omega (arith, own_length (own-side c.before.before))
 
-cast-broken : tie.Need-overflow-cast-broken invariant-loop decreases-loop
-cast-broken c = search needs
-
 add-side : tie.Need-overflow-add-side invariant-loop decreases-loop
-add-side c = search needs
+add-side c = search rules
 
 loop-less : tie.Need-loop-smaller invariant-loop decreases-loop
-loop-less c = search needs
-
--- the bits that must be zero are not the lowest
-mask-even : (any s : ℕ) → s < 2 → bit_and any (0xFFFFFFFFFFFFFFCC - 0x48 * s) % 2 ≡ 0
-mask-even any s l = and_odd any (0xFFFFFFFFFFFFFFCC - 0x48 * s) ∙ omega arith
+loop-less c = search rules
 
 loop-again : tie.Need-loop-preserved invariant-loop decreases-loop
 loop-again c =
@@ -149,47 +147,44 @@ loop-again c =
     let told = seen.ensures in
     let (upto, half_of_lem, whole, lengths, before) = l.inv in
     let H = half i in
-    let A = at i in
-    let wrong = bit_and seen.result.any (0xFFFFFFFFFFFFFFCC - 0x48 * s) in
-    let even : wrong % 2 ≡ 0 = mask-even seen.result.any s below in (
+    let A = at i in (
       omega arith,
       half_of_lem,
       whole,
       lengths,
-      λ any-right.
-          let own = lent_good (page i) any-right s H A (A + H) below half_of_lem refl refl _ (32 * s) seen.result lengths refl told in
-          ⊎_elim
-          (λ w. sides_more (page i) any-right s l.broken c.if2.broken _ (before any-right) own
-          (ap shaped w.3 ∙ flag_shaped (bit_or l.broken wrong) w.2.result ∙ wrong_shaped l.broken wrong even)
-          (λ shape. ap unshared w.3 ∙ flag_unshared (bit_or l.broken wrong) w.2.result
-          ∙ ap₂ ◌&&◌ (wrong_unshared l.broken wrong even) (w.2.ensures ∙ lent_apart (page i) any-right s H A (A + H) below half_of_lem refl refl shape)))
-          (λ w. sides_more (page i) any-right s l.broken c.if2.broken _ (before any-right) own
-          (ap shaped w.1 ∙ wrong_shaped l.broken wrong even)
-          (λ shape. ap unshared w.1 ∙ wrong_unshared l.broken wrong even
-          ∙ sym (ap (λ (t : Bool). unshared l.broken && t)
-          (lent_rises (page i) any-right s H A (A + H) below half_of_lem refl refl _ (32 * s) seen.result lengths refl told w.0.left shape) ∙ and_true (unshared l.broken))))
-          c.if2.branch,
+      λ any-right. sides_more (page i) any-right s l.good l.apart _ c.if2.apart (before any-right)
+          (lent_good (page i) any-right s H A (A + H) below half_of_lem refl refl _ (32 * s) seen.result lengths refl told)
+          (λ shape. ⊎_elim
+          (λ w. w.3 ∙ ap (λ (t : Bool). l.apart && t) (w.2.ensures ∙ lent_apart (page i) any-right s H A (A + H) below half_of_lem refl refl shape))
+          (λ w. w.1 ∙ sym (ap (λ (t : Bool). l.apart && t)
+          (lent_rises (page i) any-right s H A (A + H) below half_of_lem refl refl _ (32 * s) seen.result lengths refl told w.0.left shape) ∙ and-true l.apart))
+          c.if2.branch),
     )
 
 -- both sides were passed
-both-sides : (c : tie.After-loop invariant-loop decreases-loop) → let start = started c.before in SidesSeen start.args.page.now start.pre 2 c.before.loop.broken
+both-sides : (c : tie.After-loop invariant-loop decreases-loop) →
+    let start = started c.before in
+    SidesSeen start.args.page.now start.pre 2 c.before.loop.good c.before.loop.apart
 both-sides c =
     let start = started c.before in
     let l = c.before.loop in
     let two : l.side ≡ 2 = let upto = l.invariant.0 in omega (arith, c.loop-test.false) in
-    subst (λ (n : ℕ). SidesSeen start.args.page.now start.pre n l.broken) two (l.invariant.4 start.pre)
+    subst (λ (n : ℕ). SidesSeen start.args.page.now start.pre n l.good l.apart) two (l.invariant.4 start.pre)
 
 returns : tie.Need-returns invariant-loop decreases-loop
-returns c = sides_wrong _ _ _ (both-sides c.before) c.if3.true
+returns c =
+    let l = c.before.before.loop in
+    sides_wrong _ _ l.good l.apart (both-sides c.before) (not-true _ c.if3.true)
 
 returns-2 : tie.Need-returns-2 invariant-loop decreases-loop
 returns-2 c =
-    ap (λ (n : ℕ). cond (unshared n) 0 4) (sym c.if4.true) ∙ sides_right _ _ _ (both-sides c.before.before) (omega arith)
+    let l = c.before.before.before.loop in
+    ap (λ (t : Bool). cond t 0 4) (sym c.if4.true) ∙ sides_right _ _ l.good l.apart (both-sides c.before.before) (not-false _ c.before.if3.false)
 
 returns-3 : tie.Need-returns-3 invariant-loop decreases-loop
 returns-3 c =
-    let none : c.before.before.before.loop.broken ≡ 0 = omega (arith, c.before.if3.false, c.if4.false) in
-    ap (λ (n : ℕ). cond (unshared n) 0 4) (sym none) ∙ sides_right _ _ _ (both-sides c.before.before) (omega (arith, none))
+    let l = c.before.before.before.loop in
+    ap (λ (t : Bool). cond t 0 4) (sym c.if4.false) ∙ sides_right _ _ l.good l.apart (both-sides c.before.before) (not-false _ c.before.if3.false)
 
 pub blocks-refusal-spec : {M : Type 1} → statement M
 blocks-refusal-spec =
@@ -207,13 +202,12 @@ blocks-refusal-spec =
     part-side-of-end
     mul-side-of
     side-of-requires
-    mul-broken
-    sub-broken
+    mul-good
+    sub-good
     sub-side-apart
     part-side-apart-start
     part-side-apart-end
     side-apart-requires
-    cast-broken
     add-side
     loop-less
     loop-again

@@ -1,11 +1,17 @@
 -- `register_pages::check` meets its contract: SDR1, then the blocks, then the segments, in the order of the rules; where no block is on, none breaks one.
-use Rattle.words.proofs.Basics.{◌≡◌, sym, ap, ◌∙◌, Bool, true, cond, ⊎_elim, length, arith, not-false, not-true, needs}
+use borrow.Author.Tests.{not-true, not-false}
+use native.Mathlib.Omega.{arith}
+use mathlib.Core.Bool.{Bool, true, cond}
+use mathlib.Core.Logic.{⊎_elim}
+use mathlib.Core.Path.{◌≡◌, sym, ap, ◌∙◌}
+use lib.ListN.{length}
 use Rattle.words.specs.Words.{word_at}
 use Rattle.register_words.specs.Sdr1.{sdr1_shape}
 use Rattle.registers.specs.Set.{is_long, register_words}
 use Rattle.register_pages.specs.Side.{blocks_refusal}
 use Rattle.register_pages.proofs.Page.{page_least}
 use Rattle.register_pages.proofs.Sides.{sdr1_broken, blocks_broken, blocks_kept}
+use borrow.Author.Rules.{rules}
 use Rattle.register_pages.proofs.check.Statement.{statement}
 use Rattle.register_pages.proofs.check.Tie as tie
 
@@ -13,7 +19,7 @@ read-word-requires : tie.Need-read-word-requires
 read-word-requires c κs = omega (arith, page_least (length c.before.args.whole.now) c.before.requires)
 
 sdr1-shape-requires : tie.Need-sdr1-shape-requires
-sdr1-shape-requires c κs = search needs
+sdr1-shape-requires c κs = search rules
 
 abbrev begin : tie.After-sdr1-shape → tie.Start
 begin c = c.before.before.before
@@ -33,10 +39,10 @@ returns : tie.Need-returns
 returns c = sdr1_broken (begin c.before).args.whole.now (sym (sdr1-told c.before) ∙ not-true _ c.if1.true)
 
 blocks-on-requires : tie.Need-blocks-on-requires
-blocks-on-requires c κs = search needs
+blocks-on-requires c κs = search rules
 
 blocks-refusal-requires : tie.Need-blocks-refusal-requires
-blocks-refusal-requires c κs = search needs
+blocks-refusal-requires c κs = search rules
 
 returns-2 : tie.Need-returns-2
 returns-2 c =
@@ -45,7 +51,7 @@ returns-2 c =
     refusal ∙ blocks_broken _ (sdr1-kept on.before) (λ none. c.if3.true (refusal ∙ none))
 
 segments-good-requires : tie.Need-segments-good-requires
-segments-good-requires c κs = search needs
+segments-good-requires c κs = search rules
 
 returns-3 : tie.Need-returns-3
 returns-3 c =

@@ -1,6 +1,11 @@
 -- `register_pages::copy` meets its contract. The invariant: the bytes that were passed are those of the other slice.
-use Rattle.words.proofs.Basics.{ℕ, ◌-◌, ◌<◌, ◌≤◌, ◌≡◌, ◌∙◌, length, get_or, set, length-set, ext_get_or, get_or-set_other, get_or-set_same, arith, needs, below_more}
-use Rattle.words.proofs.Basics.{below_none}
+use borrow.Author.Rules.{rules}
+use borrow.Author.Count.{below_none, below_more}
+use native.Mathlib.Omega.{arith}
+use mathlib.Core.Path.{◌≡◌, ◌∙◌}
+use Prim.Native.Nat.{ℕ, ◌-◌, ◌≤◌, ◌<◌}
+use lib.ListN.{length, get_or, set, length-set}
+use lib.Seq.{ext_get_or, get_or-set_same, get_or-set_other}
 use Rattle.register_pages.proofs.copy.Statement.{statement}
 use Rattle.register_pages.proofs.copy.Tie as tie
 
@@ -14,16 +19,16 @@ loop-holds : tie.Need-loop-init invariant-loop decreases-loop
 loop-holds c = (omega arith, c.requires, below_none _)
 
 shared-slice-read-to : tie.Need-shared-slice-read-to invariant-loop decreases-loop
-shared-slice-read-to c = search needs
+shared-slice-read-to c = search rules
 
 slice-write-to : tie.Need-slice-write-to invariant-loop decreases-loop
-slice-write-to c = search needs
+slice-write-to c = search rules
 
 add-i : tie.Need-overflow-add-i invariant-loop decreases-loop
-add-i c = search needs
+add-i c = search rules
 
 loop-less : tie.Need-loop-smaller invariant-loop decreases-loop
-loop-less c = search needs
+loop-less c = search rules
 
 loop-again : tie.Need-loop-preserved invariant-loop decreases-loop
 loop-again c =
@@ -39,7 +44,7 @@ loop-again c =
     )
 
 same_length : tie.Need-same-length invariant-loop decreases-loop
-same_length c = search needs
+same_length c = search rules
 
 returns : tie.Need-returns invariant-loop decreases-loop
 returns c =

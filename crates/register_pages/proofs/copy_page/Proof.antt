@@ -1,26 +1,32 @@
 -- `register_pages::copy_page` meets its contract: part by part, the bytes in front are the other slice's.
-use Rattle.words.proofs.Basics.{ℕ, ◌≤◌, ◌≡◌, sym, ap, ap₂, ◌∙◌, List, ◌++◌, length, take, drop, length-append, length-drop, length-take-le, arith, needs}
-use Rattle.words.proofs.Basics.{put_mid}
+use native.Mathlib.Omega.{arith}
+use mathlib.Core.List.{List, ◌++◌}
+use mathlib.Core.Path.{◌≡◌, sym, ap, ap₂, ◌∙◌}
+use Prim.Native.Nat.{ℕ, ◌≤◌}
+use lib.ListN.{length, take, drop, length-append, length-drop}
+use lib.Seq.{length-take-le}
+use borrow.Rule.Slice.PartMut.{put_mid}
 use Rattle.registers.proofs.Set.{short_page}
 use Rattle.register_pages.proofs.Page.{page_least}
 use Rattle.register_pages.proofs.Replace.{copied_more}
+use borrow.Author.Rules.{rules}
 use Rattle.register_pages.proofs.copy_page.Statement.{statement}
 use Rattle.register_pages.proofs.copy_page.Tie as tie
 
 sub-copy : tie.Need-overflow-sub-copy
-sub-copy c = search needs
+sub-copy c = search rules
 
 part-copy-start : tie.Need-slice-bounds-copy-start
-part-copy-start c = search needs
+part-copy-start c = search rules
 
 part-copy-end : tie.Need-slice-bounds-copy-end
 part-copy-end c = omega (arith, page_least c.before.before.args.size c.before.before.requires.0, c.before.before.requires.1)
 
 sub-copy-2 : tie.Need-overflow-sub-copy-2
-sub-copy-2 c = search needs
+sub-copy-2 c = search rules
 
 part-copy-start-2 : tie.Need-slice-bounds-copy-start-2
-part-copy-start-2 c = search needs
+part-copy-start-2 c = search rules
 
 abbrev start_of : tie.After-copy-arg → tie.Start
 start_of c = c.before.before.before
@@ -29,13 +35,13 @@ part-copy-end-2 : tie.Need-slice-bounds-copy-end-2
 part-copy-end-2 c = let start = start_of c in omega (arith, page_least start.args.size start.pre.0, start.pre.2)
 
 copy-requires : tie.Need-copy-requires
-copy-requires c κs = search needs
+copy-requires c κs = search rules
 
 sub-copy-3 : tie.Need-overflow-sub-copy-3
-sub-copy-3 c = search needs
+sub-copy-3 c = search rules
 
 part-copy-start-3 : tie.Need-slice-bounds-copy-start-3
-part-copy-start-3 c = search needs
+part-copy-start-3 c = search rules
 
 part-copy-end-3 : tie.Need-slice-bounds-copy-end-3
 part-copy-end-3 c =
@@ -48,10 +54,10 @@ part-copy-end-3 c =
     omega (arith, length-append at_first.copy.new.0 (drop 68 to), length-drop 68 to, start.pre.1)
 
 sub-copy-4 : tie.Need-overflow-sub-copy-4
-sub-copy-4 c = search needs
+sub-copy-4 c = search rules
 
 part-copy-start-4 : tie.Need-slice-bounds-copy-start-4
-part-copy-start-4 c = search needs
+part-copy-start-4 c = search rules
 
 -- where the first part was copied, from where the second is lent
 abbrev first_of_law : tie.After-copy-arg3 → tie.After-copy
@@ -63,31 +69,31 @@ part-copy-end-4 c =
     omega (arith, page_least start.args.size start.pre.0, start.pre.2)
 
 copy-requires-2 : tie.Need-copy-requires-2
-copy-requires-2 c κs = search needs
+copy-requires-2 c κs = search rules
 
 sub-copy-5 : tie.Need-overflow-sub-copy-5
-sub-copy-5 c = search needs
+sub-copy-5 c = search rules
 
 part-copy-start-5 : tie.Need-slice-bounds-copy-start-5
-part-copy-start-5 c = search needs
+part-copy-start-5 c = search rules
 
 part-copy-end-5 : tie.Need-slice-bounds-copy-end-5
-part-copy-end-5 c = search needs
+part-copy-end-5 c = search rules
 
 sub-copy-6 : tie.Need-overflow-sub-copy-6
-sub-copy-6 c = search needs
+sub-copy-6 c = search rules
 
 part-copy-start-6 : tie.Need-slice-bounds-copy-start-6
-part-copy-start-6 c = search needs
+part-copy-start-6 c = search rules
 
 part-copy-end-6 : tie.Need-slice-bounds-copy-end-6
-part-copy-end-6 c = search needs
+part-copy-end-6 c = search rules
 
 copy-requires-3 : tie.Need-copy-requires-3
-copy-requires-3 c κs = search needs
+copy-requires-3 c κs = search rules
 
 same_length : tie.Need-same-length
-same_length c = search needs
+same_length c = search rules
 
 -- what the first two parts left
 module _ (c : tie.After-slice-known3) where
@@ -124,7 +130,7 @@ returns c =
     ∙ ap (λ (n : ℕ). take n (from known) ++ drop n (to known)) (sym long.if1.true)
 
 same-length-2 : tie.Need-same-length-2
-same-length-2 c = search needs
+same-length-2 c = search rules
 
 returns-2 : tie.Need-returns-2
 returns-2 c =

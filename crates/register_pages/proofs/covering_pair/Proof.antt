@@ -1,7 +1,13 @@
 -- `register_pages::covering_pair` meets its contract. The invariant of both loops: no pair that was passed covers the address; behind the page's own pairs
 -- the set's are zero, so they are off and cover nothing.
-use Rattle.words.proofs.Basics.{ℕ, ◌+◌, ◌-◌, ◌*◌, ◌/◌, ◌%◌, ◌<◌, ◌≤◌, ◌≡◌, refl, sym, ap, ◌∙◌, subst, Bool, false, List, length, arith, needs, below_more}
-use Rattle.words.proofs.Basics.{below_none}
+use borrow.Author.Rules.{rules}
+use borrow.Author.Count.{below_none, below_more}
+use mathlib.Core.Path.{◌≡◌, refl, sym, ap, subst, ◌∙◌}
+use mathlib.Core.Bool.{Bool, false}
+use Prim.Native.Nat.{ℕ, ◌+◌, ◌*◌, ◌/◌, ◌%◌, ◌≤◌, ◌<◌, ◌-◌}
+use native.Mathlib.Omega.{arith}
+use lib.ListN.{length}
+use mathlib.Core.List.{List}
 use Rattle.words.specs.Words.{word_at}
 use Rattle.words.proofs.Below.{first_found}
 use Rattle.register_words.specs.Block.{covers}
@@ -85,7 +91,7 @@ covers-is c =
     ∙ sym (upper_at_law (page at) a.side (i at) (own_pair at)))
 
 side-at-requires : tie.Need-side-at-requires invariant-loop2 decreases-loop2 invariant-loop decreases-loop
-side-at-requires c κs = search needs
+side-at-requires c κs = search rules
 
 sub-pairs : tie.Need-overflow-sub-pairs invariant-loop2 decreases-loop2 invariant-loop decreases-loop
 sub-pairs c =
@@ -93,13 +99,13 @@ sub-pairs c =
     omega (arith, page_least (length start.args.page.now) start.requires)
 
 loop-holds : tie.Need-loop-init invariant-loop2 decreases-loop2 invariant-loop decreases-loop
-loop-holds c = (search needs, refl, below_none _)
+loop-holds c = (search rules, refl, below_none _)
 
 add-i-end : tie.Need-overflow-add-i-end invariant-loop2 decreases-loop2 invariant-loop decreases-loop
 add-i-end c = omega (arith, four-left c, pairs_most (is_long (length (begin c.before).args.page.now)))
 
 loop2-holds : tie.Need-loop2-init invariant-loop2 decreases-loop2 invariant-loop decreases-loop
-loop2-holds c = (search needs, c.before.loop.invariant.2)
+loop2-holds c = (search rules, c.before.loop.invariant.2)
 
 mul-read-word : tie.Need-overflow-mul-read-word invariant-loop2 decreases-loop2 invariant-loop decreases-loop
 mul-read-word c = omega (arith, on-page c)
@@ -111,7 +117,7 @@ read-word-requires : tie.Need-read-word-requires invariant-loop2 decreases-loop2
 read-word-requires c κs = omega (arith, on-page c)
 
 block-covers-requires : tie.Need-block-covers-requires invariant-loop2 decreases-loop2 invariant-loop decreases-loop
-block-covers-requires c κs = search needs
+block-covers-requires c κs = search rules
 
 returns : tie.Need-returns invariant-loop2 decreases-loop2 invariant-loop decreases-loop
 unfolding covering_pair
@@ -122,21 +128,21 @@ returns c =
     sym (first_found _ 8 (i at) (omega arith) (sym (covers-is c.before) ∙ c.if1.true) at.before.loop2.invariant.1)
 
 add-i : tie.Need-overflow-add-i invariant-loop2 decreases-loop2 invariant-loop decreases-loop
-add-i c = search needs
+add-i c = search rules
 
 loop2-less : tie.Need-loop2-smaller invariant-loop2 decreases-loop2 invariant-loop decreases-loop
-loop2-less c = search needs
+loop2-less c = search rules
 
 loop2-again : tie.Need-loop2-preserved invariant-loop2 decreases-loop2 invariant-loop decreases-loop
 loop2-again c =
     let at = c.before.before.before in
-    (search needs, below_more _ _ at.before.loop2.invariant.1 (sym (covers-is c.before) ∙ c.if1.false))
+    (search rules, below_more _ _ at.before.loop2.invariant.1 (sym (covers-is c.before) ∙ c.if1.false))
 
 add-first : tie.Need-overflow-add-first invariant-loop2 decreases-loop2 invariant-loop decreases-loop
-add-first c = search needs
+add-first c = search rules
 
 loop-less : tie.Need-loop-smaller invariant-loop2 decreases-loop2 invariant-loop decreases-loop
-loop-less c = search needs
+loop-less c = search rules
 
 loop-again : tie.Need-loop-preserved invariant-loop2 decreases-loop2 invariant-loop decreases-loop
 loop-again c =

@@ -1,12 +1,15 @@
 -- `register_pages::lower` meets its contract: the word at the pair's byte is the set's.
-use Rattle.words.proofs.Basics.{ℕ, ◌+◌, sym, ap, ◌∙◌, arith, needs}
+use borrow.Author.Rules.{rules}
+use mathlib.Core.Path.{sym, ap, ◌∙◌}
+use Prim.Native.Nat.{ℕ, ◌+◌}
+use native.Mathlib.Omega.{arith}
 use Rattle.words.specs.Words.{word_at}
 use Rattle.register_pages.proofs.Page.{lower_at_law}
 use Rattle.register_pages.proofs.lower.Statement.{statement}
 use Rattle.register_pages.proofs.lower.Tie as tie
 
 pair-at-requires : tie.Need-pair-at-requires
-pair-at-requires c κs = search needs
+pair-at-requires c κs = search rules
 
 add-read-word : tie.Need-overflow-add-read-word
 add-read-word c = omega (arith, c.pair-at.ensures.1)

@@ -1,5 +1,10 @@
 -- `register_pages::pair_apart` meets its contract. The invariant: the block is apart from each pair that was passed.
-use Rattle.words.proofs.Basics.{ℕ, ◌-◌, ◌/◌, ◌%◌, ◌≤◌, ◌≡◌, refl, sym, ap, ◌∙◌, Bool, true, not, List, arith, needs}
+use borrow.Author.Rules.{rules}
+use native.Mathlib.Omega.{arith}
+use mathlib.Core.Bool.{Bool, true, not}
+use mathlib.Core.List.{List}
+use mathlib.Core.Path.{◌≡◌, refl, sym, ap, ◌∙◌}
+use Prim.Native.Nat.{ℕ, ◌-◌, ◌/◌, ◌%◌, ◌≤◌}
 use Rattle.words.specs.Below.{every_below}
 use Rattle.words.specs.Words.{word_at}
 use Rattle.words.proofs.Below.{every_not}
@@ -20,10 +25,10 @@ unfolding apart_from every_below
 loop-holds c = (omega arith, refl, refl)
 
 read-word-requires : tie.Need-read-word-requires invariant-loop decreases-loop
-read-word-requires c κs = search needs
+read-word-requires c κs = search rules
 
 blocks-clash-requires : tie.Need-blocks-clash-requires invariant-loop decreases-loop
-blocks-clash-requires c κs = search needs
+blocks-clash-requires c κs = search rules
 
 -- what the call gave is the test of the pair at hand
 module _ (c : tie.After-blocks-clash invariant-loop decreases-loop) where
@@ -53,10 +58,10 @@ returns c =
     (apart-is c.before ∙ ap not c.if1.true)
 
 add-before : tie.Need-overflow-add-before invariant-loop decreases-loop
-add-before c = search needs
+add-before c = search rules
 
 loop-less : tie.Need-loop-smaller invariant-loop decreases-loop
-loop-less c = search needs
+loop-less c = search rules
 
 loop-again : tie.Need-loop-preserved invariant-loop decreases-loop
 unfolding apart_from

@@ -1,5 +1,7 @@
 -- `register_pages::pair_at` meets its contract: the bytes of a side's pairs lie on the page.
-use Rattle.words.proofs.Basics.{◌+◌, ◌*◌, ◌≤◌, arith, needs}
+use borrow.Author.Rules.{rules}
+use Prim.Native.Nat.{◌+◌, ◌*◌, ◌≤◌}
+use native.Mathlib.Omega.{arith}
 use Rattle.register_pages.proofs.Page.{pair_fits}
 use Rattle.register_pages.proofs.pair_at.Statement.{statement}
 use Rattle.register_pages.proofs.pair_at.Tie as tie
@@ -10,7 +12,7 @@ on-page c =
     rw c.side-at.ensures (pair_fits start.args.size start.requires.0 start.args.side start.args.i start.requires.1)
 
 side-at-requires : tie.Need-side-at-requires
-side-at-requires c κs = search needs
+side-at-requires c κs = search rules
 
 mul-result : tie.Need-overflow-mul-result
 mul-result c = omega (arith, on-page c)

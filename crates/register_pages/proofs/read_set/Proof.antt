@@ -1,12 +1,17 @@
 -- `register_pages::read_set` meets its contract: the page's bytes stand in front, and zeros behind them.
-use Rattle.words.proofs.Basics.{ℕ, ◌≡◌, refl, ap, ◌∙◌, List, ◌++◌, length, take, drop, replicate, length-append, length-drop, take_at, take-length, arith}
-use Rattle.words.proofs.Basics.{needs}
+use native.Mathlib.Omega.{arith}
+use mathlib.Core.List.{List, ◌++◌}
+use mathlib.Core.Path.{◌≡◌, refl, ap, ◌∙◌}
+use Prim.Native.Nat.{ℕ}
+use lib.ListN.{length, take, drop, replicate, length-append, length-drop}
+use lib.Seq.{take_at, take-length}
 use Rattle.register_pages.proofs.Replace.{page_most, bytes_append, bytes_drop, bytes_zeros}
+use borrow.Author.Rules.{rules}
 use Rattle.register_pages.proofs.read_set.Statement.{statement}
 use Rattle.register_pages.proofs.read_set.Tie as tie
 
 slice-aggregate-copy-page : tie.Need-slice-aggregate-copy-page
-slice-aggregate-copy-page c = search needs
+slice-aggregate-copy-page c = search rules
 
 copy-page-requires : tie.Need-copy-page-requires
 copy-page-requires c κs = let start = c.before.before in (start.requires, page_most (length start.args.page.now) start.requires, omega arith)

@@ -1,5 +1,7 @@
 -- `register_pages::sdr1` meets its contract: the page's first word is the set's.
-use Rattle.words.proofs.Basics.{sym, ◌∙◌, length, arith}
+use mathlib.Core.Path.{sym, ◌∙◌}
+use native.Mathlib.Omega.{arith}
+use lib.ListN.{length}
 use Rattle.register_pages.proofs.Page.{page_least, sdr1_at}
 use Rattle.register_pages.proofs.sdr1.Statement.{statement}
 use Rattle.register_pages.proofs.sdr1.Tie as tie

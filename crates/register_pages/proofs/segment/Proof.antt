@@ -1,14 +1,17 @@
 -- `register_pages::segment` meets its contract: the word at that byte is the set's.
-use Rattle.words.proofs.Basics.{sym, ◌∙◌, length, arith, needs}
+use borrow.Author.Rules.{rules}
+use mathlib.Core.Path.{sym, ◌∙◌}
+use native.Mathlib.Omega.{arith}
+use lib.ListN.{length}
 use Rattle.register_pages.proofs.Page.{page_least, segment_at_law}
 use Rattle.register_pages.proofs.segment.Statement.{statement}
 use Rattle.register_pages.proofs.segment.Tie as tie
 
 mul-read-word : tie.Need-overflow-mul-read-word
-mul-read-word c = search needs
+mul-read-word c = search rules
 
 add-read-word : tie.Need-overflow-add-read-word
-add-read-word c = search needs
+add-read-word c = search rules
 
 read-word-requires : tie.Need-read-word-requires
 read-word-requires c κs = omega (arith, page_least (length c.before.args.page.now) c.before.requires.0)

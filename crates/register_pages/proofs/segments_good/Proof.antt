@@ -1,8 +1,16 @@
 -- `register_pages::segments_good` meets its contract. The invariant: the mask leaves nothing of the number exactly where each segment register that was
 -- passed has its shape; read from the low end, the first byte of each word is the lowest of its half.
-use Rattle.words.proofs.Basics.{ℕ, ◌+◌, ◌-◌, ◌*◌, ◌/◌, ◌%◌, ◌^◌, ◌<◌, ◌≤◌, ◌≡◌, refl, sym, ap, ap₂, ◌∙◌, Bool, ◌&&◌, and_comm, List, eqb, length, bit_and, bit_or}
-use Rattle.words.proofs.Basics.{and_mask, and_mod, and_shr, field, mod-mod-pow, shr-shr, split, div-one, arith, needs}
-use mathlib.Core.Bool.{and_assoc}
+use borrow.Author.Rules.{rules}
+use mathlib.Core.Path.{◌≡◌, refl, sym, ap, ap₂, ◌∙◌}
+use mathlib.Core.Bool.{Bool, ◌&&◌, and_comm, and_assoc}
+use mathlib.Core.List.{List}
+use Prim.Native.Nat.{ℕ, ◌+◌, ◌-◌, ◌*◌, ◌/◌, ◌%◌, ◌^◌, ◌≤◌, ◌<◌}
+use native.Mathlib.Nat.{div-one}
+use native.Mathlib.Omega.{arith}
+use lib.Bits.{bit_and, bit_or, and_mask, and_shr, and_mod}
+use lib.Dec.{eqb}
+use lib.ListN.{length}
+use lib.Pow.{split, field, shr-shr, mod-mod-pow}
 use Rattle.words.specs.Below.{every_below}
 use Rattle.words.specs.Bits.{bits}
 use Rattle.words.specs.Words.{word_at, swapped}
@@ -35,10 +43,10 @@ raw-pair-requires : tie.Need-raw-pair-requires invariant-loop decreases-loop
 raw-pair-requires c κs = let start = c.before.before.before in omega (arith, page_least (length start.args.page.now) start.requires)
 
 add_at : tie.Need-overflow-add-at invariant-loop decreases-loop
-add_at c = search needs
+add_at c = search rules
 
 loop-less : tie.Need-loop-smaller invariant-loop decreases-loop
-loop-less c = search needs
+loop-less c = search rules
 
 swapped-lt : (w : ℕ) → swapped w < 2 ^ 32
 unfolding swapped

@@ -1,5 +1,11 @@
 -- `register_pages::set_word` meets its contract: the set is the page's, and where it is a new one its word is the one that was given.
-use Rattle.words.proofs.Basics.{ℕ, ◌+◌, ◌*◌, ◌≤◌, min, ◌≡◌, sym, ap, ◌∙◌, Bool, cond, List, length, take, length-take, arith, eq-eqb, ne_eqb, needs}
+use borrow.Author.Tests.{eq-eqb, ne_eqb}
+use native.Mathlib.Omega.{arith}
+use mathlib.Core.Bool.{Bool, cond}
+use mathlib.Core.List.{List}
+use mathlib.Core.Path.{◌≡◌, sym, ap, ◌∙◌}
+use Prim.Native.Nat.{ℕ, ◌+◌, ◌*◌, ◌≤◌, min}
+use lib.ListN.{length, take, length-take}
 use Rattle.words.specs.Words.{word_at, with_word}
 use Rattle.words.proofs.Words.{length_with_word, word_same}
 use Rattle.registers.specs.Set.{is_long, register_words, replacing}
@@ -7,20 +13,21 @@ use Rattle.registers.proofs.Set.{replaced_number}
 use Rattle.register_pages.specs.Replace.{page_of, page_replaced}
 use Rattle.register_pages.proofs.Replace.{number_fits}
 use Rattle.register_pages.proofs.Sides.{part_word}
+use borrow.Author.Rules.{rules}
 use Rattle.register_pages.proofs.set_word.Statement.{statement}
 use Rattle.register_pages.proofs.set_word.Tie as tie
 
 read-set-requires : tie.Need-read-set-requires
-read-set-requires c κs = search needs
+read-set-requires c κs = search rules
 
 with-word-requires : tie.Need-with-word-requires
 with-word-requires c κs = c.read_set.ensures.0
 
 mul-byte : tie.Need-overflow-mul-byte
-mul-byte c = search needs
+mul-byte c = search rules
 
 slice-aggregate-read-word : tie.Need-slice-aggregate-read-word
-slice-aggregate-read-word c = search needs
+slice-aggregate-read-word c = search rules
 
 abbrev start_of : tie.After-read-set → tie.Start
 start_of c = c.before.before.before
@@ -87,7 +94,7 @@ write-word-requires : tie.Need-write-word-requires
 write-word-requires c κs = let t = taken c.before in fits t.before t.if1.taken
 
 same_length : tie.Need-same-length
-same_length c = search needs
+same_length c = search rules
 
 returns : tie.Need-returns
 unfolding page_replaced
@@ -100,7 +107,7 @@ returns c =
     (at-write.write_word.ensures ∙ ap (with_word (page k) (4 * number k)) (at-write.before.read_word.ensures ∙ word_is k t.if1.taken)))
 
 same-length-2 : tie.Need-same-length-2
-same-length-2 c = search needs
+same-length-2 c = search rules
 
 returns-2 : tie.Need-returns-2
 unfolding page_replaced

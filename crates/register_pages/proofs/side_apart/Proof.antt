@@ -1,5 +1,13 @@
 -- `register_pages::side_apart` meets its contract. The invariant: each pair that was passed is apart from those before it.
-use Rattle.words.proofs.Basics.{ℕ, ◌-◌, ◌/◌, ◌%◌, ◌≤◌, ◌≡◌, refl, sym, ap, ◌∙◌, Bool, true, not, ⊎_elim, List, length, arith, not-false, not-true, needs}
+use borrow.Author.Rules.{rules}
+use borrow.Author.Tests.{not-true, not-false}
+use native.Mathlib.Omega.{arith}
+use mathlib.Core.Bool.{Bool, true, not}
+use mathlib.Core.List.{List}
+use mathlib.Core.Logic.{⊎_elim}
+use mathlib.Core.Path.{◌≡◌, refl, sym, ap, ◌∙◌}
+use Prim.Native.Nat.{ℕ, ◌-◌, ◌/◌, ◌%◌, ◌≤◌}
+use lib.ListN.{length}
 use Rattle.words.specs.Below.{every_below}
 use Rattle.words.specs.Words.{word_at}
 use Rattle.words.proofs.Below.{every_not, every_all}
@@ -20,10 +28,10 @@ unfolding pairs_apart every_below
 loop-holds c = (omega arith, refl, refl)
 
 read-word-requires : tie.Need-read-word-requires invariant-loop decreases-loop
-read-word-requires c κs = search needs
+read-word-requires c κs = search rules
 
 pair-apart-requires : tie.Need-pair-apart-requires invariant-loop decreases-loop
-pair-apart-requires c κs = search needs
+pair-apart-requires c κs = search rules
 
 -- the pair at hand
 module _ (c : tie.After-read-word invariant-loop decreases-loop) where
@@ -51,10 +59,10 @@ returns c =
     (ap (λ (w : ℕ). apart_from (pairs r) w (at r / 8)) (sym (own_is r)) ∙ sym c.before.pair-apart.ensures ∙ not-true _ c.if2.true)
 
 add_at : tie.Need-overflow-add-at invariant-loop decreases-loop
-add_at c = search needs
+add_at c = search rules
 
 loop-less : tie.Need-loop-smaller invariant-loop decreases-loop
-loop-less c = search needs
+loop-less c = search rules
 
 loop-again : tie.Need-loop-preserved invariant-loop decreases-loop
 unfolding pairs_apart apart_from

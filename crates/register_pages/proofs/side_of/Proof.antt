@@ -1,7 +1,17 @@
 -- `register_pages::side_of` meets its contract. The invariant of both loops: what the laws of Pass say of the pairs that were passed.
-use Rattle.words.proofs.Basics.{ℕ, ◌+◌, ◌-◌, ◌*◌, ◌/◌, ◌%◌, ◌^◌, ◌<◌, ◌≤◌, ◌≡◌, refl, sym, ap, ap₂, ◌∙◌, subst, Bool, true, false, ⊎_elim, List, eqb, leb, lit≤}
-use Rattle.words.proofs.Basics.{length, bit_and, bit_or, arith, leb-false, needs, bool_byte}
+use borrow.Author.Rules.{rules}
+use native.Mathlib.Omega.{arith}
+use mathlib.Core.Path.{◌≡◌, refl, sym, ap, ap₂, subst, ◌∙◌}
+use mathlib.Core.Logic.{⊎_elim}
+use Prim.Native.Nat.{ℕ, ◌+◌, ◌-◌, ◌*◌, ◌/◌, ◌%◌, ◌^◌, ◌≤◌, ◌<◌}
+use mathlib.Core.Bool.{Bool, true, false}
+use lib.Dec.{eqb, leb, lit≤}
+use lib.ListN.{length}
+use borrow.Author.Tests.{leb-false}
+use mir.Val.{bool_byte}
 use Rattle.words.proofs.Tests.{by_test}
+use mathlib.Core.List.{List}
+use lib.Bits.{bit_and, bit_or}
 use Rattle.register_words.specs.Asked.{bl_place, side_sum, zero_bits}
 use Rattle.register_words.specs.Block.{bl_width, off, block_shape}
 use Rattle.words.specs.Words.{word_at}
@@ -32,28 +42,28 @@ loop2-holds c =
     (omega arith, subst (λ (n : ℕ). Seen start.args.lengths start.args.sum start.args.pairs.now n l.any l.falls l.end) (omega arith) l.invariant.2)
 
 mul-from : tie.Need-overflow-mul-from invariant-loop2 decreases-loop2 invariant-loop decreases-loop
-mul-from c = search needs
+mul-from c = search rules
 
 add-from : tie.Need-overflow-add-from invariant-loop2 decreases-loop2 invariant-loop decreases-loop
-add-from c = search needs
+add-from c = search rules
 
 add-if1 : tie.Need-overflow-add-if1 invariant-loop2 decreases-loop2 invariant-loop decreases-loop
-add-if1 c = search needs
+add-if1 c = search rules
 
 shared-slice-read-if1 : tie.Need-shared-slice-read-if1 invariant-loop2 decreases-loop2 invariant-loop decreases-loop
-shared-slice-read-if1 c = search needs
+shared-slice-read-if1 c = search rules
 
 read-pair-requires : tie.Need-read-pair-requires invariant-loop2 decreases-loop2 invariant-loop decreases-loop
-read-pair-requires c κs = search needs
+read-pair-requires c κs = search rules
 
 ones-of-requires : tie.Need-ones-of-requires invariant-loop2 decreases-loop2 invariant-loop decreases-loop
-ones-of-requires c κs = search needs
+ones-of-requires c κs = search rules
 
 asked-of-requires : tie.Need-asked-of-requires invariant-loop2 decreases-loop2 invariant-loop decreases-loop
-asked-of-requires c κs = search needs
+asked-of-requires c κs = search rules
 
 cast-falls : tie.Need-overflow-cast-falls invariant-loop2 decreases-loop2 invariant-loop decreases-loop
-cast-falls c = search needs
+cast-falls c = search rules
 
 fall-one : (t : Bool) → bool_byte t ≤ 1
 fall-one true = lit≤ tt
@@ -110,13 +120,13 @@ add-falls c =
     record { fits = omega (arith, fall-one (leb at_read.read-pair.result l2.end), l2.inv.1.few, (begin b).requires.1) }
 
 end-of-requires : tie.Need-end-of-requires invariant-loop2 decreases-loop2 invariant-loop decreases-loop
-end-of-requires c κs = search needs
+end-of-requires c κs = search rules
 
 add-i : tie.Need-overflow-add-i invariant-loop2 decreases-loop2 invariant-loop decreases-loop
-add-i c = search needs
+add-i c = search rules
 
 loop2-less : tie.Need-loop2-smaller invariant-loop2 decreases-loop2 invariant-loop decreases-loop
-loop2-less c = search needs
+loop2-less c = search rules
 
 loop2-again : tie.Need-loop2-preserved invariant-loop2 decreases-loop2 invariant-loop decreases-loop
 loop2-again c =
@@ -140,10 +150,10 @@ loop2-again c =
     )
 
 add_at : tie.Need-overflow-add-at invariant-loop2 decreases-loop2 invariant-loop decreases-loop
-add_at c = search needs
+add_at c = search rules
 
 loop-less : tie.Need-loop-smaller invariant-loop2 decreases-loop2 invariant-loop decreases-loop
-loop-less c = search needs
+loop-less c = search rules
 
 loop-again : tie.Need-loop-preserved invariant-loop2 decreases-loop2 invariant-loop decreases-loop
 loop-again c =

@@ -1,12 +1,14 @@
 -- `register_pages::upper` meets its contract: the word at the pair's byte is the set's.
-use Rattle.words.proofs.Basics.{sym, ap, ◌∙◌, arith, needs}
+use borrow.Author.Rules.{rules}
+use mathlib.Core.Path.{sym, ap, ◌∙◌}
+use native.Mathlib.Omega.{arith}
 use Rattle.words.specs.Words.{word_at}
 use Rattle.register_pages.proofs.Page.{upper_at_law}
 use Rattle.register_pages.proofs.upper.Statement.{statement}
 use Rattle.register_pages.proofs.upper.Tie as tie
 
 pair-at-requires : tie.Need-pair-at-requires
-pair-at-requires c κs = search needs
+pair-at-requires c κs = search rules
 
 read-word-requires : tie.Need-read-word-requires
 read-word-requires c κs = omega (arith, c.pair-at.ensures.1)

@@ -1,5 +1,6 @@
 -- `register_words::asked_of` meets its contract: what the ones leave of the pair is what the laws of Shape speak of, for either page and side.
-use Rattle.words.proofs.Basics.{ℕ, ◌+◌, ◌%◌, ◌^◌, ◌≡◌, refl, ap, ap₂, ◌∙◌, Bool, true, false, bit_and, bit_xor, needs}
+use Rattle.std.proofs.Common.{◌≡◌, ℕ, ◌+◌, ◌%◌, ◌^◌, Bool, true, false, refl, ap, ◌∙◌, ap₂, rules}
+use lib.Bits.{bit_and, bit_xor}
 use Rattle.register_words.specs.Asked.{bl_place, side_sum}
 use Rattle.register_words.specs.Block.{bl_width}
 use Rattle.register_words.proofs.Asked.{asked, place}
@@ -8,7 +9,7 @@ use Rattle.register_words.proofs.asked_of.Statement.{statement}
 use Rattle.register_words.proofs.asked_of.Tie as tie
 
 wrapping-add-u64-requires : tie.Need-wrapping-add-u64-requires
-wrapping-add-u64-requires c κs = search needs
+wrapping-add-u64-requires c κs = search rules
 
 place_is : (long : Bool) → bl_place long ≡ place (bl_width long)
 place_is true = refl

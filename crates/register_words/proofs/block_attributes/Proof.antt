@@ -1,5 +1,6 @@
 -- `register_words::block_attributes` meets its contract: the mask leaves four bits.
-use Rattle.words.proofs.Basics.{◌/◌, ◌^◌, and_mask}
+use Rattle.std.proofs.Common.{◌/◌, ◌^◌}
+use lib.Bits.{and_mask}
 use Rattle.register_words.specs.Block.{block_attributes}
 use Rattle.register_words.proofs.block_attributes.Statement.{statement}
 use Rattle.register_words.proofs.block_attributes.Tie as tie

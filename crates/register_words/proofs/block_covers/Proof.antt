@@ -1,7 +1,6 @@
 -- `register_words::block_covers` meets its contract: the V bit is picked by the privilege, and the address test is that of `in_block`.
-use Rattle.words.proofs.Basics.{ℕ, ◌+◌, ◌-◌, ◌*◌, ◌/◌, ◌%◌, ◌^◌, ◌≡◌, ap, ◌∙◌, false, not, ⊎_elim, eqb, bit_and, and_high, pow_pos, div-one, one-mul, arith}
-use Rattle.words.proofs.Basics.{ne_eqb, needs}
-use Rattle.std.proofs.Common.{zero-mul}
+use Rattle.std.proofs.Common.{◌≡◌, ℕ, ◌+◌, ◌-◌, ◌*◌, ◌/◌, ◌%◌, ◌^◌, false, not, eqb, ap, ◌∙◌, ⊎_elim, one-mul, zero-mul, div-one, arith, pow_pos, rules, ne_eqb}
+use lib.Bits.{bit_and, and_high}
 use Rattle.words.proofs.Without.{two, digit_lt}
 use Rattle.register_words.specs.Block.{covers, valid_for}
 use Rattle.register_words.proofs.block_covers.Statement.{statement}
@@ -15,7 +14,7 @@ bit_set k u =
     ∙ two (λ (d : ℕ). not (eqb (d * 2 ^ k) 0) ≡ eqb d 1) (rw (zero-mul (2 ^ k))) (rw some) (u / 2 ^ k % 2) (digit_lt (u / 2 ^ k))
 
 in-block-requires : tie.Need-in-block-requires
-in-block-requires c κs = search needs
+in-block-requires c κs = search rules
 
 returns : tie.Need-returns
 unfolding covers valid_for

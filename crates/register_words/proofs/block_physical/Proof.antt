@@ -1,5 +1,7 @@
 -- `register_words::block_physical` meets its contract: BRPN and the BL bits stay below 2 ^ 15, so the shift loses nothing.
-use Rattle.words.proofs.Basics.{◌*◌, ◌/◌, ◌%◌, ◌^◌, ◌<◌, ◌≡◌, bit_and, bit_or, and_le_l, and_mask, or_lt, shr_mod, div-one, arith}
+use Rattle.std.proofs.Common.{◌≡◌, ◌*◌, ◌/◌, ◌%◌, ◌^◌, ◌<◌, div-one, arith}
+use lib.Bits.{bit_and, bit_or, and_mask, or_lt, and_le_l}
+use lib.Pow.{shr_mod}
 use Rattle.words.proofs.Masks.{or_sum}
 use Rattle.register_words.specs.Block.{block_physical}
 use Rattle.register_words.proofs.block_physical.Statement.{statement}

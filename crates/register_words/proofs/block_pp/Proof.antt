@@ -1,5 +1,5 @@
 -- `register_words::block_pp` meets its contract: the remainder is the low two bits.
-use Rattle.words.proofs.Basics.{ℕ, ◌%◌, sym, ap, div-one}
+use Rattle.std.proofs.Common.{ℕ, ◌%◌, sym, ap, div-one}
 use Rattle.register_words.specs.Block.{block_pp}
 use Rattle.register_words.proofs.block_pp.Statement.{statement}
 use Rattle.register_words.proofs.block_pp.Tie as tie

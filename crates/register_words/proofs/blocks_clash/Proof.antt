@@ -1,7 +1,7 @@
 -- `register_words::blocks_clash` meets its contract: above the low 17 bits, which are ones in both, each mask leaves the field that the definition names.
-use Rattle.words.proofs.Basics.{ℕ, ◌+◌, ◌-◌, ◌*◌, ◌/◌, ◌%◌, ◌^◌, ◌<◌, ◌≡◌, sym, ap, ap₂, ◌∙◌, eqb, bit_and, bit_or, and_mask, and_mod, or_mod, or_shr, or_zero_r}
-use Rattle.words.proofs.Basics.{split, div-one, arith}
-use lib.Bits.{or_comm}
+use Rattle.std.proofs.Common.{◌≡◌, ℕ, ◌+◌, ◌-◌, ◌*◌, ◌/◌, ◌%◌, ◌^◌, ◌<◌, eqb, sym, ap, ◌∙◌, ap₂, div-one, arith}
+use lib.Bits.{bit_and, bit_or, and_mask, and_mod, or_shr, or_mod, or_comm, or_zero_r}
+use lib.Pow.{split}
 use Rattle.words.proofs.Masks.{or_full}
 use Rattle.words.proofs.Tests.{eqb_same}
 use Rattle.register_words.specs.Block.{clash, common_v, share_address, bl_of, bepi_of}

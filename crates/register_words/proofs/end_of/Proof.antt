@@ -1,5 +1,7 @@
 -- `register_words::end_of` meets its contract: above its low 49 bits, which are ones, stand BEPI and the ones of the length.
-use Rattle.words.proofs.Basics.{ℕ, ◌+◌, ◌-◌, ◌*◌, ◌/◌, ◌%◌, ◌^◌, ◌≡◌, sym, ap, ap₂, ◌∙◌, bit_or, or_mod, or_shr, or_zero_r, split, arith}
+use Rattle.std.proofs.Common.{◌≡◌, ℕ, ◌+◌, ◌-◌, ◌*◌, ◌/◌, ◌%◌, ◌^◌, sym, ap, ◌∙◌, ap₂, arith}
+use lib.Bits.{bit_or, or_shr, or_mod, or_zero_r}
+use lib.Pow.{split}
 use Rattle.words.proofs.Masks.{or_full}
 use Rattle.register_words.specs.Asked.{last_of}
 use Rattle.register_words.specs.Block.{bepi_of}

@@ -1,9 +1,7 @@
 -- `register_words::in_block` meets its contract: the complement of an address with ones under BL is the complement of the address without BL's bits, and
 -- two numbers of 15 bits differ in each bit exactly where one is the other's complement.
-use Rattle.words.proofs.Basics.{ℕ, zero, suc, ◌+◌, ◌-◌, ◌*◌, ◌/◌, ◌%◌, ◌^◌, ◌<◌, ◌≤◌, min, ◌≡◌, sym, ap, ap₂, ◌∙◌, eqb, leb, bit_and, bit_or, bit_xor, and_le_l}
-use Rattle.words.proofs.Basics.{and_mask, and_step, or_add_and, or_lt, or_shr, xor_add_and, xor_lt, xor_shr, mod-eq_of_lt, pow-suc, arith, eq-eqb, eqb_true}
-use Rattle.words.proofs.Basics.{le-leb, leb-true}
-use lib.Bits.{and_comm, and_self}
+use Rattle.std.proofs.Common.{◌≡◌, ℕ, zero, suc, ◌+◌, ◌-◌, ◌*◌, ◌/◌, ◌%◌, ◌^◌, ◌<◌, ◌≤◌, min, eqb, leb, sym, ap, ◌∙◌, ap₂, mod-eq_of_lt, pow-suc, arith, eq-eqb, eqb-true, le-leb, leb-true}
+use lib.Bits.{bit_and, bit_or, bit_xor, and_step, and_comm, and_self, and_le_l, and_mask, or_lt, or_shr, or_add_and, xor_lt, xor_shr, xor_add_and}
 use Rattle.words.specs.Bits.{bits}
 use Rattle.words.proofs.Tests.{same_test}
 use Rattle.words.proofs.Without.{digit_lt}
@@ -80,7 +78,7 @@ module _ (u a : ℕ) (u-lt : u < 2 ^ 32) (a_lt : a < 2 ^ 32) where
       let twice : 2 ^ 15 - 1 - P ≡ start = omega arith in
       same_test (leb 0xFFFE0000 X) (eqb start (bepi_of u))
       (λ e. let le = leb-true 0xFFFE0000 X e in eq-eqb start (bepi_of u) (sym twice ∙ differ-turned 15 P (bepi_of u) P-lt b_lt (sym above ∙ omega arith)))
-      (λ e. let all = above ∙ turned-differ 15 P (bepi_of u) P-lt b_lt (twice ∙ eqb_true start (bepi_of u) e) in le-leb 0xFFFE0000 X (omega arith))
+      (λ e. let all = above ∙ turned-differ 15 P (bepi_of u) P-lt b_lt (twice ∙ eqb-true start (bepi_of u) e) in le-leb 0xFFFE0000 X (omega arith))
 
 returns : tie.Need-returns
 unfolding in_block

@@ -1,5 +1,6 @@
 -- `register_words::no_execute` meets its contract: the mask leaves the one bit N.
-use Rattle.words.proofs.Basics.{◌/◌, ◌^◌, and_mask}
+use Rattle.std.proofs.Common.{◌/◌, ◌^◌}
+use lib.Bits.{and_mask}
 use Rattle.register_words.specs.Segment.{no_execute}
 use Rattle.register_words.proofs.no_execute.Statement.{statement}
 use Rattle.register_words.proofs.no_execute.Tie as tie

@@ -1,6 +1,8 @@
 -- `register_words::sdr1_shape` meets its contract: the low half of SDR1 is below 2 ^ 9 exactly where bits 16 to 22 are zero, and then it is the mask.
-use Rattle.words.proofs.Basics.{ℕ, ◌%◌, ◌^◌, ◌≡◌, refl, sym, ◌∙◌, Bool, true, false, ◌&&◌, and_comm, eqb, ltb, bit_and, and_mask, and_zero_r, shr_mod, arith}
-use Rattle.words.proofs.Basics.{eq-eqb, ltb-false, ltb-true, ne_eqb, needs}
+use Rattle.std.proofs.Common.{◌≡◌, ℕ, ◌%◌, ◌^◌, Bool, true, false, ◌&&◌, eqb, ltb, sym, refl, ◌∙◌, arith, rules, ltb-false, ltb-true, eq-eqb, ne_eqb}
+use mathlib.Core.Bool.{and_comm}
+use lib.Bits.{bit_and, and_mask, and_zero_r}
+use lib.Pow.{shr_mod}
 use Rattle.words.specs.Bits.{bits}
 use Rattle.words.specs.Ones.{low_ones}
 use Rattle.words.proofs.Ones.{true_ones}
@@ -27,7 +29,7 @@ returns c =
     rw (by-half w 0 (sym (and_mask w 16) ∙ c.if1.true), true_ones 0 0 refl, and_zero_r (origin_of w))
 
 low-ones-requires : tie.Need-low-ones-requires
-low-ones-requires c κs = search needs
+low-ones-requires c κs = search rules
 
 returns-2 : tie.Need-returns-2
 returns-2 c =

@@ -1,5 +1,5 @@
 -- `register_words::segment_vsid` meets its contract: the remainder is the low 24 bits.
-use Rattle.words.proofs.Basics.{ℕ, ◌%◌, sym, ap, div-one}
+use Rattle.std.proofs.Common.{ℕ, ◌%◌, sym, ap, div-one}
 use Rattle.register_words.specs.Segment.{segment_vsid}
 use Rattle.register_words.proofs.segment_vsid.Statement.{statement}
 use Rattle.register_words.proofs.segment_vsid.Tie as tie

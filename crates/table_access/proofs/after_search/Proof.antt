@@ -1,5 +1,9 @@
 -- `table_access::after_search` meets its contract: each way out is the outcome of what was found, and its tests are those of steps 5 and 6.
-use Rattle.words.proofs.Basics.{ℕ, ◌≡◌, sym, ap, ap₂, ◌∙◌, Bool, true, ◌&&◌, not-false, not-true, needs}
+use borrow.Author.Rules.{rules}
+use borrow.Author.Tests.{not-true, not-false}
+use mathlib.Core.Path.{◌≡◌, sym, ap, ap₂, ◌∙◌}
+use mathlib.Core.Bool.{Bool, true, ◌&&◌}
+use Prim.Native.Nat.{ℕ}
 use Rattle.entry.specs.Entry.{wimg_of, pp_of}
 use Rattle.protection.specs.Access.{fetching}
 use Rattle.protection.specs.Protection.{page_allows, guarded}
@@ -29,10 +33,10 @@ told c outcome is x e d f =
     ap₂ part (e ∙ ap (answer_of c.args.kind c.args.address) (sym is)) (f ∙ ap (decision_of (used c)) (sym is))
 
 fault-answer-requires : tie.Need-fault-answer-requires
-fault-answer-requires c κs = search needs
+fault-answer-requires c κs = search rules
 
 decided-requires : tie.Need-decided-requires
-decided-requires c κs = search needs
+decided-requires c κs = search rules
 
 returns : tie.Need-returns
 unfolding answer_of decision_of
@@ -42,10 +46,10 @@ returns c =
     told start _ (outcome_none start.args.kind start.args.key start.args.found (not-true _ then1.if1.true)) _ c.before.fault-answer.ensures _ c.decided.ensures
 
 refused-answer-requires : tie.Need-refused-answer-requires
-refused-answer-requires c κs = search needs
+refused-answer-requires c κs = search rules
 
 decided-requires-2 : tie.Need-decided-requires-2
-decided-requires-2 c κs = search needs
+decided-requires-2 c κs = search rules
 
 returns-2 : tie.Need-returns-2
 unfolding answer_of decision_of
@@ -57,7 +61,7 @@ returns-2 c =
     _ c.before.refused_answer_law.ensures _ c.decided2.ensures
 
 wimg-of-requires : tie.Need-wimg-of-requires
-wimg-of-requires c κs = search needs
+wimg-of-requires c κs = search rules
 
 abbrev begin : tie.Else2 → tie.Start
 begin c = c.before.before.before
@@ -72,10 +76,10 @@ at_entry c =
     outcome_at a.kind a.key a.found (not-false _ else1.if1.false) c.if2.false
 
 is-fetch-requires : tie.Need-is-fetch-requires
-is-fetch-requires c κs = search needs
+is-fetch-requires c κs = search rules
 
 is-guarded-requires : tie.Need-is-guarded-requires
-is-guarded-requires c κs = search needs
+is-guarded-requires c κs = search rules
 
 -- the test of the code is that of a fetch from guarded storage
 test : (c : tie.After-is-guarded) →
@@ -87,10 +91,10 @@ test c =
     sym (ap₂ (λ (f g : Bool). f && g) at-fetch.is-fetch.ensures (c.is-guarded.ensures ∙ ap guarded at-fetch.before.wimg-of.ensures))
 
 fault-answer-requires-2 : tie.Need-fault-answer-requires-2
-fault-answer-requires-2 c κs = search needs
+fault-answer-requires-2 c κs = search rules
 
 by-entry-requires : tie.Need-by-entry-requires
-by-entry-requires c κs = search needs
+by-entry-requires c κs = search rules
 
 returns-3 : tie.Need-returns-3
 unfolding answer_of decision_of
@@ -103,13 +107,13 @@ returns-3 c =
     _ c.before.fault-answer2.ensures _ c.by-entry.ensures
 
 key-and-pp-requires : tie.Need-key-and-pp-requires
-key-and-pp-requires c κs = search needs
+key-and-pp-requires c κs = search rules
 
 pp-of-requires : tie.Need-pp-of-requires
-pp-of-requires c κs = search needs
+pp-of-requires c κs = search rules
 
 page-allows-requires : tie.Need-page-allows-requires
-page-allows-requires c κs = search needs
+page-allows-requires c κs = search rules
 
 -- what the code asks of PP is the test of step 6
 allowed : (c : tie.After-page-allows) →
@@ -125,10 +129,10 @@ allowed c =
     sym (c.page-allows.ensures ∙ ap (λ (pp : ℕ). page_allows a.key pp a.kind) at-pp.pp-of.ensures)
 
 fault-answer-requires-3 : tie.Need-fault-answer-requires-3
-fault-answer-requires-3 c κs = search needs
+fault-answer-requires-3 c κs = search rules
 
 by-entry-requires-2 : tie.Need-by-entry-requires-2
-by-entry-requires-2 c κs = search needs
+by-entry-requires-2 c κs = search rules
 
 returns-4 : tie.Need-returns-4
 unfolding answer_of decision_of
@@ -145,13 +149,13 @@ returns-4 c =
     _ c.before.fault-answer3.ensures _ (c.by-entry2.ensures ∙ ap (λ (n : ℕ). by_entry 5 n (used (begin else2))) at-detail.key-and-pp.ensures)
 
 physical-address-requires : tie.Need-physical-address-requires
-physical-address-requires c κs = search needs
+physical-address-requires c κs = search rules
 
 done-answer-requires : tie.Need-done-answer-requires
-done-answer-requires c κs = search needs
+done-answer-requires c κs = search rules
 
 by-entry-requires-3 : tie.Need-by-entry-requires-3
-by-entry-requires-3 c κs = search needs
+by-entry-requires-3 c κs = search rules
 
 returns-5 : tie.Need-returns-5
 unfolding answer_of decision_of

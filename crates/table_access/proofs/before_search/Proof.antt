@@ -1,5 +1,12 @@
 -- `table_access::before_search` meets its contract: its tests are those of steps 2 and 3, and each way out is an outcome of the definition.
-use Rattle.words.proofs.Basics.{ℕ, ◌≡◌, sym, ap, ap₂, ◌∙◌, subst, Bool, true, false, ◌&&◌, ltb, length, shr_mod, le-ltb, lt-ltb, needs}
+use borrow.Author.Rules.{rules}
+use borrow.Author.Tests.{lt-ltb, le-ltb}
+use mathlib.Core.Path.{◌≡◌, sym, ap, ap₂, subst, ◌∙◌}
+use mathlib.Core.Bool.{Bool, true, false, ◌&&◌}
+use Prim.Native.Nat.{ℕ}
+use lib.Dec.{ltb}
+use lib.ListN.{length}
+use lib.Pow.{shr_mod}
 use Rattle.register_words.specs.Segment.{no_execute}
 use Rattle.registers.specs.Set.{set_words, segment_of, covering_pair}
 use Rattle.register_pages.proofs.Page.{covering_own}
@@ -38,10 +45,10 @@ returns c =
     (ap Told (c.by_block.ensures ∙ ap (λ (pair : ℕ). by_outcome a.kind a.address (block_outcome 8 15 words a.kind a.address pair)) start.requires.2))
 
 cast-segment : tie.Need-overflow-cast-segment
-cast-segment c = search needs
+cast-segment c = search rules
 
 segment-requires : tie.Need-segment-requires
-segment-requires c κs = search needs
+segment-requires c κs = search rules
 
 -- past the first test no block covers the address
 bare : (c : tie.Else1) → ltb (covering c.before.before) 8 ≡ false
@@ -53,10 +60,10 @@ segment-is c =
     c.segment.ensures ∙ ap (segment_of (set_words start.args.registers.now)) (sym (shr_mod 4 28 start.ranges.address.fits))
 
 is-fetch-requires : tie.Need-is-fetch-requires
-is-fetch-requires c κs = search needs
+is-fetch-requires c κs = search rules
 
 no-execute-requires : tie.Need-no-execute-requires
-no-execute-requires c κs = search needs
+no-execute-requires c κs = search rules
 
 -- the test of the code is that of a fetch with N = 1
 test : (c : tie.After-no-execute) →
@@ -68,10 +75,10 @@ test c =
     sym (ap₂ (λ (f n : Bool). f && n) at-fetch.is-fetch.ensures (c.no_execute_law.ensures ∙ ap no_execute (segment-is at-fetch.before)))
 
 fault-answer-requires : tie.Need-fault-answer-requires
-fault-answer-requires c κs = search needs
+fault-answer-requires c κs = search rules
 
 without-page-requires : tie.Need-without-page-requires
-without-page-requires c κs = search needs
+without-page-requires c κs = search rules
 
 returns-2 : tie.Need-returns-2
 unfolding begun_by answer_of decision_of
@@ -86,10 +93,10 @@ returns-2 c =
     ∙ ap (without_page 2 0) c.before.fault-answer.ensures))
 
 user-mode-requires : tie.Need-user-mode-requires
-user-mode-requires c κs = search needs
+user-mode-requires c κs = search rules
 
 wanted-of-requires : tie.Need-wanted-of-requires
-wanted-of-requires c κs = search needs
+wanted-of-requires c κs = search rules
 
 returns-3 : tie.Need-returns-3
 unfolding begun_by

@@ -1,5 +1,11 @@
 -- `table_access::by_block` meets its contract: the words read are those of the pair, and each answer is that of the block's outcome.
-use Rattle.words.proofs.Basics.{ℕ, ◌≡◌, sym, ap, ap₂, ◌∙◌, Bool, length, arith, not-false, not-true, needs}
+use borrow.Author.Rules.{rules}
+use borrow.Author.Tests.{not-true, not-false}
+use mathlib.Core.Path.{◌≡◌, sym, ap, ap₂, ◌∙◌}
+use mathlib.Core.Bool.{Bool}
+use Prim.Native.Nat.{ℕ}
+use native.Mathlib.Omega.{arith}
+use lib.ListN.{length}
 use Rattle.register_words.specs.Block.{block_attributes, block_pp, block_physical}
 use Rattle.registers.specs.Set.{is_long, upper_of, lower_of, set_words}
 use Rattle.register_pages.proofs.Page.{pairs_most}
@@ -13,13 +19,13 @@ use Rattle.table_access.proofs.by_block.Statement.{statement}
 use Rattle.table_access.proofs.by_block.Tie as tie
 
 side-of-requires : tie.Need-side-of-requires
-side-of-requires c κs = search needs
+side-of-requires c κs = search rules
 
 upper-requires : tie.Need-upper-requires
-upper-requires c κs = search needs
+upper-requires c κs = search rules
 
 lower-requires : tie.Need-lower-requires
-lower-requires c κs = search needs
+lower-requires c κs = search rules
 
 abbrev begin : tie.After-side-of → tie.Start
 begin c = c.before.before
@@ -46,13 +52,13 @@ allowed c =
     sym (c.block-allows.ensures ∙ ap (λ (pp : ℕ). block_allows pp kind) (at-pp.block-pp.ensures ∙ ap block_pp (lower_is at-pp.before)))
 
 block-pp-requires : tie.Need-block-pp-requires
-block-pp-requires c κs = search needs
+block-pp-requires c κs = search rules
 
 block-allows-requires : tie.Need-block-allows-requires
-block-allows-requires c κs = search needs
+block-allows-requires c κs = search rules
 
 fault-answer-requires : tie.Need-fault-answer-requires
-fault-answer-requires c κs = search needs
+fault-answer-requires c κs = search rules
 
 cast-without-page : tie.Need-overflow-cast-without-page
 cast-without-page c =
@@ -61,7 +67,7 @@ cast-without-page c =
     omega (arith, pairs_most (is_long (length start.args.registers.now)))
 
 without-page-requires : tie.Need-without-page-requires
-without-page-requires c κs = search needs
+without-page-requires c κs = search rules
 
 returns : tie.Need-returns
 unfolding answer_of decision_of
@@ -72,13 +78,13 @@ returns c =
     (c.without-page.ensures ∙ ap (without_page 1 a.pair) c.before.fault-answer.ensures)
 
 block-physical-requires : tie.Need-block-physical-requires
-block-physical-requires c κs = search needs
+block-physical-requires c κs = search rules
 
 block-attributes-requires : tie.Need-block-attributes-requires
-block-attributes-requires c κs = search needs
+block-attributes-requires c κs = search rules
 
 done-answer-requires : tie.Need-done-answer-requires
-done-answer-requires c κs = search needs
+done-answer-requires c κs = search rules
 
 cast-without-page-2 : tie.Need-overflow-cast-without-page-2
 cast-without-page-2 c =
@@ -87,7 +93,7 @@ cast-without-page-2 c =
     omega (arith, pairs_most (is_long (length start.args.registers.now)))
 
 without-page-requires-2 : tie.Need-without-page-requires-2
-without-page-requires-2 c κs = search needs
+without-page-requires-2 c κs = search rules
 
 returns-2 : tie.Need-returns-2
 unfolding answer_of decision_of

@@ -1,7 +1,14 @@
 -- `table_access::by_parts` meets its contract. The invariant: nothing is written yet, the part that is asked for starts where the definition says, and
 -- where it is the second, the operand goes over the edge and the first part is done. The measure counts the parts that are left.
-use Rattle.words.proofs.Basics.{ℕ, ◌+◌, ◌*◌, ◌%◌, ◌^◌, ◌<◌, ◌≤◌, ◌≡◌, refl, sym, ap, ap₂, ◌∙◌, subst, Bool, true, false, cond, true≢false, List, lit<, length}
-use Rattle.words.proofs.Basics.{arith, le-ltb, lt-ltb, ltb-true, needs}
+use borrow.Author.Rules.{rules}
+use borrow.Author.Tests.{lt-ltb, le-ltb, ltb-true}
+use mathlib.Core.Path.{◌≡◌, refl, sym, ap, ap₂, subst, ◌∙◌}
+use mathlib.Core.Bool.{Bool, true, false, cond, true≢false}
+use mathlib.Core.List.{List}
+use Prim.Native.Nat.{ℕ, ◌+◌, ◌*◌, ◌%◌, ◌^◌, ◌≤◌, ◌<◌}
+use native.Mathlib.Omega.{arith}
+use lib.Dec.{lit<}
+use lib.ListN.{length}
 use Rattle.register_words.specs.Sdr1.{mask_ones}
 use Rattle.groups.specs.Hash.{TableOf}
 use Rattle.registers.specs.Set.{sdr1_of, set_words}
@@ -60,10 +67,10 @@ module _ (c : tie.At-loop invariant-loop decreases-loop) where
   good = good_table sdr1 lent.0 of (λ i. ((entered c).slice-known.given i).fits)
 
 first-bytes-requires : tie.Need-first-bytes-requires invariant-loop decreases-loop
-first-bytes-requires c κs = search needs
+first-bytes-requires c κs = search rules
 
 real-part-requires : tie.Need-real-part-requires invariant-loop decreases-loop
-real-part-requires c κs = search needs
+real-part-requires c κs = search rules
 
 loop-holds : tie.Need-loop-init invariant-loop decreases-loop
 loop-holds c =
@@ -110,7 +117,7 @@ reached c = go c.loop.further refl
     go true e = let (over, first, done) = c.loop.invariant.4 e in (over, done)
 
 stopped-requires : tie.Need-stopped-requires invariant-loop decreases-loop
-stopped-requires c κs = search needs
+stopped-requires c κs = search rules
 
 tell-requires : tie.Need-tell-requires invariant-loop decreases-loop
 tell-requires c κs =
@@ -298,7 +305,7 @@ take-requires-3 c κs =
     (inside l false _ (only-is else2), cache-right l)
 
 within-requires : tie.Need-within-requires invariant-loop decreases-loop
-within-requires c κs = search needs
+within-requires c κs = search rules
 
 abbrev only-taken : tie.After-within invariant-loop decreases-loop → tie.After-take3 invariant-loop decreases-loop
 only-taken c = let at-cache = c.before.before in at-cache.before.before.before
@@ -350,7 +357,7 @@ returns-3 c =
     _ _ at-tell.tell3.ensures
 
 next-start-requires : tie.Need-next-start-requires invariant-loop decreases-loop
-next-start-requires c κs = search needs
+next-start-requires c κs = search rules
 
 loop-less : tie.Need-loop-smaller invariant-loop decreases-loop
 loop-less c =

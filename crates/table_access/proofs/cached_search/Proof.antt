@@ -1,5 +1,14 @@
 -- `table_access::cached_search` meets its contract: a hit is what the cache has of the page, and where it has none, or none is lent, the search tells.
-use Rattle.words.proofs.Basics.{ℕ, ◌+◌, ◌≡◌, refl, sym, ap, ◌∙◌, Bool, true, false, cond, ⊎_elim, Option, none, some, List, [], eqb, length, arith, needs}
+use borrow.Author.Rules.{rules}
+use mathlib.Core.Path.{◌≡◌, refl, sym, ap, ◌∙◌}
+use mathlib.Core.Logic.{⊎_elim}
+use mathlib.Core.Bool.{Bool, true, false, cond}
+use mathlib.Core.List.{List, []}
+use mathlib.Core.Option.{Option, none, some}
+use Prim.Native.Nat.{ℕ, ◌+◌}
+use native.Mathlib.Omega.{arith}
+use lib.Dec.{eqb}
+use lib.ListN.{length}
 use Rattle.words.specs.Bits.{bits}
 use Rattle.register_words.specs.Sdr1.{table_length, mask_ones}
 use Rattle.groups.specs.Hash.{group_number, TableOf}
@@ -41,16 +50,16 @@ of-hit c b e =
     ∙ ap (λ (f : Bool). cond f (some (h.first, h.second)) none) e
 
 is-store-requires : tie.Need-is-store-requires
-is-store-requires c κs = search needs
+is-store-requires c κs = search rules
 
 find-requires : tie.Need-find-requires
-find-requires c κs = search needs
+find-requires c κs = search rules
 
 is-secondary-requires : tie.Need-is-secondary-requires
-is-secondary-requires c κs = search needs
+is-secondary-requires c κs = search rules
 
 group-requires : tie.Need-group-requires
-group-requires c κs = search needs
+group-requires c κs = search rules
 
 abbrev hit-by : tie.After-group → tie.After-find
 hit-by c = let then2 = c.before.before in then2.before

@@ -1,7 +1,13 @@
 -- `table_access::found_in` meets its contract: what the search told of the page's matches is none, or the first of them and whether another contradicts
 -- it.
-use Rattle.words.proofs.Basics.{ℕ, ◌+◌, ◌*◌, ◌%◌, ◌^◌, ◌<◌, ◌≤◌, ◌≡◌, refl, sym, ap, ap₂, ◌∙◌, subst, Bool, true, false, cond, true≢false, List, [], ◌∷◌}
-use Rattle.words.proofs.Basics.{List-as-Memᴰ, List·Memᴰ·head, length, arith, not-false, not-true, needs}
+use borrow.Author.Rules.{rules}
+use borrow.Author.Tests.{not-true, not-false}
+use mathlib.Core.Path.{◌≡◌, refl, sym, ap, ap₂, subst, ◌∙◌}
+use mathlib.Core.Bool.{Bool, true, false, cond, true≢false}
+use mathlib.Core.List.{List, [], ◌∷◌, Memᴰ}
+use Prim.Native.Nat.{ℕ, ◌+◌, ◌*◌, ◌%◌, ◌^◌, ◌≤◌, ◌<◌}
+use native.Mathlib.Omega.{arith}
+use lib.ListN.{length}
 use Rattle.register_words.specs.Sdr1.{table_length, mask_ones}
 use Rattle.groups.specs.Hash.{group_number, located}
 use Rattle.groups.specs.declared.Located.{Located}
@@ -39,7 +45,7 @@ module _ (l : Located) (both : matches.Told) (sdr1 : ℕ) (t : List ℕ) (wanted
 
   -- its number is below eight
   number_lt : (x : Match) (xs : List Match) → ms ≡ x ∷ xs → x.entry < 8
-  number_lt x xs e = (members_of (layout (mask_ones sdr1)) t (wanted_page wanted) x (subst (List-as-Memᴰ x) (sym e) (List·Memᴰ·head refl))).in_range_law
+  number_lt x xs e = (members_of (layout (mask_ones sdr1)) t (wanted_page wanted) x (subst (Memᴰ x) (sym e) (Memᴰ.head refl))).in_range_law
 
   -- its second word
   word_is : (x : Match) (xs : List Match) → ms ≡ x ∷ xs → both.second ≡ x.second
@@ -51,10 +57,10 @@ module _ (l : Located) (both : matches.Told) (sdr1 : ℕ) (t : List ℕ) (wanted
   group_of false g q = q ∙ ap (λ (x : Located). x.primary) is.1
 
 any-requires : tie.Need-any-requires
-any-requires c κs = search needs
+any-requires c κs = search rules
 
 nothing-requires : tie.Need-nothing-requires
-nothing-requires c κs = search needs
+nothing-requires c κs = search rules
 
 returns : tie.Need-returns
 returns c sdr1 t wanted is =
@@ -65,13 +71,13 @@ returns c sdr1 t wanted is =
     ∙ sym (in_none (mask_ones sdr1) t wanted (none-are a.page a.told sdr1 t wanted is at-any.any.result at-any.any.ensures (not-true _ then1.if1.true)))
 
 differs-requires : tie.Need-differs-requires
-differs-requires c κs = search needs
+differs-requires c κs = search rules
 
 in-secondary-requires : tie.Need-in-secondary-requires
-in-secondary-requires c κs = search needs
+in-secondary-requires c κs = search rules
 
 group-requires : tie.Need-group-requires
-group-requires c κs = search needs
+group-requires c κs = search rules
 
 abbrev begin : tie.Else1 → tie.Start
 begin c = c.before.before
@@ -90,7 +96,7 @@ cast-t6 c =
     record { fits = omega arith }
 
 entry-requires : tie.Need-entry-requires
-entry-requires c κs = search needs
+entry-requires c κs = search rules
 
 cast-t8 : tie.Need-overflow-cast-t8
 cast-t8 c =

@@ -1,5 +1,9 @@
 -- `table_access::part_of` meets its contract: the pair is the one that covers the address, and the steps before the search and after it are the part's.
-use Rattle.words.proofs.Basics.{ℕ, ◌≡◌, refl, sym, ap, ap₂, ◌∙◌, subst, Bool, true, length, needs}
+use borrow.Author.Rules.{rules}
+use mathlib.Core.Path.{◌≡◌, refl, sym, ap, ap₂, subst, ◌∙◌}
+use mathlib.Core.Bool.{Bool, true}
+use Prim.Native.Nat.{ℕ}
+use lib.ListN.{length}
 use Rattle.register_words.specs.Sdr1.{mask_ones}
 use Rattle.registers.specs.Set.{sdr1_of, set_words, covering_pair}
 use Rattle.translation.specs.Steps.{before_search}
@@ -17,13 +21,13 @@ use Rattle.table_access.proofs.part_of.Statement.{statement}
 use Rattle.table_access.proofs.part_of.Tie as tie
 
 side-of-requires : tie.Need-side-of-requires
-side-of-requires c κs = search needs
+side-of-requires c κs = search rules
 
 user-mode-requires : tie.Need-user-mode-requires
-user-mode-requires c κs = search needs
+user-mode-requires c κs = search rules
 
 covering-pair-requires : tie.Need-covering-pair-requires
-covering-pair-requires c κs = search needs
+covering-pair-requires c κs = search rules
 
 abbrev begin : tie.After-side-of → tie.Start
 begin c = let known = c.before.before in known.before.before
@@ -40,10 +44,10 @@ before-search-requires c κs =
     )
 
 enum-known-part : tie.Need-enum-known-part
-enum-known-part c = search needs
+enum-known-part c = search rules
 
 enum-known-wanted : tie.Need-enum-known-wanted
-enum-known-wanted c = search needs
+enum-known-wanted c = search rules
 
 -- what the steps before the search come to
 abbrev early : tie.Start → Early
@@ -60,7 +64,7 @@ cached-search-requires c κs =
     ((sdr1_of (set_words a.registers.now), start.pre.0.1), part_valid 8 15 (set_words a.registers.now) a.mode a.kind a.address wanted e, start.pre.1)
 
 after-search-requires : tie.Need-after-search-requires
-after-search-requires c κs = search needs
+after-search-requires c κs = search rules
 
 returns : tie.Need-returns
 returns c =

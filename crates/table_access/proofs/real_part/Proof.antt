@@ -1,5 +1,6 @@
 -- `table_access::real_part` meets its contract: the answer and the rule of real mode, whatever the kind.
-use Rattle.words.proofs.Basics.{ap, ◌∙◌, needs}
+use borrow.Author.Rules.{rules}
+use mathlib.Core.Path.{ap, ◌∙◌}
 use Rattle.translation.specs.Steps.{answer_of}
 use Rattle.translation.specs.Decision.{decision_of}
 use Rattle.table_access.specs.Part.{without_page}
@@ -7,10 +8,10 @@ use Rattle.table_access.proofs.real_part.Statement.{statement}
 use Rattle.table_access.proofs.real_part.Tie as tie
 
 done-answer-requires : tie.Need-done-answer-requires
-done-answer-requires c κs = search needs
+done-answer-requires c κs = search rules
 
 without-page-requires : tie.Need-without-page-requires
-without-page-requires c κs = search needs
+without-page-requires c κs = search rules
 
 returns : tie.Need-returns
 unfolding answer_of decision_of

@@ -1,5 +1,10 @@
 -- `table_access::refusal` meets its contract: 6, then 12, then the check of the page, then the table's length.
-use Rattle.words.proofs.Basics.{ℕ, ◌≡◌, sym, ap, ◌∙◌, List, length, not-false, not-true, needs}
+use borrow.Author.Rules.{rules}
+use borrow.Author.Tests.{not-true, not-false}
+use mathlib.Core.Path.{◌≡◌, sym, ap, ◌∙◌}
+use mathlib.Core.List.{List}
+use Prim.Native.Nat.{ℕ}
+use lib.ListN.{length}
 use Rattle.register_words.specs.Sdr1.{table_length}
 use Rattle.register_words.specs.Block.{bl_width}
 use Rattle.registers.specs.Set.{is_long, block_pairs, sdr1_of, register_words}
@@ -41,7 +46,7 @@ returns-2 c =
     (not-false _ else1.if1.left) (not-true _ c.if2.true))
 
 check-requires : tie.Need-check-requires
-check-requires c κs = search needs
+check-requires c κs = search rules
 
 returns-3 : tie.Need-returns-3
 returns-3 c =
@@ -55,10 +60,10 @@ returns-3 c =
     (not-false _ else1.if1.left) (not-false _ else2.if2.false) (λ z. c.if3.true (told ∙ z)))
 
 sdr1-requires : tie.Need-sdr1-requires
-sdr1-requires c κs = search needs
+sdr1-requires c κs = search rules
 
 table-length-requires : tie.Need-table-length-requires
-table-length-requires c κs = search needs
+table-length-requires c κs = search rules
 
 -- the length that is asked for is that of the page's SDR1
 length_is : (c : tie.After-table-length) →

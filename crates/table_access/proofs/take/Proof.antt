@@ -1,6 +1,13 @@
 -- `table_access::take` meets its contract: the part has an entry, which is marked and whose page is loaded, or none; a cache of no bytes is left by a
 -- load.
-use Rattle.words.proofs.Basics.{ℕ, ◌≡◌, refl, sym, ap, ap₂, ◌∙◌, subst, Bool, true, List, [], length, arith, le-ltb, lt-ltb, needs}
+use borrow.Author.Rules.{rules}
+use borrow.Author.Tests.{lt-ltb, le-ltb}
+use mathlib.Core.Path.{◌≡◌, refl, sym, ap, ap₂, subst, ◌∙◌}
+use mathlib.Core.Bool.{Bool, true}
+use mathlib.Core.List.{List, []}
+use Prim.Native.Nat.{ℕ}
+use native.Mathlib.Omega.{arith}
+use lib.ListN.{length}
 use Rattle.words.specs.Bits.{bits}
 use Rattle.entry.specs.Entry.{page_index, with_marks}
 use Rattle.groups.specs.Page.{Page}
@@ -14,19 +21,19 @@ use Rattle.table_access.proofs.take.Statement.{statement}
 use Rattle.table_access.proofs.take.Tie as tie
 
 cast-entry : tie.Need-overflow-cast-entry
-cast-entry c = search needs
+cast-entry c = search rules
 
 cast-group : tie.Need-overflow-cast-group
-cast-group c = search needs
+cast-group c = search rules
 
 mul-read-word : tie.Need-overflow-mul-read-word
-mul-read-word c = search needs
+mul-read-word c = search rules
 
 mul-read-word-2 : tie.Need-overflow-mul-read-word-2
-mul-read-word-2 c = search needs
+mul-read-word-2 c = search rules
 
 add-read-word : tie.Need-overflow-add-read-word
-add-read-word c = search needs
+add-read-word c = search rules
 
 abbrev begin : tie.Then1 → tie.Start
 begin c = let known = c.before in known.before.before.before
@@ -35,7 +42,7 @@ abbrev taken1 : tie.After-read-word → tie.Then1
 taken1 c = c.before.before.before
 
 read-word-requires : tie.Need-read-word-requires
-read-word-requires c κs = let start = begin c.before.before in let in_table = start.pre.0 in search needs
+read-word-requires c κs = let start = begin c.before.before in let in_table = start.pre.0 in search rules
 
 -- the word that is read is the entry's first
 first_is : (c : tie.After-read-word) → let a = (begin (taken1 c)).args in c.read_word.result ≡ first_of a.table.now a.found.group a.found.entry
@@ -45,10 +52,10 @@ first_is c =
     c.read_word.ensures ∙ first_in_table a.table.now a.found.group a.found.entry (taken1 c).if1.true
 
 is-store-requires : tie.Need-is-store-requires
-is-store-requires c κs = search needs
+is-store-requires c κs = search rules
 
 with-marks-requires : tie.Need-with-marks-requires
-with-marks-requires c κs = search needs
+with-marks-requires c κs = search rules
 
 abbrev read_by : tie.After-with-marks → tie.After-read-word
 read_by c = c.before.before
@@ -82,19 +89,19 @@ left_is c d e =
     (e ∙ ap₂ (λ (first second : ℕ). loaded (record { vsid = bits 1 24 first; index = page_index a.address }) first second a.cache.now) (first_is at_read) (word_is at-marks)))
 
 vsid-of-requires : tie.Need-vsid-of-requires
-vsid-of-requires c κs = search needs
+vsid-of-requires c κs = search rules
 
 page-index-requires : tie.Need-page-index-requires
-page-index-requires c κs = search needs
+page-index-requires c κs = search rules
 
 load-requires : tie.Need-load-requires
-load-requires c κs = search needs
+load-requires c κs = search rules
 
 same_length : tie.Need-same-length
-same_length c = search needs
+same_length c = search rules
 
 same-length-2 : tie.Need-same-length-2
-same-length-2 c = search needs
+same-length-2 c = search rules
 
 returns : tie.Need-returns
 returns c =
@@ -111,7 +118,7 @@ returns c =
     ∙ ap₂ (λ (v i : ℕ). loaded (record { vsid = v; index = i }) first at-marks.with-marks.result a.cache.now) at-vsid.vsid-of.ensures at-index.page-index.ensures)
 
 same-length-3 : tie.Need-same-length-3
-same-length-3 c = search needs
+same-length-3 c = search rules
 
 returns-2 : tie.Need-returns-2
 returns-2 c =

@@ -1,6 +1,12 @@
 -- `table_access::translate` meets its contract: a refusal, an operand in real mode and any other end as the definition says, with a cache and without
 -- one.
-use Rattle.words.proofs.Basics.{ℕ, ◌≡◌, refl, sym, ap, ap₂, ◌∙◌, Bool, List, length, not-false, not-true, needs}
+use borrow.Author.Rules.{rules}
+use borrow.Author.Tests.{not-true, not-false}
+use mathlib.Core.Path.{◌≡◌, refl, sym, ap, ap₂, ◌∙◌}
+use mathlib.Core.Bool.{Bool}
+use mathlib.Core.List.{List}
+use Prim.Native.Nat.{ℕ}
+use lib.ListN.{length}
 use Rattle.registers.specs.Rules.{first_broken}
 use Rattle.register_words.specs.Sdr1.{mask_ones}
 use Rattle.registers.specs.Set.{sdr1_of, set_words}
@@ -28,22 +34,22 @@ abbrev lent : tie.Start → List ℕ × List ℕ
 lent c = (c.args.table.now, c.args.cache.now)
 
 refusal-requires : tie.Need-refusal-requires
-refusal-requires c κs = search needs
+refusal-requires c κs = search rules
 
 refused-answer-requires : tie.Need-refused-answer-requires
-refused-answer-requires c κs = search needs
+refused-answer-requires c κs = search rules
 
 decided-requires : tie.Need-decided-requires
-decided-requires c κs = search needs
+decided-requires c κs = search rules
 
 stopped-requires : tie.Need-stopped-requires
-stopped-requires c κs = search needs
+stopped-requires c κs = search rules
 
 tell-requires : tie.Need-tell-requires
-tell-requires c κs = search needs
+tell-requires c κs = search rules
 
 same_length : tie.Need-same-length
-same_length c = search needs
+same_length c = search rules
 
 returns : tie.Need-returns
 returns c =
@@ -86,16 +92,16 @@ ends c r left written e =
     )
 
 is-relocated-requires : tie.Need-is-relocated-requires
-is-relocated-requires c κs = search needs
+is-relocated-requires c κs = search rules
 
 untranslated-requires : tie.Need-untranslated-requires
-untranslated-requires c κs = search needs
+untranslated-requires c κs = search rules
 
 tell-requires-2 : tie.Need-tell-requires-2
-tell-requires-2 c κs = search needs
+tell-requires-2 c κs = search rules
 
 same-length-2 : tie.Need-same-length-2
-same-length-2 c = search needs
+same-length-2 c = search rules
 
 returns-2 : tie.Need-returns-2
 returns-2 c =
@@ -127,13 +133,13 @@ by-parts-requires c κs =
     ((start.pre.0, right_table a.registers.now a.asked (lent start) start.pre.0 (kept else1)), start.pre.1, on, start.pre.2)
 
 same-length-3 : tie.Need-same-length-3
-same-length-3 c = search needs
+same-length-3 c = search rules
 
 same-length-4 : tie.Need-same-length-4
-same-length-4 c = search needs
+same-length-4 c = search rules
 
 same-length-5 : tie.Need-same-length-5
-same-length-5 c = search needs
+same-length-5 c = search rules
 
 returns-3 : tie.Need-returns-3
 returns-3 c =

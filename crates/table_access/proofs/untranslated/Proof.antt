@@ -1,5 +1,9 @@
 -- `table_access::untranslated` meets its contract: both parts are done, so that the answer is that of one page or of two.
-use Rattle.words.proofs.Basics.{ℕ, ◌+◌, ◌%◌, ◌^◌, ◌≡◌, refl, sym, ap, ap₂, ◌∙◌, Bool, true, false, le-ltb, lt-ltb, needs}
+use borrow.Author.Rules.{rules}
+use borrow.Author.Tests.{lt-ltb, le-ltb}
+use mathlib.Core.Path.{◌≡◌, refl, sym, ap, ap₂, ◌∙◌}
+use mathlib.Core.Bool.{Bool, true, false}
+use Prim.Native.Nat.{ℕ, ◌+◌, ◌%◌, ◌^◌}
 use Rattle.translation.specs.Steps.{answer_of}
 use Rattle.translation.specs.Decision.{decision_of}
 use Rattle.translation.specs.Operand.{first_bytes, over_edge, part_start, within, across_edge}
@@ -23,7 +27,7 @@ unfolding answer_of
 real-done address length kind second = refl
 
 real-part-requires : tie.Need-real-part-requires
-real-part-requires c κs = search needs
+real-part-requires c κs = search rules
 
 -- the first part's answer and what decided it
 first_is : (c : tie.After-real-part) (kind : ℕ) →
@@ -35,16 +39,16 @@ first_is c kind =
     (ap (λ (p : Part). p.answer) is ∙ ap (λ (s : ℕ). answer_of kind s Real) (sym (start_first a.address a.length)), ap (λ (p : Part). p.decision) is)
 
 first-bytes-requires : tie.Need-first-bytes-requires
-first-bytes-requires c κs = search needs
+first-bytes-requires c κs = search rules
 
 next-start-requires : tie.Need-next-start-requires
-next-start-requires c κs = search needs
+next-start-requires c κs = search rules
 
 real-part-requires-2 : tie.Need-real-part-requires-2
-real-part-requires-2 c κs = search needs
+real-part-requires-2 c κs = search rules
 
 across-edge-requires : tie.Need-across-edge-requires
-across-edge-requires c κs = search needs
+across-edge-requires c κs = search rules
 
 returns : tie.Need-returns
 unfolding over_edge
@@ -66,7 +70,7 @@ returns c kind =
     ∙ sym (both_done a.address a.length (real a.address a.length kind) rule (real-done a.address a.length kind false) over (real-done a.address a.length kind true))
 
 within-requires : tie.Need-within-requires
-within-requires c κs = search needs
+within-requires c κs = search rules
 
 returns-2 : tie.Need-returns-2
 unfolding over_edge

@@ -1,6 +1,11 @@
 -- `words::highest_of` meets its contract. The field without its lowest bit is less than the field, so the field is the measure.
-use Rattle.words.proofs.Basics.{ℕ, suc, ◌+◌, ◌-◌, ◌/◌, ◌<◌, ◌≡◌, ap, ◌∙◌, size, arith, In, Measures, and, falls, is}
+use mathlib.Core.Path.{◌≡◌, ap, ◌∙◌}
+use Prim.Native.Nat.{ℕ, suc, ◌-◌, ◌+◌, ◌/◌, ◌<◌}
+use native.Mathlib.Omega.{arith}
+use lib.Ieee.{size}
 use Rattle.words.proofs.Ones.{size_zero, size_step}
+use borrow.Fn.Kinds.{In}
+use borrow.Fn.PlainCycle.{Measures, is, falls, and}
 use Rattle.words.proofs.highest_of.Reads as highest-of
 use Rattle.words.proofs.highest_of.Kinds as highest-of-kinds
 use Rattle.words.proofs.+highest_of.Lts-highest_of as highest-of-lts

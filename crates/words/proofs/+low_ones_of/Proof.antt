@@ -1,7 +1,13 @@
 -- `words::low_ones_of` meets its contract. The field without its lowest bit is less than the field, so the field is the measure.
-use Rattle.words.proofs.Basics.{ℕ, suc, ◌+◌, ◌-◌, ◌/◌, ◌^◌, ◌<◌, ◌≤◌, ◌≡◌, sym, ap, ◌∙◌, eqb, high, ones_lt, ones_split, size, arith, In, Measures, and}
-use Rattle.words.proofs.Basics.{falls, is}
+use mathlib.Core.Path.{◌≡◌, sym, ap, ◌∙◌}
+use Prim.Native.Nat.{ℕ, suc, ◌-◌, ◌+◌, ◌/◌, ◌^◌, ◌≤◌, ◌<◌}
+use native.Mathlib.Omega.{arith}
+use lib.Dec.{eqb}
+use lib.Ieee.{size}
+use lib.Pow.{ones_split, ones_lt, high}
 use Rattle.words.proofs.Ones.{size_zero, size_step}
+use borrow.Fn.Kinds.{In}
+use borrow.Fn.PlainCycle.{Measures, is, falls, and}
 use Rattle.words.proofs.low_ones_of.Reads as low-ones-of
 use Rattle.words.proofs.low_ones_of.Kinds as low-ones-of-kinds
 use Rattle.words.proofs.+low_ones_of.Lts-low_ones_of as low-ones-of-lts

@@ -1,5 +1,7 @@
 -- `words::highest` meets its contract: the whole field is asked, with none of its bits gone; a field that is not 0 has a bit.
-use Rattle.words.proofs.Basics.{◌-◌, ◌≤◌, size, arith}
+use Prim.Native.Nat.{◌-◌, ◌≤◌}
+use native.Mathlib.Omega.{arith}
+use lib.Ieee.{size}
 use Rattle.words.proofs.Ones.{size_width, size_step}
 use Rattle.words.proofs.highest.Statement.{statement}
 use Rattle.words.proofs.highest.Tie as tie

@@ -1,5 +1,9 @@
 -- `words::low_ones` meets its contract: the whole field is asked, with none of its bits gone.
-use Rattle.words.proofs.Basics.{ℕ, ◌-◌, ◌^◌, ◌≤◌, ◌≡◌, ap, ◌∙◌, eqb, size, arith}
+use mathlib.Core.Path.{◌≡◌, ap, ◌∙◌}
+use Prim.Native.Nat.{ℕ, ◌-◌, ◌^◌, ◌≤◌}
+use native.Mathlib.Omega.{arith}
+use lib.Dec.{eqb}
+use lib.Ieee.{size}
 use Rattle.words.specs.Ones.{low_ones}
 use Rattle.words.proofs.Ones.{size_width}
 use Rattle.words.proofs.low_ones.Statement.{statement}

@@ -1,5 +1,7 @@
 -- `words::pair_of` meets its contract: the shift loses no bit of the first word and leaves 32 zeros, into which the second word goes.
-use Rattle.words.proofs.Basics.{◌*◌, ◌%◌, ◌^◌, ◌≡◌, arith}
+use mathlib.Core.Path.{◌≡◌}
+use Prim.Native.Nat.{◌*◌, ◌%◌, ◌^◌}
+use native.Mathlib.Omega.{arith}
 use Rattle.words.proofs.Masks.{or_sum}
 use Rattle.words.proofs.pair_of.Statement.{statement}
 use Rattle.words.proofs.pair_of.Tie as tie

@@ -1,19 +1,19 @@
 -- `words::read_pair` meets its contract: its words are those that stand there, and each fits 32 bits.
-use Rattle.words.proofs.Basics.{needs}
+use borrow.Author.Rules.{rules}
 use Rattle.words.proofs.read_pair.Statement.{statement}
 use Rattle.words.proofs.read_pair.Tie as tie
 
 read-word-requires : tie.Need-read-word-requires
-read-word-requires c κs = search needs
+read-word-requires c κs = search rules
 
 add-read-word : tie.Need-overflow-add-read-word
-add-read-word c = search needs
+add-read-word c = search rules
 
 read-word-requires-2 : tie.Need-read-word-requires-2
-read-word-requires-2 c κs = search needs
+read-word-requires-2 c κs = search rules
 
 pair-of-requires : tie.Need-pair-of-requires
-pair-of-requires c κs = search needs
+pair-of-requires c κs = search rules
 
 returns : tie.Need-returns
 returns c =

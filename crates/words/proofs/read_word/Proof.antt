@@ -1,15 +1,16 @@
 -- `words::read_word` meets its contract: the bytes that `raw_word` reads in reverse order are reversed again.
-use Rattle.words.proofs.Basics.{ap, ◌∙◌, needs}
+use mathlib.Core.Path.{ap, ◌∙◌}
+use borrow.Author.Rules.{rules}
 use Rattle.words.specs.Words.{word_at, swapped}
 use Rattle.words.proofs.Words.{swapped_twice, word_lt}
 use Rattle.words.proofs.read_word.Statement.{statement}
 use Rattle.words.proofs.read_word.Tie as tie
 
 raw-word-requires : tie.Need-raw-word-requires
-raw-word-requires c κs = search needs
+raw-word-requires c κs = search rules
 
 swapped-requires : tie.Need-swapped-requires
-swapped-requires c κs = search needs
+swapped-requires c κs = search rules
 
 returns : tie.Need-returns
 returns c =

@@ -1,11 +1,12 @@
 -- `words::same_bytes` meets its contract: a word is its four bytes, in either order.
-use Rattle.words.proofs.Basics.{arith, needs}
+use native.Mathlib.Omega.{arith}
 use Rattle.words.proofs.Words.{reverse_same}
+use borrow.Author.Rules.{rules}
 use Rattle.words.proofs.same_bytes.Statement.{statement}
 use Rattle.words.proofs.same_bytes.Tie as tie
 
 word-of-requires : tie.Need-word-of-requires
-word-of-requires c κs = search needs
+word-of-requires c κs = search rules
 
 returns : tie.Need-returns
 returns c =

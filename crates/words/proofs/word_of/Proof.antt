@@ -1,5 +1,7 @@
 -- `words::word_of` meets its contract. No shift loses a bit, and no two of the shifted bytes have a bit in common.
-use Rattle.words.proofs.Basics.{◌+◌, ◌*◌, ◌%◌, ◌^◌, ◌≡◌, arith}
+use mathlib.Core.Path.{◌≡◌}
+use Prim.Native.Nat.{◌+◌, ◌*◌, ◌^◌, ◌%◌}
+use native.Mathlib.Omega.{arith}
 use Rattle.words.proofs.Masks.{or_sum}
 use Rattle.words.proofs.word_of.Statement.{statement}
 use Rattle.words.proofs.word_of.Tie as tie

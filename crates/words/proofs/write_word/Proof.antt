@@ -1,49 +1,55 @@
 -- `words::write_word` meets its contract: the four stores are the run of stores of the word's bytes.
-use Rattle.words.proofs.Basics.{ℕ, ◌/◌, ◌%◌, ◌≡◌, sym, ap, ◌∙◌, length-set, div-one, towards_numerals, arith, needs}
+use mathlib.Core.Path.{◌≡◌, sym, ap, ◌∙◌}
+use Prim.Native.Nat.{ℕ, ◌/◌, ◌%◌}
+use native.Mathlib.Nat.{div-one}
+use native.Mathlib.Numerals.{towards_numerals}
+use native.Mathlib.Omega.{arith}
+use lib.ListN.{length-set}
 use Rattle.words.specs.Bits.{bits}
 use Rattle.words.specs.Words.{swapped, with_word, word_bytes}
 use Rattle.words.proofs.Words.{turned_0, turned_1, turned_2, turned_3}
+use borrow.Author.Rules.{rules}
 use Rattle.words.proofs.write_word.Statement.{statement}
 use Rattle.words.proofs.write_word.Tie as tie
 
 swapped-requires : tie.Need-swapped-requires
-swapped-requires c κs = search needs
+swapped-requires c κs = search rules
 
 cast-s : tie.Need-overflow-cast-s
-cast-s c = search needs
+cast-s c = search rules
 
 slice-write-s : tie.Need-slice-write-s
-slice-write-s c = search needs
+slice-write-s c = search rules
 
 cast-s-2 : tie.Need-overflow-cast-s-2
-cast-s-2 c = search needs
+cast-s-2 c = search rules
 
 add-s : tie.Need-overflow-add-s
-add-s c = search needs
+add-s c = search rules
 
 slice-write-s-2 : tie.Need-slice-write-s-2
 slice-write-s-2 c = simp length-set (omega arith)
 
 cast-s-3 : tie.Need-overflow-cast-s-3
-cast-s-3 c = search needs
+cast-s-3 c = search rules
 
 add-s-2 : tie.Need-overflow-add-s-2
-add-s-2 c = search needs
+add-s-2 c = search rules
 
 slice-write-s-3 : tie.Need-slice-write-s-3
 slice-write-s-3 c = simp length-set (omega arith)
 
 cast-s-4 : tie.Need-overflow-cast-s-4
-cast-s-4 c = search needs
+cast-s-4 c = search rules
 
 add-s-3 : tie.Need-overflow-add-s-3
-add-s-3 c = search needs
+add-s-3 c = search rules
 
 slice-write-s-4 : tie.Need-slice-write-s-4
 slice-write-s-4 c = simp length-set (omega arith)
 
 same_length : tie.Need-same-length
-same_length c = search needs
+same_length c = search rules
 
 returns : tie.Need-returns
 unfolding with_word word_bytes

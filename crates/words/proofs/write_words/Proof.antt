@@ -1,7 +1,12 @@
 -- `words::write_words` meets its contract. The invariant: the first `i` words are written; once all are, their bytes fill the slice.
-use Rattle.words.proofs.Basics.{ℕ, ◌+◌, ◌-◌, ◌*◌, ◌<◌, ◌≤◌, ◌≡◌, refl, sym, ap, ◌∙◌, List, length, get_or, take, length-take-le, take-length, add-one}
-use Rattle.words.proofs.Basics.{arith, needs}
-use lib.Seq.{take-suc}
+use borrow.Author.Rules.{rules}
+use mathlib.Core.Path.{◌≡◌, refl, sym, ap, ◌∙◌}
+use mathlib.Core.List.{List}
+use Prim.Native.Nat.{ℕ, ◌+◌, ◌*◌, ◌-◌, ◌≤◌, ◌<◌}
+use native.Mathlib.Numerals.{add-one}
+use native.Mathlib.Omega.{arith}
+use lib.ListN.{length, take, get_or}
+use lib.Seq.{take-suc, take-length, length-take-le}
 use Rattle.words.specs.Words.{with_word}
 use Rattle.words.proofs.Words.{written, written_more, written_all, length_with_word}
 use Rattle.words.proofs.write_words.Statement.{statement}
@@ -15,7 +20,7 @@ decreases-loop s₀ words i₀ s i = length words - i
 
 loop-holds : tie.Need-loop-init invariant-loop decreases-loop
 unfolding written
-loop-holds c = (search needs, refl, refl)
+loop-holds c = (search rules, refl, refl)
 
 mul-write-word : tie.Need-overflow-mul-write-word invariant-loop decreases-loop
 mul-write-word c = omega arith
@@ -24,16 +29,16 @@ mul-write-word-2 : tie.Need-overflow-mul-write-word-2 invariant-loop decreases-l
 mul-write-word-2 c = omega arith
 
 shared-slice-read-write-word : tie.Need-shared-slice-read-write-word invariant-loop decreases-loop
-shared-slice-read-write-word c = search needs
+shared-slice-read-write-word c = search rules
 
 write-word-requires : tie.Need-write-word-requires invariant-loop decreases-loop
 write-word-requires c κs = omega arith
 
 add-i : tie.Need-overflow-add-i invariant-loop decreases-loop
-add-i c = search needs
+add-i c = search rules
 
 loop-less : tie.Need-loop-smaller invariant-loop decreases-loop
-loop-less c = search needs
+loop-less c = search rules
 
 loop-again : tie.Need-loop-preserved invariant-loop decreases-loop
 loop-again c =
@@ -52,7 +57,7 @@ loop-again c =
     ∙ ap (written s₀ 0) (take-suc words i 0 below)
     ∙ written_more (take i words) s₀ 0 w
     ∙ ap (λ (k : ℕ). with_word (written s₀ 0 (take i words)) k w) (omega (arith, length-take-le i words (omega arith))) in (
-      search needs,
+      search rules,
       ap length done ∙ length_with_word at-loop.loop.s (4 * i) w ∙ at-loop.loop.invariant.1,
       done ∙ ap (λ (l : List ℕ). with_word l (4 * i) w) at-loop.loop.invariant.2 ∙ sym next,
     )

@@ -3,8 +3,7 @@
 use model::call::{Access, Call, Page};
 use model::entry::{Fields, WIDTHS};
 use model::operand::LONGEST;
-use model::registers::{sdr1_is_well_formed, table_length};
-use model::search::GROUP;
+use model::registers::sdr1_is_well_formed;
 
 use crate::random::Random;
 
@@ -97,22 +96,10 @@ pub fn spoiled(random: &mut Random, call: Call, register_words: usize) -> Call {
         }
         Call::Rights { mode, .. } => *mode = past(random, 8),
         Call::Invalidate { page_index } => *page_index = past(random, 1 << 16),
-        Call::Sweep { sdr1, group } => *group = past_the_end(random, *sdr1),
         Call::Pack(fields) => *fields = spoiled_fields(random, *fields),
         Call::Check | Call::Clear { .. } | Call::Unpack { .. } => {}
     }
     call
-}
-
-/// The number of a group that the table does not have: the next, one that is right in its low bits alone, any.
-pub fn past_the_end(random: &mut Random, sdr1: u32) -> u32 {
-    let groups = (table_length(sdr1) / GROUP) as u32;
-    let low = random.below(groups);
-    let high_alone = groups << random.below(groups.leading_zeros() + 1);
-    let any = past(random, groups);
-    random
-        .pick(&[groups, high_alone, high_alone | low, 1 << 31 | low, 1 << 16 | low, any])
-        .max(groups)
 }
 
 fn spoiled_page(random: &mut Random, page: Page) -> Page {
@@ -167,8 +154,7 @@ pub fn with_sdr1(call: Call, new: u32) -> Call {
         | Call::Map { sdr1, .. }
         | Call::Unmap { sdr1, .. }
         | Call::Protect { sdr1, .. }
-        | Call::Look { sdr1, .. }
-        | Call::Sweep { sdr1, .. } => *sdr1 = new,
+        | Call::Look { sdr1, .. } => *sdr1 = new,
         _ => {}
     }
     call

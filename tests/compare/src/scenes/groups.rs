@@ -63,7 +63,7 @@ fn plant_matches(
     }
 }
 
-pub fn put_entry(table: &mut Region, group: usize, entry: usize, words: [u32; 2]) {
+fn put_entry(table: &mut Region, group: usize, entry: usize, words: [u32; 2]) {
     let at = GROUP * group + ENTRY * entry;
     table.write(at, &words[0].to_be_bytes());
     table.write(at + 4, &words[1].to_be_bytes());

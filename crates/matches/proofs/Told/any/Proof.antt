@@ -1,5 +1,7 @@
 -- `matches::Told::any` meets its contract: the number of none is no match's.
-use Rattle.words.proofs.Basics.{ap, ◌∙◌, not, eqb}
+use mathlib.Core.Path.{ap, ◌∙◌}
+use mathlib.Core.Bool.{not}
+use lib.Dec.{eqb}
 use Rattle.matches.specs.Search.{told}
 use Rattle.matches.specs.declared.Told.{Told}
 use Rattle.matches.proofs.Found.{found_any}

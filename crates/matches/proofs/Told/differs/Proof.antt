@@ -1,5 +1,5 @@
 -- `matches::Told::differs` meets its contract: 64 or more is the first of matches that contradict.
-use Rattle.words.proofs.Basics.{ap}
+use mathlib.Core.Path.{ap}
 use Rattle.matches.specs.Search.{told}
 use Rattle.matches.specs.declared.Told.{Told}
 use Rattle.matches.proofs.Found.{found_differs}

@@ -1,5 +1,5 @@
 -- `matches::Told::entry` meets its contract: each group has eight.
-use Rattle.words.proofs.Basics.{ap}
+use mathlib.Core.Path.{ap}
 use Rattle.matches.specs.Search.{told}
 use Rattle.matches.specs.declared.Told.{Told}
 use Rattle.matches.proofs.Found.{found_entry}

@@ -1,5 +1,5 @@
 -- `matches::Told::in_secondary` meets its contract: the secondary group's entries are those from 8 on.
-use Rattle.words.proofs.Basics.{ap}
+use mathlib.Core.Path.{ap}
 use Rattle.matches.specs.Search.{told}
 use Rattle.matches.specs.declared.Told.{Told}
 use Rattle.matches.proofs.Found.{found_secondary}

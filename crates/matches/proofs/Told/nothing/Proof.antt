@@ -1,5 +1,5 @@
 -- `matches::Told::nothing` meets its contract: what is told of no match.
-use Rattle.words.proofs.Basics.{refl}
+use mathlib.Core.Path.{refl}
 use Rattle.matches.specs.Search.{told, found_of}
 use Rattle.matches.proofs.Told.nothing.Statement.{statement}
 use Rattle.matches.proofs.Told.nothing.Tie as tie

@@ -1,5 +1,5 @@
 -- `matches::Told::several` meets its contract: 32 or more is the first of several.
-use Rattle.words.proofs.Basics.{ap}
+use mathlib.Core.Path.{ap}
 use Rattle.matches.specs.Search.{told}
 use Rattle.matches.specs.declared.Told.{Told}
 use Rattle.matches.proofs.Found.{found_several}

@@ -1,6 +1,12 @@
 -- `mmu::cached::mmu_access_cached` meets its contract: a wrong length is refused, and else the access is that of `table_access` with the cache.
-use Rattle.words.proofs.Basics.{ℕ, ◌≡◌, refl, sym, ap, ◌∙◌, Bool, true, false, ◌&&◌, true≢false, List, eqb, length, eqb-false, eqb_true, not-false, not-true}
-use Rattle.words.proofs.Basics.{needs}
+use borrow.Author.Rules.{rules}
+use borrow.Author.Tests.{eqb-true, eqb-false, not-true, not-false}
+use mathlib.Core.Path.{◌≡◌, refl, sym, ap, ◌∙◌}
+use mathlib.Core.Bool.{Bool, true, false, ◌&&◌, true≢false}
+use mathlib.Core.List.{List}
+use Prim.Native.Nat.{ℕ}
+use lib.Dec.{eqb}
+use lib.ListN.{length}
 use Rattle.registers.specs.Set.{is_page}
 use Rattle.words.proofs.Tests.{both}
 use Rattle.theory_calls.specs.Request.{AccessCall}
@@ -20,7 +26,7 @@ lengths : (c : tie.Else1) →
 lengths c =
     let right = both _ _ (not-false _ c.if1.false) in
     let lent = both _ _ right.0 in
-    (sym c.before.is-page.ensures ∙ lent.0, eqb_true _ 48 lent.1, eqb_true _ 2048 right.1)
+    (sym c.before.is-page.ensures ∙ lent.0, eqb-true _ 48 lent.1, eqb-true _ 2048 right.1)
 
 -- and where one is wrong the call answers 11
 one-wrong : (c : AccessCall (List ℕ)) (lent : List ℕ × List ℕ)
@@ -30,11 +36,11 @@ one-wrong c lent wrong = go (eqb (length lent.1) 2048) refl (is_page (length c.r
     go : (b : Bool) → eqb (length lent.1) 2048 ≡ b → (l : Bool) → (is_page (length c.registers) && eqb (length c.answer) 48) ≡ l → (l && b) ≡ false
         → on_cached c lent ≡ ended 11 lent c.answer
     go false e l f w = cache_wrong_length c lent (eqb-false _ 2048 e)
-    go true e false f w = wrong_length c lent (eqb_true _ 2048 e) f
+    go true e false f w = wrong_length c lent (eqb-true _ 2048 e) f
     go true e true f w = absurd (true≢false w)
 
 is-page-requires : tie.Need-is-page-requires
-is-page-requires c κs = search needs
+is-page-requires c κs = search rules
 
 returns : tie.Need-returns
 returns c =
@@ -47,13 +53,13 @@ translate-requires : tie.Need-translate-requires
 translate-requires c κs = let (page, answer, cache) = lengths c.before.before.before in (page, λ other. absurd (other cache), answer)
 
 same_length : tie.Need-same-length
-same_length c = search needs
+same_length c = search rules
 
 same-length-2 : tie.Need-same-length-2
-same-length-2 c = search needs
+same-length-2 c = search rules
 
 same-length-3 : tie.Need-same-length-3
-same-length-3 c = search needs
+same-length-3 c = search rules
 
 returns-2 : tie.Need-returns-2
 returns-2 c =

@@ -1,5 +1,10 @@
 -- `mmu::cached::mmu_invalidate` meets its contract: a wrong length, then an index out of range is refused, and else the set is zeroed.
-use Rattle.words.proofs.Basics.{ℕ, ap, List, length, eq-eqb, le-ltb, lt-ltb, ne_eqb, needs}
+use borrow.Author.Rules.{rules}
+use borrow.Author.Tests.{eq-eqb, ne_eqb, lt-ltb, le-ltb}
+use mathlib.Core.Path.{ap}
+use mathlib.Core.List.{List}
+use Prim.Native.Nat.{ℕ}
+use lib.ListN.{length}
 use Rattle.theory_cache.specs.Cached.{invalidate_refusal, invalidate_call}
 use Rattle.mmu.proofs.cached.mmu_invalidate.Statement.{statement}
 use Rattle.mmu.proofs.cached.mmu_invalidate.Tie as tie
@@ -15,10 +20,10 @@ returns-2 c =
     rw (eq-eqb (length a.cache.now) 2048 c.before.if1.false, le-ltb a.index 65536 c.if2.true)
 
 zero-set-requires : tie.Need-zero-set-requires
-zero-set-requires c κs = search needs
+zero-set-requires c κs = search rules
 
 same_length : tie.Need-same-length
-same_length c = search needs
+same_length c = search rules
 
 returns-3 : tie.Need-returns-3
 unfolding invalidate_call invalidate_refusal

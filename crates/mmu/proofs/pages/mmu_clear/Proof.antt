@@ -1,20 +1,21 @@
 -- `mmu::pages::mmu_clear` meets its contract.
-use Rattle.words.proofs.Basics.{sym, needs}
+use mathlib.Core.Path.{sym}
 use Rattle.theory_calls.proofs.PageCalls.{clear_refused, clear_done}
+use borrow.Author.Rules.{rules}
 use Rattle.mmu.proofs.pages.mmu_clear.Statement.{statement}
 use Rattle.mmu.proofs.pages.mmu_clear.Tie as tie
 
 page-refusal-requires : tie.Need-page-refusal-requires
-page-refusal-requires c κs = search needs
+page-refusal-requires c κs = search rules
 
 returns : tie.Need-returns
 returns c = sym (clear_refused _ _ _ c.before.page-refusal.ensures c.if1.true)
 
 clear-requires : tie.Need-clear-requires
-clear-requires c κs = search needs
+clear-requires c κs = search rules
 
 same_length : tie.Need-same-length
-same_length c = search needs
+same_length c = search rules
 
 returns-2 : tie.Need-returns-2
 returns-2 c =

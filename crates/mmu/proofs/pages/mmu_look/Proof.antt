@@ -1,5 +1,8 @@
 -- `mmu::pages::mmu_look` meets its contract: only an answer of 16 bytes is written, and the work is done on a table of right length.
-use Rattle.words.proofs.Basics.{ℕ, ◌≡◌, refl, sym, ap, ◌∙◌, List, length, needs}
+use mathlib.Core.Path.{◌≡◌, refl, sym, ap, ◌∙◌}
+use mathlib.Core.List.{List}
+use Prim.Native.Nat.{ℕ}
+use lib.ListN.{length}
 use Rattle.registers.specs.Rules.{first_broken}
 use Rattle.page_calls.specs.declared.WordAnswer.{WordAnswer}
 use Rattle.theory_calls.specs.Request.{AnsweredCall}
@@ -8,6 +11,7 @@ use Rattle.theory_calls.specs.Answers.{word_answer}
 use Rattle.theory_calls.specs.OnBytes.{ended}
 use Rattle.theory_calls.proofs.PageCalls.{page_rules, Kept, kept, page_ranges, look_11, look_refused, look_taken}
 use Rattle.page_calls.proofs.Searched.{table_of}
+use borrow.Author.Rules.{rules}
 use Rattle.mmu.proofs.pages.mmu_look.Statement.{statement}
 use Rattle.mmu.proofs.pages.mmu_look.Tie as tie
 
@@ -15,19 +19,15 @@ use Rattle.mmu.proofs.pages.mmu_look.Tie as tie
 abbrev called : (c : tie.Start) → AnsweredCall (List ℕ)
 called c = let a = c.args in record { sdr1 = a.sdr1; page = record { vsid = a.vsid; index = a.index }; answer = a.answer.now }
 
--- where the call begins, from where the answer's length is right
-abbrev begin : tie.Else1 → tie.Start
-begin c = c.before.before.before
-
 -- the number that the rules give
 number_is : (c : tie.After-word-refusal) →
-    let start = begin c.before in
+    let start = c.before.before.before.before in
     c.word-refusal.result.result ≡ first_broken (page_rules (page_in_range (called start).page) start.args.sdr1 (length start.args.table.now))
 number_is c = ap (λ (r : WordAnswer). r.result) c.word-refusal.ensures
 
 -- what holds where nothing is refused
 rules-kept : (c : tie.After-word-refusal) → c.word-refusal.result.result ≡ 0 →
-    let start = begin c.before in
+    let start = c.before.before.before.before in
     Kept (page_in_range (called start).page) start.args.sdr1 (length start.args.table.now)
 rules-kept c z = kept _ _ _ (sym (number_is c) ∙ z)
 
@@ -35,13 +35,13 @@ returns : tie.Need-returns
 returns c = sym (look_11 (called c.before.before.before) _ c.if1.true)
 
 word-refusal-requires : tie.Need-word-refusal-requires
-word-refusal-requires c κs = search needs
+word-refusal-requires c κs = search rules
 
 write-answer-requires : tie.Need-write-answer-requires
-write-answer-requires c κs = search needs
+write-answer-requires c κs = search rules
 
 same_length : tie.Need-same-length
-same_length c = search needs
+same_length c = search rules
 
 returns-2 : tie.Need-returns-2
 returns-2 c =
@@ -49,22 +49,22 @@ returns-2 c =
     let t = w.before.before in
     let r = t.before.before in
     ap (ended _ _) (w.write-answer.ensures ∙ ap (word_answer _) (ap (λ (x : WordAnswer). x.word) r.word-refusal.ensures))
-    ∙ sym (look_refused (called (begin r.before)) _ _ (number_is r) r.before.if1.false t.if2.true)
+    ∙ sym (look_refused (called r.before.before.before.before) _ _ (number_is r) r.before.if1.false t.if2.true)
 
 look-page-requires : tie.Need-look-page-requires
 look-page-requires c κs =
     let e = c in
     let r = e.before.before in
-    let page = (called (begin r.before)).page in
+    let page = (called r.before.before.before.before).page in
     let k = rules-kept r e.if2.false in
     let (vsid, index) = page_ranges page (page_in_range page) refl k.in_range_law in
     ((_, table_of _ _ _ k), record { vsid_lt = vsid; index_lt = index })
 
 write-answer-requires-2 : tie.Need-write-answer-requires-2
-write-answer-requires-2 c κs = search needs
+write-answer-requires-2 c κs = search rules
 
 same-length-2 : tie.Need-same-length-2
-same-length-2 c = search needs
+same-length-2 c = search rules
 
 returns-3 : tie.Need-returns-3
 returns-3 c =
@@ -73,7 +73,7 @@ returns-3 c =
     let e = u.before in
     let r = e.before.before in
     ap (ended _ _) w.write-answer2.ensures
-    ∙ look_taken (called (begin r.before)) _ _ (number_is r) r.before.if1.false e.if2.false _
+    ∙ look_taken (called r.before.before.before.before) _ _ (number_is r) r.before.if1.false e.if2.false _
     (u.look-page.ensures _ (table_of _ _ _ (rules-kept r e.if2.false)))
 
 pub mmu-look-spec : {M : Type 1} → statement M

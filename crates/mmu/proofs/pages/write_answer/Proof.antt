@@ -1,17 +1,17 @@
 -- `mmu::pages::write_answer` meets its contract: four words fill 16 bytes.
-use Rattle.words.proofs.Basics.{needs}
 use Rattle.theory_calls.specs.Answers.{word_answer}
+use borrow.Author.Rules.{rules}
 use Rattle.mmu.proofs.pages.write_answer.Statement.{statement}
 use Rattle.mmu.proofs.pages.write_answer.Tie as tie
 
 slice-aggregate-write-words : tie.Need-slice-aggregate-write-words
-slice-aggregate-write-words c = search needs
+slice-aggregate-write-words c = search rules
 
 write-words-requires : tie.Need-write-words-requires
-write-words-requires c κs = search needs
+write-words-requires c κs = search rules
 
 same_length : tie.Need-same-length
-same_length c = search needs
+same_length c = search rules
 
 returns : tie.Need-returns
 unfolding word_answer

@@ -1,5 +1,12 @@
 -- `mmu::rights::mmu_rights` meets its contract: a wrong length is refused, and else what is told of the three accesses is written.
-use Rattle.words.proofs.Basics.{ℕ, ◌≡◌, sym, ap, ap₂, ◌∙◌, Bool, true, ◌&&◌, List, eqb, length, eqb_true, not-false, not-true, needs}
+use borrow.Author.Rules.{rules}
+use borrow.Author.Tests.{eqb-true, not-true, not-false}
+use mathlib.Core.Path.{◌≡◌, sym, ap, ap₂, ◌∙◌}
+use mathlib.Core.Bool.{Bool, true, ◌&&◌}
+use mathlib.Core.List.{List}
+use Prim.Native.Nat.{ℕ}
+use lib.Dec.{eqb}
+use lib.ListN.{length}
 use Rattle.registers.specs.Set.{is_page}
 use Rattle.words.proofs.Tests.{both}
 use Rattle.access_rights.specs.Rights.{RightsCall}
@@ -11,24 +18,20 @@ use Rattle.mmu.proofs.rights.mmu_rights.Tie as tie
 abbrev call : tie.Start → RightsCall
 call c = record { registers = c.args.registers.now; mode = c.args.mode; address = c.args.address }
 
--- where the call begins, from where the lengths are asked
-abbrev begin : tie.After-is-page → tie.Start
-begin c = let asked = c.before.before in asked.before.before
-
 -- past the refusal of a length both lengths are right
 lengths : (c : tie.Else1) →
-    let start = begin c.before in
+    let start = c.before.before.before.before.before in
     (is_page (length start.args.registers.now) ≡ true) × (length start.args.answer.now ≡ 156)
 lengths c =
     let right = both _ _ (not-false _ c.if1.false) in
-    (sym c.before.is-page.ensures ∙ right.0, eqb_true _ 156 right.1)
+    (sym c.before.is-page.ensures ∙ right.0, eqb-true _ 156 right.1)
 
 is-page-requires : tie.Need-is-page-requires
-is-page-requires c κs = search needs
+is-page-requires c κs = search rules
 
 returns : tie.Need-returns
 returns c =
-    let start = begin c.before in
+    let start = c.before.before.before.before.before in
     let answer = start.args.answer.now in
     sym
     (wrong_length (call start) answer start.args.table.now
@@ -41,14 +44,14 @@ write-rights-requires : tie.Need-write-rights-requires
 write-rights-requires c κs = (lengths c.before.before).1
 
 same_length : tie.Need-same-length
-same_length c = search needs
+same_length c = search rules
 
 returns-2 : tie.Need-returns-2
 returns-2 c =
     let at-write = c.before.before in
     let at-tell = at-write.before.before in
     let else1 = at-tell.before in
-    let start = begin else1.before in
+    let start = else1.before.before.before.before.before in
     let t = start.args.table.now in
     let (page, long) = lengths else1 in
     let told = at-tell.tell.ensures in

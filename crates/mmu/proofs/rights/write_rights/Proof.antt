@@ -1,8 +1,12 @@
 -- `mmu::rights::write_rights` meets its contract: three answers of 48 bytes and three words fill 156 bytes, each part behind the one before.
-use Rattle.words.proofs.Basics.{ℕ, ◌≡◌, refl, sym, ap, ap₂, ◌∙◌, List, [], ◌++◌, append_assoc, append-nil, length, drop, length-append, length-drop, drop_at}
-use Rattle.words.proofs.Basics.{take_at, arith, needs, put_mid}
-use lib.ListN.{drop_of_length-le}
-use borrow.Rule.Slice.PartMut.{post_of}
+use borrow.Author.Rules.{rules}
+use borrow.Rule.Slice.PartMut.{post_of, put_mid}
+use mathlib.Core.Path.{◌≡◌, refl, sym, ap, ap₂, ◌∙◌}
+use mathlib.Core.List.{List, [], ◌++◌, append_assoc, append-nil}
+use Prim.Native.Nat.{ℕ}
+use native.Mathlib.Omega.{arith}
+use lib.ListN.{length, drop, length-append, length-drop, drop_of_length-le}
+use lib.Seq.{take_at, drop_at}
 use Rattle.words.specs.Words.{word_bytes, bytes_of}
 use Rattle.translation.specs.declared.operand.OperandAnswer.{OperandAnswer}
 use Rattle.theory_calls.specs.Answers.{access_answer}
@@ -36,70 +40,66 @@ unfolding access_answer bytes_of word_bytes
 answer_length a = refl
 
 sub-tell : tie.Need-overflow-sub-tell
-sub-tell c = search needs
+sub-tell c = search rules
 
 part-tell-start : tie.Need-slice-bounds-tell-start
-part-tell-start c = search needs
+part-tell-start c = search rules
 
 part-tell-end : tie.Need-slice-bounds-tell-end
-part-tell-end c = search needs
+part-tell-end c = search rules
 
 tell-requires : tie.Need-tell-requires
-tell-requires c κs = search needs
+tell-requires c κs = search rules
 
 sub-tell-2 : tie.Need-overflow-sub-tell-2
-sub-tell-2 c = search needs
+sub-tell-2 c = search rules
 
 part-tell-start-2 : tie.Need-slice-bounds-tell-start-2
-part-tell-start-2 c = search needs
+part-tell-start-2 c = search rules
 
 part-tell-end-2 : tie.Need-slice-bounds-tell-end-2
-part-tell-end-2 c = search needs
+part-tell-end-2 c = search rules
 
 tell-requires-2 : tie.Need-tell-requires-2
-tell-requires-2 c κs = search needs
+tell-requires-2 c κs = search rules
 
 sub-tell-3 : tie.Need-overflow-sub-tell-3
-sub-tell-3 c = search needs
+sub-tell-3 c = search rules
 
 part-tell-start-3 : tie.Need-slice-bounds-tell-start-3
-part-tell-start-3 c = search needs
+part-tell-start-3 c = search rules
 
 part-tell-end-3 : tie.Need-slice-bounds-tell-end-3
-part-tell-end-3 c = search needs
+part-tell-end-3 c = search rules
 
 tell-requires-3 : tie.Need-tell-requires-3
-tell-requires-3 c κs = search needs
+tell-requires-3 c κs = search rules
 
 sub-write-words : tie.Need-overflow-sub-write-words
-sub-write-words c = search needs
+sub-write-words c = search rules
 
 part-write-words-start : tie.Need-slice-bounds-write-words-start
-part-write-words-start c = search needs
+part-write-words-start c = search rules
 
 part-write-words-end : tie.Need-slice-bounds-write-words-end
-part-write-words-end c = search needs
+part-write-words-end c = search rules
 
 slice-aggregate-write-words : tie.Need-slice-aggregate-write-words
-slice-aggregate-write-words c = search needs
+slice-aggregate-write-words c = search rules
 
 write-words-requires : tie.Need-write-words-requires
-write-words-requires c κs = search needs
+write-words-requires c κs = search rules
 
 same_length : tie.Need-same-length
-same_length c = search needs
+same_length c = search rules
 
 returns : tie.Need-returns
 returns c =
     let at_words = c.before.before in
-    let words-part = at_words.before.before.before in
-    let at_store = words-part.before.before in
-    let store-part = at_store.before.before in
-    let at_load = store-part.before.before in
-    let load_part = at_load.before.before in
-    let at-fetch = load_part.before.before in
-    let fetch-part = at-fetch.before.before.before in
-    let start = fetch-part.before.before.before in
+    let at_store = at_words.before.before.before.before.before in
+    let at_load = at_store.before.before.before.before in
+    let at-fetch = at_load.before.before.before.before in
+    let start = at-fetch.before.before.before.before.before.before in
     let told = start.args.told in
     rw (at-fetch.tell.ensures.1, at_load.tell2.ensures.1, at_store.tell3.ensures.1, at_words.write-words.ensures)
     (filled start.args.answer.now (access_answer told.fetch.told) (access_answer told.load.told) (access_answer told.store.told) _ start.requires

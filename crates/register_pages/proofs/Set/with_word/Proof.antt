@@ -1,17 +1,25 @@
 -- `register_pages::Set::with_word` meets its contract: the word is put into the bytes and put back where the check refuses the page that they hold.
-use Rattle.words.proofs.Basics.{ℕ, ◌+◌, ◌-◌, ◌*◌, ◌<◌, ◌≤◌, ◌≡◌, sym, ap, ap₂, ◌∙◌, Bool, true, cond, List, eqb, length, take, length-take-le, arith, eq-eqb}
-use Rattle.words.proofs.Basics.{ne_eqb, needs}
+use borrow.Author.Tests.{eq-eqb, ne_eqb}
+use native.Mathlib.Omega.{arith}
+use mathlib.Core.Bool.{Bool, true, cond}
+use mathlib.Core.List.{List}
+use mathlib.Core.Path.{◌≡◌, sym, ap, ap₂, ◌∙◌}
+use Prim.Native.Nat.{ℕ, ◌+◌, ◌-◌, ◌*◌, ◌≤◌, ◌<◌}
+use lib.Dec.{eqb}
+use lib.ListN.{length, take}
+use lib.Seq.{length-take-le}
 use Rattle.words.specs.Words.{with_word}
 use Rattle.words.proofs.Words.{length_with_word}
 use Rattle.register_words.specs.Block.{bl_width}
 use Rattle.registers.specs.Set.{is_page, is_long, block_pairs, register_count, register_words, check_words}
 use Rattle.register_pages.specs.Replace.{page_replaced}
 use Rattle.register_pages.proofs.Replace.{page_most, number_fits, put_right, put_replaced, put_past, put_back, take_with}
+use borrow.Author.Rules.{rules}
 use Rattle.register_pages.proofs.Set.with_word.Statement.{statement}
 use Rattle.register_pages.proofs.Set.with_word.Tie as tie
 
 count-of-requires : tie.Need-count-of-requires
-count-of-requires c κs = search needs
+count-of-requires c κs = search rules
 
 -- the page that the set holds
 module _ (c : tie.After-count-of) where
@@ -69,16 +77,16 @@ returns : tie.Need-returns
 returns c = let a = c.before in sym (put_past (page a) (begin a).args.number (begin a).args.word (rw (count a) c.if1.true))
 
 mul_at : tie.Need-overflow-mul-at
-mul_at c = search needs
+mul_at c = search rules
 
 slice-aggregate-read-word : tie.Need-slice-aggregate-read-word
-slice-aggregate-read-word c = search needs
+slice-aggregate-read-word c = search rules
 
 read-word-requires : tie.Need-read-word-requires
 read-word-requires c κs = let e = c.before.before in on-bytes e.before e.if1.false
 
 slice-aggregate-write-word : tie.Need-slice-aggregate-write-word
-slice-aggregate-write-word c = search needs
+slice-aggregate-write-word c = search rules
 
 -- past the test of the number, from where the old word was read
 abbrev tested : tie.After-read-word → tie.Else1
@@ -88,10 +96,10 @@ write-word-requires : tie.Need-write-word-requires
 write-word-requires c κs = let e = tested c.before in on-bytes e.before e.if1.left
 
 sub-check : tie.Need-overflow-sub-check
-sub-check c = search needs
+sub-check c = search rules
 
 part-check-start : tie.Need-slice-bounds-check-start
-part-check-start c = search needs
+part-check-start c = search rules
 
 -- the bytes with the word put in
 module _ (w : tie.After-write-word) where
@@ -133,7 +141,7 @@ check-requires c κs =
     ap (λ (p : List ℕ). is_page (length p)) (lent-page w) ∙ put_right (page (held w)) (right (held w)) (at (held w)) (begin (held w)).args.word
 
 slice-aggregate-write-word-2 : tie.Need-slice-aggregate-write-word-2
-slice-aggregate-write-word-2 c = search needs
+slice-aggregate-write-word-2 c = search rules
 
 write-word-requires-2 : tie.Need-write-word-requires-2
 write-word-requires-2 c κs = let w = changed c.before.before.before in omega (arith, new-length w, on-bytes (held w) (past w).if1.left)

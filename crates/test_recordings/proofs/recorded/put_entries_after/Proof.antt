@@ -1,5 +1,7 @@
 -- `recordings::recorded::put_entries_after` is safe and ends: both places in the text stay within it, and the entries are counted.
-use Rattle.words.proofs.Basics.{◌-◌, ◌≤◌, length, needs}
+use borrow.Author.Rules.{rules}
+use Prim.Native.Nat.{◌-◌, ◌≤◌}
+use lib.ListN.{length}
 use Rattle.test_recordings.proofs.recorded.put_entries_after.Statement.{statement}
 use Rattle.test_recordings.proofs.recorded.put_entries_after.Tie as tie
 
@@ -10,28 +12,28 @@ abbrev decreases-loop : tie.decreases-loop
 decreases-loop table₀ text at count after next₀ seconds₀ counter₀ table next seconds counter = count - counter
 
 loop-holds : tie.Need-loop-init invariant-loop decreases-loop
-loop-holds c = search needs
+loop-holds c = search rules
 
 entry-at-requires : tie.Need-entry-at-requires invariant-loop decreases-loop
-entry-at-requires c κs = search needs
+entry-at-requires c κs = search rules
 
 number-at-requires : tie.Need-number-at-requires invariant-loop decreases-loop
-number-at-requires c κs = search needs
+number-at-requires c κs = search rules
 
 put-requires : tie.Need-put-requires invariant-loop decreases-loop
-put-requires c κs = search needs
+put-requires c κs = search rules
 
 add-counter : tie.Need-overflow-add-counter invariant-loop decreases-loop
-add-counter c = search needs
+add-counter c = search rules
 
 loop-less : tie.Need-loop-smaller invariant-loop decreases-loop
-loop-less c = search needs
+loop-less c = search rules
 
 loop-again : tie.Need-loop-preserved invariant-loop decreases-loop
-loop-again c = search needs
+loop-again c = search rules
 
 returns : tie.Need-returns invariant-loop decreases-loop
-returns c = search needs
+returns c = search rules
 
 pub put-entries-after-spec : {M : Type 1} → statement M
 put-entries-after-spec =

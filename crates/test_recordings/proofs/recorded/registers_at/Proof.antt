@@ -1,5 +1,8 @@
 -- `recordings::recorded::registers_at` is safe and ends: the place in the text stays within it, and the page keeps its 132 bytes, 33 words.
-use Rattle.words.proofs.Basics.{◌-◌, ◌≤◌, ◌≡◌, length, needs}
+use borrow.Author.Rules.{rules}
+use mathlib.Core.Path.{◌≡◌}
+use Prim.Native.Nat.{◌-◌, ◌≤◌}
+use lib.ListN.{length}
 use Rattle.test_recordings.proofs.recorded.registers_at.Statement.{statement}
 use Rattle.test_recordings.proofs.recorded.registers_at.Tie as tie
 
@@ -10,31 +13,31 @@ abbrev decreases-loop : tie.decreases-loop
 decreases-loop text at page₀ next₀ i₀ page next i = 33 - i
 
 loop-holds : tie.Need-loop-init invariant-loop decreases-loop
-loop-holds c = search needs
+loop-holds c = search rules
 
 number-at-requires : tie.Need-number-at-requires invariant-loop decreases-loop
-number-at-requires c κs = search needs
+number-at-requires c κs = search rules
 
 slice-aggregate-write-word : tie.Need-slice-aggregate-write-word invariant-loop decreases-loop
-slice-aggregate-write-word c = search needs
+slice-aggregate-write-word c = search rules
 
 mul-write-word : tie.Need-overflow-mul-write-word invariant-loop decreases-loop
-mul-write-word c = search needs
+mul-write-word c = search rules
 
 write-word-requires : tie.Need-write-word-requires invariant-loop decreases-loop
-write-word-requires c κs = search needs
+write-word-requires c κs = search rules
 
 add-i : tie.Need-overflow-add-i invariant-loop decreases-loop
-add-i c = search needs
+add-i c = search rules
 
 loop-less : tie.Need-loop-smaller invariant-loop decreases-loop
-loop-less c = search needs
+loop-less c = search rules
 
 loop-again : tie.Need-loop-preserved invariant-loop decreases-loop
-loop-again c = search needs
+loop-again c = search rules
 
 returns : tie.Need-returns invariant-loop decreases-loop
-returns c = search needs
+returns c = search rules
 
 pub registers-at-spec : {M : Type 1} → statement M
 registers-at-spec =

@@ -1,11 +1,11 @@
 -- `translation::decision::key_and_pp` meets its contract, with the key and without.
-use Rattle.words.proofs.Basics.{arith, needs}
+use Rattle.std.proofs.Common.{arith, rules}
 use Rattle.translation.specs.Decision.{key_and_pp}
 use Rattle.translation.proofs.decision.key_and_pp.Statement.{statement}
 use Rattle.translation.proofs.decision.key_and_pp.Tie as tie
 
 pp-of-requires : tie.Need-pp-of-requires
-pp-of-requires c κs = search needs
+pp-of-requires c κs = search rules
 
 add-result : tie.Need-overflow-add-result
 add-result c = let pp = c.before.pp-of.ensures in omega arith

@@ -1,2 +1,0 @@
--- The proofs of the rows.
-pub mod Swept

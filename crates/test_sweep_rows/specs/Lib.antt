@@ -1,2 +1,0 @@
--- Runs with steps of a sweep that show what is not enough for a page to be listed once.
-pub mod Swept

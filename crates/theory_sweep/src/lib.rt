@@ -1,1 +1,0 @@
-// A step of a sweep: definitions, statements and proofs only.

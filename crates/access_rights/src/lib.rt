@@ -22,7 +22,7 @@ use translation::operand::OperandAnswer;
 pub const SIZE: usize = 156;
 
 // What stands at an address: the pair of each side that covers it, or 8, and what the search of its page finds.
-#[derive(Drop)]
+#[derive(Clone, Copy)]
 pub struct Standing {
     pub ibat: usize,
     pub dbat: usize,
@@ -30,14 +30,14 @@ pub struct Standing {
 }
 
 // What the access of one kind would answer, and the marks that it would newly set in its entry.
-#[derive(Drop)]
+#[derive(Clone, Copy)]
 pub struct Right {
     pub told: OperandAnswer,
     pub marks: u32,
 }
 
 // The first broken rule that the three accesses share, or 0, and what each comes to.
-#[derive(Drop)]
+#[derive(Clone, Copy)]
 pub struct Rights {
     pub number: u32,
     pub fetch: Right,

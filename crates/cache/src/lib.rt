@@ -12,7 +12,7 @@ const SET_SIZE: usize = 32;
 const PLACE_SIZE: usize = 16;
 
 // What the cache has of a page: the two words of its entry, where it is a hit.
-#[derive(Drop)]
+#[derive(Clone, Copy)]
 pub struct Hit {
     pub found: bool,
     pub first: u32,

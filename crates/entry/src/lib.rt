@@ -6,7 +6,7 @@ ghost use Rattle.entry.specs.Entry.{first_word, second_word, within_widths, pack
 ghost use Rattle.entry.specs.Entry.{referenced, changed, with_marks, with_pp, physical_address, page_index, api_of};
 
 // The fields of an entry.
-#[derive(Drop)]
+#[derive(Clone, Copy)]
 pub struct Fields {
     pub v: u32,
     pub vsid: u32,
@@ -20,14 +20,14 @@ pub struct Fields {
 }
 
 // The two words of an entry.
-#[derive(Drop)]
+#[derive(Clone, Copy)]
 pub struct Words {
     pub first: u32,
     pub second: u32,
 }
 
 // What packing answers: done and the words, or a refused argument and zero words where a field is past its width.
-#[derive(Drop)]
+#[derive(Clone, Copy)]
 pub struct Packed {
     pub result: u32,
     pub words: Words,

@@ -7,7 +7,7 @@ ghost use Rattle.groups.specs.Hash.{hash_of, groups_of, group_address, located};
 ghost use Rattle.groups.specs.Group.{first_of, second_of, put_entry, put_at, entry_free, first_free_place, free_after};
 
 // The numbers of the two groups of a hash.
-#[derive(Drop)]
+#[derive(Clone, Copy)]
 pub struct Groups {
     pub primary: u32,
     pub secondary: u32,
@@ -41,7 +41,7 @@ pub fn group_address(sdr1: u32, group: u32) -> u32
 
 // Where a page's entries are: the numbers of its two groups, the bytes of each, and the first word that matches in the primary, its bytes in
 // reverse order. The bytes are 64; they are told so that the compiler unrolls a search's loops only in the calls that locate a page.
-#[derive(Drop)]
+#[derive(Clone, Copy)]
 pub struct Located {
     pub primary: usize,
     pub secondary: usize,
@@ -100,7 +100,7 @@ pub fn free_after(before: u32, group: &[u8]) -> u32
 }
 
 // The place of a free entry: whether it is in the secondary group, and its number there.
-#[derive(Drop)]
+#[derive(Clone, Copy)]
 pub enum Place {
     Entry(bool, usize),
     Full,

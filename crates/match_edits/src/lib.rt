@@ -6,7 +6,7 @@ ghost use Rattle.matches.specs.Search.{WantedWord, group_matches, pair_matches, 
 ghost use Rattle.match_edits.specs.Edit.{EditFits, edited_words, edit_at, edit_matches, edit_pair};
 
 // What is done to each match: eight zero bytes, or another PP.
-#[derive(Drop)]
+#[derive(Clone, Copy)]
 pub enum Edit {
     Clear,
     Protect(u32),

@@ -18,7 +18,7 @@ pub fn words_agree(second: u32, other: u32) -> bool
 // What a search tells of the entries that it went over. `found` is the first match's number in search order, primary entries 0 to 7, then secondary
 // 8 to 15, or NONE; AGREE is added where there are others that agree with it, and DIFFER where one of them does not. `second` is the first match's
 // second word. `free` has a bit for each entry, the last one's the lowest: one where V = 0.
-#[derive(Drop)]
+#[derive(Clone, Copy)]
 pub struct Told {
     pub found: usize,
     pub second: u32,

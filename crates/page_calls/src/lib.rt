@@ -11,7 +11,7 @@ ghost use Rattle.theory_calls.specs.Answers.{word_answer};
 ghost use Rattle.theory_calls.specs.OnBytes.{ended, bytes_do};
 
 // What unmap and look answer: the result number and the second entry word.
-#[derive(Drop)]
+#[derive(Clone, Copy)]
 pub struct WordAnswer {
     pub result: u32,
     pub word: u32,

@@ -13,7 +13,7 @@ pub const NO_FETCH: u32 = 1;
 pub const PROTECTION: u32 = 2;
 
 // A storage fault: its result number, the fault word and the interrupt offset.
-#[derive(Drop)]
+#[derive(Clone, Copy)]
 pub struct Fault {
     pub result: u32,
     pub word: u32,

@@ -7,7 +7,7 @@ ghost use Rattle.register_pages.specs.Replace.{page_replaced, page_of, OfPage};
 
 // What a pass over the pairs of a side gathers of those that are on: what is asked of each, put together by or, and how many begin at or before the end
 // of the one before.
-#[derive(Drop)]
+#[derive(Clone, Copy)]
 struct Side {
     any: u64,
     falls: u32,
@@ -173,14 +173,14 @@ pub fn check(whole: &[u8]) -> u32
 }
 
 // The register set by value: the bytes of its page, those of a short one in front, and how many they are.
-#[derive(Drop)]
+#[derive(Clone, Copy)]
 pub struct Set {
     pub bytes: [u8; 196],
     pub size: usize,
 }
 
 // What replacing a word answers: 0 and the new set, or the refusal and the old set.
-#[derive(Drop)]
+#[derive(Clone, Copy)]
 pub struct Replaced {
     pub result: u32,
     pub set: Set,

@@ -25,7 +25,7 @@ ghost use Rattle.table_access.specs.Part.{call_of, SearchTold, PageAndTable, Cac
 use translation::operand::OperandAnswer;
 
 // What an access asks for.
-#[derive(Drop)]
+#[derive(Clone, Copy)]
 pub struct Access {
     pub mode: u32,
     pub kind: u32,
@@ -38,7 +38,7 @@ pub const NO_ENTRY: u32 = 8;
 
 // What the cache or the search finds of a page: whether there is a match, whether its matches contradict, the first match's second word, and the
 // numbers of its group and its entry.
-#[derive(Drop)]
+#[derive(Clone, Copy)]
 pub struct Found {
     pub any: bool,
     pub differs: bool,
@@ -63,7 +63,7 @@ impl Found {
 }
 
 // What a part of an operand answers, what decided it, and what was found of its page, whose entry is marked where the operand is done.
-#[derive(Drop)]
+#[derive(Clone, Copy)]
 pub struct Part {
     pub answer: translation::Answer,
     pub decision: translation::decision::Decision,
@@ -71,7 +71,7 @@ pub struct Part {
 }
 
 // What the steps before the search come to: the part, or the page that it wants.
-#[derive(Drop)]
+#[derive(Clone, Copy)]
 pub enum Begun {
     Told(Part),
     Wants(translation::Wanted),

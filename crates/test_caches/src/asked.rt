@@ -17,7 +17,7 @@ pub const PLACE_1: usize = 1872;
 pub const EMPTY: [u8; 2048] = [0; 2048];
 
 // Result, physical address or fault word, and the record of the rule that decided.
-#[derive(Drop)]
+#[derive(Clone, Copy)]
 pub struct Told {
     pub result: u32,
     pub word: u32,

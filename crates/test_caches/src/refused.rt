@@ -14,7 +14,7 @@ fn lent_cache() -> [u8; 2052] {
 }
 
 // The lengths that an access is lent: of the register page, the table, the cache and the answer.
-#[derive(Drop)]
+#[derive(Clone, Copy)]
 pub struct Sizes {
     pub page: isize,
     pub table: isize,

@@ -4,7 +4,7 @@ use test_report::lent::{INDEX, SDR1, VSID};
 use test_report::line;
 
 // What comes between an unmap or a protect and the next access with the cache.
-#[derive(Drop)]
+#[derive(Clone, Copy)]
 pub enum Between {
     Nothing,
     Invalidate(u32),

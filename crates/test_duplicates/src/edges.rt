@@ -4,7 +4,7 @@ use test_report::lent::{also, pages};
 use test_report::line;
 
 // The second words of a page's entry in its primary group and of the one in its secondary group.
-#[derive(Drop)]
+#[derive(Clone, Copy)]
 struct Duplicates {
     first: u32,
     other: u32,

@@ -3,7 +3,7 @@ use super::lent::{registers, table_with, table_with_next};
 use test_report::line;
 
 // Mode, kind, effective address and length.
-#[derive(Drop)]
+#[derive(Clone, Copy)]
 struct Asked {
     mode: u32,
     kind: u32,

@@ -74,7 +74,7 @@ pub fn short_check_of(page: [u8; 132]) -> u32 {
 }
 
 // Mode, kind and address of an access to one byte.
-#[derive(Drop)]
+#[derive(Clone, Copy)]
 pub struct Byte {
     pub mode: u32,
     pub kind: u32,

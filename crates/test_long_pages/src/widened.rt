@@ -6,7 +6,7 @@ use test_report::lent::{BAD_SDR1, SDR1, pages};
 use test_report::line;
 
 // Words of a set: SDR1, segment 15, the last instruction pair and the last data pair of a short page.
-#[derive(Drop)]
+#[derive(Clone, Copy)]
 pub struct Set {
     sdr1: u32,
     segment: u32,

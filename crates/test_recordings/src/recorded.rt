@@ -6,7 +6,7 @@ use super::text::{Base, number_at};
 use test_report::put;
 
 // The register page of a line, and where the line goes on.
-#[derive(Drop)]
+#[derive(Clone, Copy)]
 struct Registers {
     page: [u8; 132],
     next: usize,
@@ -27,7 +27,7 @@ fn registers_at(text: &[u8], at: usize) -> Registers
 }
 
 // An entry of a line: its group (PTEG), its number in the group, its two words before the access, and where the line goes on.
-#[derive(Drop)]
+#[derive(Clone, Copy)]
 struct Entry {
     group: usize,
     entry: usize,
@@ -91,7 +91,7 @@ fn put_entries_after(
 }
 
 // Whether an answer is as recorded, and where the line goes on.
-#[derive(Drop)]
+#[derive(Clone, Copy)]
 struct Compared {
     good: bool,
     next: usize,

@@ -1,14 +1,14 @@
 // Reads the numbers in a line of a recording file. The file tests/vectors/README.md says what its columns are.
 ghost use Rattle.std.specs.Prelude.{◌<◌, ◌≤◌, length};
 
-#[derive(Drop)]
+#[derive(Clone, Copy)]
 pub enum Base {
     Decimal,
     Hexadecimal,
 }
 
 // A number of a line, and where the line goes on.
-#[derive(Drop)]
+#[derive(Clone, Copy)]
 pub struct Number {
     pub value: u32,
     pub next: usize,

@@ -2,7 +2,7 @@
 use super::lent::{access_answer_is, record_is};
 
 // Mode, kind, effective address and length of an access.
-#[derive(Drop)]
+#[derive(Clone, Copy)]
 pub struct Asked {
     pub mode: u32,
     pub kind: u32,

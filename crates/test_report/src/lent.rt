@@ -25,7 +25,7 @@ pub const VSID: u32 = 0x0C701C;
 pub const INDEX: u32 = 0x0FFA;
 
 // What a table of a case has for that page.
-#[derive(Drop)]
+#[derive(Clone, Copy)]
 pub enum Scene {
     Empty,
     Mapped,
@@ -91,7 +91,7 @@ pub fn with_two(group: usize, entry: usize, first: u32, second: u32, other: Othe
 }
 
 // Another entry.
-#[derive(Drop)]
+#[derive(Clone, Copy)]
 pub struct Other {
     pub group: usize,
     pub entry: usize,

@@ -2,7 +2,7 @@
 use super::lent::{Scene, access_refused, kept, table_of};
 
 // The lengths that an access is lent: of the register page, the answer and the table.
-#[derive(Drop)]
+#[derive(Clone, Copy)]
 pub struct Lengths {
     pub page: isize,
     pub answer: isize,

@@ -10,7 +10,7 @@ pub const FIRST: u32 = 0x86380E03;
 pub const FIRST_SECONDARY: u32 = 0x86380E43;
 
 // What is told of one kind: result, physical address or fault word, attributes or offset, the record of the rule that decided, and the marks.
-#[derive(Drop)]
+#[derive(Clone, Copy)]
 pub struct Told {
     pub result: u32,
     pub word: u32,

@@ -3,7 +3,7 @@ ghost use Rattle.std.specs.Prelude.{◌≡◌};
 ghost use Rattle.translation.specs.Decision.{decided, by_entry, key_and_pp};
 
 // The number of the rule; the block's number in rule 1, key × 4 + PP in rules 5 and 6; the numbers of the group and the entry in rules 4 to 6.
-#[derive(Drop)]
+#[derive(Clone, Copy)]
 pub struct Decision {
     pub rule: u32,
     pub detail: u32,
@@ -12,7 +12,7 @@ pub struct Decision {
 }
 
 // What a search went by: the key of the segment, and the group and the number of the first match.
-#[derive(Drop)]
+#[derive(Clone, Copy)]
 pub struct Used {
     pub key: bool,
     pub group: u32,

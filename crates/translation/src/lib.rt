@@ -7,7 +7,7 @@ ghost use Rattle.protection.specs.Fault.{fault_of};
 ghost use Rattle.translation.specs.Steps.{wanted_of, done_answer, fault_answer, refused_answer};
 
 // What one access comes to.
-#[derive(Drop)]
+#[derive(Clone, Copy)]
 pub enum Outcome {
     // Done untranslated.
     Real,
@@ -26,7 +26,7 @@ pub enum Outcome {
 }
 
 // The page that a search looks for, and the key of its segment.
-#[derive(Drop)]
+#[derive(Clone, Copy)]
 pub struct Wanted {
     pub vsid: u32,
     pub index: u32,
@@ -34,14 +34,14 @@ pub struct Wanted {
 }
 
 // What the steps before the search come to.
-#[derive(Drop)]
+#[derive(Clone, Copy)]
 pub enum Early {
     Decided(Outcome),
     Search(Wanted),
 }
 
 // What the search found: no match, the second word of the first match, or matches that contradict.
-#[derive(Drop)]
+#[derive(Clone, Copy)]
 pub enum Searched {
     Nothing,
     At(u32),
@@ -49,7 +49,7 @@ pub enum Searched {
 }
 
 // The four words of an answer: result; physical address or fault word; attributes or interrupt offset; effective address.
-#[derive(Drop)]
+#[derive(Clone, Copy)]
 pub struct Answer {
     pub result: u32,
     pub address: u32,

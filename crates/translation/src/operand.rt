@@ -7,7 +7,7 @@ use crate::decision::Decision;
 
 // What an operand answers: the four words of the part that answers for all, and the rule that decided that part; the second part's physical address
 // and attributes, and the bytes in each page.
-#[derive(Drop)]
+#[derive(Clone, Copy)]
 pub struct OperandAnswer {
     pub part: Answer,
     pub decision: Decision,

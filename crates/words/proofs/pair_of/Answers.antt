@@ -3,10 +3,9 @@ use mathlib.Core.Path.{◌≡◌}
 use Prim.Native.Nat.{◌*◌, ◌%◌, ◌^◌}
 use native.Mathlib.Omega.{arith}
 use Rattle.words.proofs.Masks.{or_sum}
-use Rattle.words.proofs.pair_of.Statement.{statement}
-use Rattle.words.proofs.pair_of.Tie as tie
+use Rattle.words.proofs.pair_of.Goals as goal
 
-returns : tie.Need-returns
+pub returns : goal.returns
 returns c =
     let first = c.args.first in
     let second = c.args.second in
@@ -14,6 +13,3 @@ returns c =
     let low = c.ranges.second.fits in
     let whole : (first * 2 ^ 32) % 2 ^ 64 ≡ first * 2 ^ 32 = omega arith in
     rw (whole, or_sum 32 (first * 2 ^ 32) second (omega arith) (omega arith))
-
-pub pair-of-spec : {M : Type 1} → statement M
-pair-of-spec = tie.close (tie.spec returns)

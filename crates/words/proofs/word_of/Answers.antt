@@ -3,10 +3,9 @@ use mathlib.Core.Path.{◌≡◌}
 use Prim.Native.Nat.{◌+◌, ◌*◌, ◌^◌, ◌%◌}
 use native.Mathlib.Omega.{arith}
 use Rattle.words.proofs.Masks.{or_sum}
-use Rattle.words.proofs.word_of.Statement.{statement}
-use Rattle.words.proofs.word_of.Tie as tie
+use Rattle.words.proofs.word_of.Goals as goal
 
-returns : tie.Need-returns
+pub returns : goal.returns
 returns c =
     let a = c.args.a in
     let b = c.args.b in
@@ -22,6 +21,3 @@ returns c =
       or_sum 16 (a * 2 ^ 24 + b * 2 ^ 16) (m * 2 ^ 8) (omega arith) (omega arith),
       or_sum 8 (a * 2 ^ 24 + b * 2 ^ 16 + m * 2 ^ 8) c.args.d (omega arith) (omega arith),
     )
-
-pub word-of-spec : {M : Type 1} → statement M
-word-of-spec = tie.close (tie.spec returns)

@@ -1,4 +1,6 @@
 // What a fetch, a load and a store of one byte would come to on a lent table, which is only read.
+#![tactic(auto)]
+
 ghost use Rattle.std.specs.Prelude.{◌≡◌, true, cond, List, ℕ, ◌-◌, ltb, length};
 ghost use Rattle.numbers.specs.Numbers.{group_entries};
 ghost use Rattle.entry.specs.Entry.{with_marks};

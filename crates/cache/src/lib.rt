@@ -1,4 +1,6 @@
 // A cache of translations: the test of a hit, the load of a page, and a set zeroed.
+#![tactic(auto)]
+
 ghost use Rattle.std.specs.Prelude.{◌≡◌, Bool, cond, ◌+◌, ◌*◌, ◌<◌, ◌≤◌, ◌^◌, length};
 ghost use Rattle.std.proofs.Math.Option.{none, some};
 ghost use Rattle.cache.specs.Cache.{cache_size, set_of, place_at, holds, hit, load_place, put_place, loaded, set_zeroed};

@@ -1,4 +1,6 @@
 // A page table entry: its two words packed and unpacked, the match test, the marks R and C, PP, and the physical address that it gives.
+#![tactic(auto)]
+
 ghost use Rattle.std.specs.Prelude.{◌≡◌, cond, ℕ, ◌<◌, ◌^◌, eqb};
 ghost use Rattle.words.specs.Words.{swapped};
 ghost use Rattle.words.specs.Bits.{bits};

@@ -1,4 +1,6 @@
 // Hash, groups and entries in groups: a page's two groups, the free entry, the entry writer, and the clear of a table.
+#![tactic(auto)]
+
 ghost use Rattle.std.specs.Prelude.{◌≡◌, true, cond, ℕ, ◌+◌, ◌-◌, ◌*◌, ◌<◌, ◌≤◌, ◌^◌, List, length, replicate};
 ghost use Rattle.numbers.specs.Numbers.{group_size, group_entries};
 ghost use Rattle.register_words.specs.Sdr1.{sdr1_shape, hash_bits};

@@ -1,4 +1,6 @@
 // Edits of every match of a page: eight zero bytes, or another PP.
+#![tactic(auto)]
+
 ghost use Rattle.std.specs.Prelude.{◌≡◌, Bool, false, ℕ, ◌+◌, ◌*◌, ◌<◌, ◌≤◌, length};
 ghost use Rattle.numbers.specs.Numbers.{group_size, group_entries};
 ghost use Rattle.groups.specs.Group.{group_of, second_of};

@@ -1,4 +1,6 @@
 // The one search of a group of a page: its first match, whether a further one disagrees, and which entries have V = 0.
+#![tactic(auto)]
+
 ghost use Rattle.std.specs.Prelude.{◌≡◌, Bool, false, List, [], ◌∷◌, ◌++◌, ℕ, ◌+◌, ◌*◌, ◌%◌, ◌<◌, ◌≤◌, ◌^◌, length};
 ghost use Rattle.numbers.specs.Numbers.{group_size, group_entries};
 ghost use Rattle.theory_tables.specs.Matches.{Match};

@@ -1,5 +1,7 @@
 // The thirteen exported calls. Each contract gives the result number and every lent byte, for all inputs, by a definition of `theory_calls`,
 // `theory_cache` or `access_rights`.
+#![tactic(auto)]
+
 mod access;
 mod cached;
 mod pages;

@@ -1,4 +1,5 @@
 // The numbers that calls hand back and the lengths of what they are lent, under the names that include/mmu.h has for them.
+#![tactic(auto)]
 
 // The call did what it was asked.
 pub const DONE: u32 = 0;

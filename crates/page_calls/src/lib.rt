@@ -1,4 +1,6 @@
 // The work of the page calls on a lent table: which refusal the arguments give, and map, unmap, protect and look in the page's two groups.
+#![tactic(auto)]
+
 ghost use Rattle.std.specs.Prelude.{◌≡◌, not, [], ◌∷◌, ℕ, ◌<◌, ◌^◌, length};
 ghost use Rattle.numbers.specs.Numbers.{refused_argument};
 ghost use Rattle.registers.specs.Rules.{first_broken};
@@ -19,7 +21,7 @@ pub struct WordAnswer {
 
 // The answer where there is no word to tell: the number and a zero word.
 fn refused(res: u32) -> WordAnswer
-    ensures* { λ r. ⌜ r ≡ record { result = res; word = 0 } ⌝ }
+    ensures { result ≡ record { result = res; word = 0 } }
 {
     WordAnswer {
         result: res,
@@ -59,10 +61,10 @@ pub fn page_refusal(fits: bool, sdr1: u32, lent: usize) -> u32
 
 // What unmap and look answer where the arguments refuse them: the number and a zero word; done where they do not.
 pub fn word_refusal(sdr1: u32, vsid: u32, index: u32, lent: usize) -> WordAnswer
-    ensures* { λ r. ⌜ r ≡ record {
+    ensures { result ≡ record {
       result = first_broken ((not (page_in_range (record { vsid = vsid; index = index })), refused_argument) ∷ table_rules sdr1 lent);
       word = 0;
-    } ⌝ }
+    } }
 {
     refused(page_refusal(page_in_range(vsid, index), sdr1, lent))
 }

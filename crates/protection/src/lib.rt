@@ -1,4 +1,6 @@
 // The right to an access and its faults: mode and kind, the key, protection by PP, and fault words.
+#![tactic(auto)]
+
 ghost use Rattle.std.specs.Prelude.{◌≡◌};
 ghost use Rattle.register_words.specs.Segment.{key_of};
 ghost use Rattle.protection.specs.Access.{user_mode, fetching, storing, relocated, side_of};
@@ -100,7 +102,7 @@ pub fn block_allows(pp: u32, kind: u32) -> bool
 
 // A fault by its three words.
 fn fault_with(res: u32, word: u32, offset: u32) -> Fault
-    ensures* { λ r. ⌜ r ≡ record { result = res; word = word; offset = offset } ⌝ }
+    ensures { result ≡ record { result = res; word = word; offset = offset } }
 {
     Fault {
         result: res,

@@ -1,4 +1,6 @@
 // A register page's bytes: the check of all its words, a word replaced, the pair that covers an address, and the words that an access reads.
+#![tactic(auto)]
+
 ghost use Rattle.std.specs.Prelude.{◌≡◌, true, false, ◌++◌, ◌+◌, ◌-◌, ◌*◌, ◌/◌, ◌%◌, ◌≤◌, ◌<◌, length, take, drop};
 ghost use Rattle.register_words.specs.Block.{bl_width};
 ghost use Rattle.registers.specs.Set.{is_page, is_long, block_pairs, sdr1_of, segment_of, segments_shape, upper_of, lower_of, check_words, covering_pair, register_words, set_words};

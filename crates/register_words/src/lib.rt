@@ -1,4 +1,6 @@
 // One register word: SDR1, a segment register, and a block pair's upper and lower word; their shapes and what a block covers.
+#![tactic(auto)]
+
 ghost use Rattle.std.specs.Prelude.{◌≡◌, ◌+◌, ◌-◌, ◌*◌, ◌/◌, ◌%◌, ◌^◌, Bool, true, false, ◌==◌, bit_and};
 ghost use Rattle.register_words.specs.Sdr1.{sdr1_shape, table_length, hash_bits};
 ghost use Rattle.register_words.specs.Asked.{pair_ones, bl_place, side_sum, zero_bits, last_of};

@@ -1,4 +1,6 @@
 // The register page: its lengths and how many words it has.
+#![tactic(auto)]
+
 ghost use Rattle.std.specs.Prelude.{◌≡◌};
 ghost use Rattle.registers.specs.Set.{is_page, register_count};
 

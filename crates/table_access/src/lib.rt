@@ -1,5 +1,7 @@
 // One access on a lent table, with a cache of translations or without one: the rules of its arguments in order, the parts of its operand, each by the
 // steps, the marks, the loads and the answer.
+#![tactic(auto)]
+
 ghost use Rattle.std.specs.Prelude.{◌≡◌, Bool, true, false, not, ◌&&◌, List, [], ◌∷◌, ◌++◌, ℕ, ◌+◌, ◌*◌, ◌<◌, ◌≤◌, eqb, ltb, length};
 ghost use Rattle.numbers.specs.Numbers.{refused_table_length, refused_argument, refused_operand_length, access_answer_size};
 ghost use Rattle.registers.specs.Rules.{first_broken};

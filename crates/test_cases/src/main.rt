@@ -1,5 +1,7 @@
 // The twelve cases (rules 9), run on the exported calls: a line a case, its number and `ok` or `bad`. An access is to one byte.
 // The table of SDR1 0F980000 has 65,536 bytes, and so has that of SDR1 0.
+#![tactic(auto)]
+
 ghost use Rattle.std.specs.Prelude.{◌+◌, ◌^◌, ◌≤◌, ◌<◌};
 
 use libc::STDOUT_FILENO;

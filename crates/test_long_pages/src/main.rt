@@ -1,5 +1,7 @@
 // Runs the cases of register pages of 132 and of 196 bytes without input: a line a case in order, its number, a space, `ok` or `bad`. The file
 // docs/CASES.md says what each number is and where its expected answer comes from.
+#![tactic(auto)]
+
 mod accesses;
 mod asked;
 mod lengths;

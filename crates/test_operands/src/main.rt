@@ -1,5 +1,7 @@
 // Runs the cases of an operand's length and of operands over a page edge, without input: a line a case in order, its number, a space, `ok` or
 // `bad`. The file docs/CASES.md says what each number is and where its expected answer comes from.
+#![tactic(auto)]
+
 mod asked;
 mod blocks;
 mod lengths;

@@ -1,5 +1,7 @@
 // Runs accesses that an emulator of others performed, without input: a line a case in order, its number, a space, `ok` or `bad`.
 // The file docs/CASES.md says what each number is.
+#![tactic(auto)]
+
 mod emulated_750;
 mod emulated_970;
 mod recorded;

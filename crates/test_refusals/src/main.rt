@@ -1,5 +1,7 @@
 // Runs the cases of refusals, of each order of two, and of the readings that tempt, without input: a line a case in order, its number, a
 // space, `ok` or `bad`. The file docs/CASES.md says what each number is and where its expected answer comes from.
+#![tactic(auto)]
+
 mod access_refusals;
 mod page_refusals;
 mod readings;

@@ -1,5 +1,7 @@
 // What the programs of cases share: the line of a case, an entry in a lent table, what the cases lend (`lent`), what they ask of an access
 // (`asked`) and of a page call (`called`), and a refused access (`refused`).
+#![tactic(auto)]
+
 pub mod asked;
 pub mod called;
 pub mod lent;

@@ -1,5 +1,7 @@
 // Runs the cases of what a fetch, a load and a store would come to, without input: a line a case in order, its number, a space, `ok` or `bad`. The
 // file docs/CASES.md says what each number is and where its expected answer comes from.
+#![tactic(auto)]
+
 mod asked;
 mod blocks;
 mod pages;

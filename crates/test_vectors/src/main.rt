@@ -1,5 +1,7 @@
 // Runs the cases of the manual and of packing, without input: a line a case in order, its number, a space, `ok` or `bad`.
 // The file docs/CASES.md says what each number is and where its expected answer comes from.
+#![tactic(auto)]
+
 mod blocks;
 mod manual;
 mod packing;

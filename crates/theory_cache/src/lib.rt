@@ -1,1 +1,2 @@
 // Accesses with a cache: definitions, statements and proofs only.
+#![tactic(auto)]

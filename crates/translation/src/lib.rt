@@ -1,4 +1,6 @@
 // One access without a table's bytes: the page that it wants, the answers, the rule that decided it, and the parts of an operand.
+#![tactic(auto)]
+
 pub mod decision;
 pub mod operand;
 

@@ -1,4 +1,6 @@
 // Words of 32 bits: reading and writing them in bytes, and the test for ones at the low end of a field.
+#![tactic(auto)]
+
 ghost use Rattle.std.specs.Prelude.{◌≡◌, ℕ, ◌+◌, ◌-◌, ◌*◌, ◌^◌, ◌≤◌, ◌<◌, eqb, length};
 ghost use Rattle.std.specs.Float.Ieee.{size};
 ghost use Rattle.words.specs.Ones.{low_ones};

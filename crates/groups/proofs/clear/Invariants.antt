@@ -1,0 +1,15 @@
+-- `groups::clear` meets its contract. The loop's invariant: the first i bytes are zero, and the rest is as it was.
+use Prim.Native.Nat.{ℕ, ◌-◌, ◌≤◌}
+use mathlib.Core.Path.{◌≡◌, refl, ap, ◌∙◌}
+use mathlib.Core.List.{List, ◌++◌, append-nil}
+use native.Mathlib.Omega.{arith}
+use lib.ListN.{length, replicate, drop, set, length-set}
+use lib.Seq.{drop-length}
+use borrow.Author.Fill.{fill_more}
+use Rattle.groups.proofs.clear.Given as goal
+
+abbrev pub invariant-loop-i : goal.invariant-loop-i
+invariant-loop-i l = (l.i ≤ length l.initial.table) × (length l.table ≡ length l.initial.table) × (l.table ≡ replicate l.i 0 ++ drop l.i l.initial.table)
+
+abbrev pub decreases-loop-i : goal.decreases-loop-i
+decreases-loop-i l = length l.initial.table - l.i

@@ -1,0 +1,14 @@
+-- `register_pages::segment` meets its contract: the word at that byte is the set's.
+use borrow.Author.Rules.{rules}
+use mathlib.Core.Path.{sym, ◌∙◌}
+use native.Mathlib.Omega.{arith}
+use lib.ListN.{length}
+use Rattle.register_pages.proofs.Page.{page_least, segment_at_law}
+use Rattle.register_pages.proofs.segment.Goals as goal
+
+pub read_word-requires : goal.read_word-requires
+read_word-requires c = omega (arith, page_least (length c.args.page.now) c.requires.0)
+
+pub returns : goal.returns
+returns c =
+    c.read_word.ensures ∙ sym (segment_at_law c.args.page.now c.args.i c.requires.1)

@@ -1,0 +1,92 @@
+-- `register_pages::segments_good` meets its contract. The invariant: the mask leaves nothing of the number exactly where each segment register that was
+-- passed has its shape; read from the low end, the first byte of each word is the lowest of its half.
+use borrow.Author.Rules.{rules}
+use mathlib.Core.Path.{◌≡◌, refl, sym, ap, ap₂, ◌∙◌}
+use mathlib.Core.Bool.{Bool, ◌&&◌, and_comm, and_assoc}
+use mathlib.Core.List.{List}
+use Prim.Native.Nat.{ℕ, ◌+◌, ◌-◌, ◌*◌, ◌/◌, ◌%◌, ◌^◌, ◌≤◌, ◌<◌}
+use native.Mathlib.Nat.{div-one}
+use native.Mathlib.Omega.{arith}
+use lib.Bits.{bit_and, bit_or, and_mask, and_shr, and_mod}
+use lib.Dec.{eqb}
+use lib.ListN.{length}
+use lib.Pow.{split, field, shr-shr, mod-mod-pow}
+use Rattle.words.specs.Below.{every_below}
+use Rattle.words.specs.Bits.{bits}
+use Rattle.words.specs.Words.{word_at, swapped}
+use Rattle.words.proofs.Below.{every_next, every_same}
+use Rattle.words.proofs.Tests.{both_zero}
+use Rattle.words.proofs.Words.{turned_0}
+use Rattle.words.proofs.Zero.{or_leaves, parts_leave}
+use Rattle.register_words.specs.Segment.{segment_shape}
+use Rattle.registers.specs.Set.{segments_shape}
+use Rattle.register_pages.proofs.Page.{page_least, own_segment}
+use Rattle.register_pages.proofs.segments_good.Goals as goal
+
+-- segment register i has its shape
+abbrev good : List ℕ → ℕ → Bool
+good page i = segment_shape (word_at page (4 + 4 * i))
+
+pub loop-at-init : goal.loop-at-init
+unfolding every_below
+loop-at-init c = (omega arith, omega arith, refl, refl)
+
+pub raw_pair-any-requires : goal.raw_pair-any-requires
+raw_pair-any-requires c = omega (arith, page_least (length c.args.page.now) c.requires)
+
+swapped-lt : (w : ℕ) → swapped w < 2 ^ 32
+unfolding swapped
+swapped-lt w = omega arith
+
+-- T and bits 4 to 7 by one mask
+first_byte : (w : ℕ) → eqb (bit_and (swapped w) 0x8F) 0 ≡ segment_shape w
+unfolding segment_shape
+first_byte w =
+    let v = swapped w in
+    let masked : bit_and v 0x8F ≡ v / 2 ^ 7 % 2 ^ 1 * 2 ^ 7 + v % 2 ^ 4 =
+    sym (split (bit_and v 0x8F) 7)
+    ∙ ap₂ (λ (p q : ℕ). p * 2 ^ 7 + q) (and_shr v 0x8F 7 ∙ and_mask (v / 2 ^ 7) 1) (and_mod v 0x8F 7 ∙ and_mask (v % 2 ^ 7) 4 ∙ mod-mod-pow v 3 4) in
+    let byte : v % 2 ^ 8 ≡ bits 0 7 w = ap (λ (n : ℕ). n % 2 ^ 8) (sym (div-one v)) ∙ turned_0 w in
+    let top : v / 2 ^ 7 % 2 ^ 1 ≡ bits 0 0 w = sym (field v 1 7) ∙ ap (λ (n : ℕ). n / 2 ^ 7) byte ∙ field (w / 2 ^ 24) 1 7 ∙ ap (λ (n : ℕ). n % 2 ^ 1) (shr-shr w 24 7) in
+    let zeros : v % 2 ^ 4 ≡ bits 4 7 w = sym (mod-mod-pow v 4 4) ∙ ap (λ (n : ℕ). n % 2 ^ 4) byte ∙ mod-mod-pow (w / 2 ^ 24) 4 4 in
+    both_zero (bit_and v 0x8F) (bits 0 0 w) (bits 4 7 w) (λ e. (omega arith, omega arith)) (λ p q. omega arith)
+
+-- two words at a time
+two-words : (first second : ℕ) → eqb (bit_and (swapped second * 2 ^ 32 + swapped first) 0x8F0000008F) 0 ≡ (segment_shape first && segment_shape second)
+two-words first second =
+    let raw = swapped second * 2 ^ 32 + swapped first in
+    let l = swapped-lt first in
+    let high : raw / 2 ^ 32 ≡ swapped second = omega arith in
+    let low : raw % 2 ^ 32 ≡ swapped first = omega arith in
+    parts_leave 32 raw 0x8F0000008F
+    ∙ ap₂ (λ (p q : ℕ). eqb (bit_and p 0x8F) 0 && eqb (bit_and q 0x8F) 0) high low
+    ∙ ap₂ ◌&&◌ (first_byte second) (first_byte first)
+    ∙ and_comm (segment_shape second) (segment_shape first)
+
+more : (page : List ℕ) (any raw at : ℕ) → 4 ≤ at → (at - 4) % 8 ≡ 0 → eqb (bit_and any 0x8F0000008F) 0 ≡ every_below ((at - 4) / 4) (good page)
+    → raw ≡ swapped (word_at page (at + 4)) * 2 ^ 32 + swapped (word_at page at)
+    → eqb (bit_and (bit_or any raw) 0x8F0000008F) 0 ≡ every_below ((at + 8 - 4) / 4) (good page)
+more page any raw at least whole before is =
+    let n = (at - 4) / 4 in
+    let here : 4 + 4 * n ≡ at = omega arith in
+    let there : 4 + 4 * (n + 1) ≡ at + 4 = omega arith in
+    let next : (at + 8 - 4) / 4 ≡ n + 1 + 1 = omega arith in
+    or_leaves any raw 0x8F0000008F
+    ∙ ap₂ ◌&&◌ before (ap (λ (r : ℕ). eqb (bit_and r 0x8F0000008F) 0) is ∙ two-words (word_at page at) (word_at page (at + 4)))
+    ∙ ap₂ (λ (p q : ℕ). every_below n (good page) && (segment_shape (word_at page p) && segment_shape (word_at page q))) (sym here) (sym there)
+    ∙ sym (and_assoc (every_below n (good page)) (good page n) (good page (n + 1)))
+    ∙ sym (ap (λ (k : ℕ). every_below k (good page)) next ∙ every_next (good page) (n + 1) ∙ ap (λ (t : Bool). t && good page (n + 1)) (every_next (good page) n))
+
+pub loop-at-preserved : goal.loop-at-preserved
+loop-at-preserved c =
+    let l = c.loop-at in
+    let (least, most, whole, before) = l.invariant in
+    (omega arith, omega (arith, c.loop-at-test.true), omega arith, more _ l.any c.raw_pair-any.result l.at least whole before c.raw_pair-any.ensures)
+
+pub returns : goal.returns
+unfolding segments_shape
+returns c =
+    let l = c.loop-at in
+    let page = c.args.page.now in
+    let end : (l.at - 4) / 4 ≡ 16 = let (least, most, whole, all) = l.invariant in omega (arith, c.loop-at-test.false) in
+    l.invariant.3 ∙ ap (λ (n : ℕ). every_below n (good page)) end ∙ every_same _ _ 16 (λ i h. ap segment_shape (sym (own_segment page i h)))

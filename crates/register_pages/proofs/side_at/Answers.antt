@@ -1,0 +1,15 @@
+-- `register_pages::side_at` meets its contract: a page's data pairs begin at half of its length and 34 bytes, by either length.
+use borrow.Author.Rules.{rules}
+use mathlib.Core.Path.{◌≡◌, refl}
+use mathlib.Core.Bool.{Bool, true}
+use Prim.Native.Nat.{ℕ, ◌+◌, ◌/◌}
+use Rattle.register_pages.specs.Side.{side_byte}
+use Rattle.register_pages.proofs.Page.{PageSize, short_size, long_size, page_size_law}
+use Rattle.register_pages.proofs.side_at.Goals as goal
+
+data-byte : {size : ℕ} {long : Bool} → PageSize size long → size / 2 + 34 ≡ side_byte long true
+data-byte short_size = refl
+data-byte long_size = refl
+
+pub returns-then-side : goal.returns-then-side
+returns-then-side c = rw c.if-side.true (data-byte (page_size_law c.args.size c.requires))

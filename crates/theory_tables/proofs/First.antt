@@ -9,7 +9,7 @@ use native.Mathlib.Omega.{arith}
 use Rattle.words.proofs.Tests.{three}
 use Rattle.theory_placement.specs.Lists.{one_if}
 use Rattle.theory_tables.specs.Matches.{Match, match_at, matches_below}
-use Rattle.theory_tables.specs.Layout.{Layout, free_at, used, matches_in, matches_of}
+use Rattle.theory_tables.specs.Layout.{Layout, free_at, matches_in, matches_of}
 use Rattle.theory_tables.proofs.Matches.{entry_at, members_match, none_matches}
 use Rattle.theory_tables.proofs.Groups.{members_in, none_matches_in}
 use Rattle.theory_tables.proofs.Places.{FirstFree, free_unused}

@@ -1,7 +1,6 @@
 -- `entry::match_word` meets its contract: the packed word is handed on.
 use mathlib.Core.Path.{ap, ◌∙◌}
 use Rattle.words.specs.Words.{swapped}
-use borrow.Author.Rules.{rules}
 use Rattle.entry.proofs.match_word.Goals as goal
 
 pub returns : goal.returns

@@ -1,5 +1,4 @@
 -- `entry::pack` meets its contract. Where the test passed, each field is within its width, as the two words ask.
-use borrow.Author.Rules.{rules}
 use mathlib.Core.Path.{sym, ◌∙◌}
 use native.Mathlib.Omega.{arith}
 use Rattle.entry.specs.Entry.{packed}

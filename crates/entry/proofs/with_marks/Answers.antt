@@ -1,5 +1,4 @@
 -- `entry::with_marks` meets its contract: each mark is or-ed in as a one in its place, or as a zero, which changes nothing.
-use borrow.Author.Rules.{rules}
 use mathlib.Core.Bool.{Bool, true, false}
 use mathlib.Core.Path.{◌≡◌}
 use Prim.Native.Nat.{ℕ, ◌*◌, ◌%◌, ◌^◌}

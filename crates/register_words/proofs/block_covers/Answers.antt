@@ -4,6 +4,7 @@ use lib.Bits.{bit_and, and_high}
 use Rattle.words.proofs.Without.{two, digit_lt}
 use Rattle.register_words.specs.Block.{covers, valid_for}
 use Rattle.register_words.proofs.block_covers.Goals as goal
+use Rattle.register_words.proofs.block_covers.Goals.{then-user, else-user}
 
 -- a bit that a mask of one bit leaves
 bit_set : (k u : ℕ) → not (eqb (bit_and u (2 ^ (1 + k) - 2 ^ k)) 0) ≡ eqb (u / 2 ^ k % 2) 1
@@ -16,7 +17,7 @@ pub returns : goal.returns
 unfolding covers valid_for
 returns c =
     let u = c.args.upper in
-    ⊎_elim
-    (λ w. rw (w.1, w.0.true, c.in_block.ensures, bit_set 0 u, div-one u))
-    (λ w. rw (w.1, w.0.left, c.in_block.ensures, bit_set 1 u))
-    c.if-user.branch
+    elim c.if-user.branch [
+      then-user w ↦ rw (w.valid-is, w.if-user.true, c.in_block.ensures, bit_set 0 u, div-one u)
+    | else-user w ↦ rw (w.valid-is, w.if-user.false, c.in_block.ensures, bit_set 1 u)
+    ]

@@ -9,4 +9,4 @@ highest-requires c = field_some c.args.pair
 pub returns : goal.returns
 returns c =
     let (is, within) = c.highest.ensures in
-    ones_are c.args.pair c.highest.result is within c.wrapping_sub_u64.result c.wrapping_sub_u64.type-inv c.wrapping_sub_u64.ensures
+    ones_are c.args.pair c.highest.result is within c.wrapping_sub_u64.result c.wrapping_sub_u64.type_inv c.wrapping_sub_u64.ensures.value

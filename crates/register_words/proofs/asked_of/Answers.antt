@@ -1,5 +1,5 @@
 -- `register_words::asked_of` meets its contract: what the ones leave of the pair is what the laws of Shape speak of, for either page and side.
-use Rattle.std.proofs.Common.{◌≡◌, ℕ, ◌+◌, ◌%◌, ◌^◌, Bool, true, false, refl, ap, ◌∙◌, ap₂, rules}
+use Rattle.std.proofs.Common.{◌≡◌, ℕ, ◌+◌, ◌%◌, ◌^◌, Bool, true, false, refl, ap, ◌∙◌, ap₂}
 use lib.Bits.{bit_and, bit_xor}
 use Rattle.register_words.specs.Asked.{bl_place, side_sum}
 use Rattle.register_words.specs.Block.{bl_width}

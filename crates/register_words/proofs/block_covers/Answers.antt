@@ -1,5 +1,5 @@
 -- `register_words::block_covers` meets its contract: the V bit is picked by the privilege, and the address test is that of `in_block`.
-use Rattle.std.proofs.Common.{◌≡◌, ℕ, ◌+◌, ◌-◌, ◌*◌, ◌/◌, ◌%◌, ◌^◌, false, not, eqb, ap, ◌∙◌, ⊎_elim, one-mul, zero-mul, div-one, arith, pow_pos, rules, ne_eqb}
+use Rattle.std.proofs.Common.{◌≡◌, ℕ, ◌+◌, ◌-◌, ◌*◌, ◌/◌, ◌%◌, ◌^◌, false, not, eqb, ap, ◌∙◌, one-mul, zero-mul, div-one, arith, pow_pos, ne_eqb}
 use lib.Bits.{bit_and, and_high}
 use Rattle.words.proofs.Without.{two, digit_lt}
 use Rattle.register_words.specs.Block.{covers, valid_for}
@@ -18,6 +18,6 @@ unfolding covers valid_for
 returns c =
     let u = c.args.upper in
     elim c.if-user.branch [
-      then-user w ↦ rw (w.valid-is, w.if-user.true, c.in_block.ensures, bit_set 0 u, div-one u)
-    | else-user w ↦ rw (w.valid-is, w.if-user.false, c.in_block.ensures, bit_set 1 u)
+      | then-user w ↦ rw (w.valid-is, w.if-user.true, c.in_block.ensures, bit_set 0 u, div-one u)
+      | else-user w ↦ rw (w.valid-is, w.if-user.false, c.in_block.ensures, bit_set 1 u)
     ]

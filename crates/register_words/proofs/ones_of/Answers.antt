@@ -1,5 +1,4 @@
 -- `register_words::ones_of` meets its contract: the place of the highest one of BL, with a one below it, is where the ones end.
-use Rattle.std.proofs.Common.{rules}
 use Rattle.register_words.proofs.Asked.{field_some, ones_are}
 use Rattle.register_words.proofs.ones_of.Goals as goal
 

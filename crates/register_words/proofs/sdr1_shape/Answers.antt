@@ -1,5 +1,5 @@
 -- `register_words::sdr1_shape` meets its contract: the low half of SDR1 is below 2 ^ 9 exactly where bits 16 to 22 are zero, and then it is the mask.
-use Rattle.std.proofs.Common.{◌≡◌, ℕ, ◌%◌, ◌^◌, Bool, true, false, ◌&&◌, eqb, ltb, sym, refl, ◌∙◌, arith, rules, ltb-false, ltb-true, eq-eqb, ne_eqb}
+use Rattle.std.proofs.Common.{◌≡◌, ℕ, ◌%◌, ◌^◌, Bool, true, false, ◌&&◌, eqb, ltb, sym, refl, ◌∙◌, arith, ltb-false, ltb-true, eq-eqb, ne_eqb}
 use mathlib.Core.Bool.{and_comm}
 use lib.Bits.{bit_and, and_mask, and_zero_r}
 use lib.Pow.{shr_mod}

@@ -18,9 +18,10 @@ use Rattle.table_access.specs.declared.Found.{Found}
 use Rattle.table_access.proofs.Parts.{begun_told, begun_wants, part_searched}
 use Rattle.access_rights.specs.declared.Standing.{Standing}
 use Rattle.access_rights.proofs.part_at.Goals as goal
+use Rattle.access_rights.proofs.part_at.Goals.{Joined-is_fetch, Start}
 
 -- what the steps before the search come to
-abbrev early : goal.Start → Early
+abbrev early : Start → Early
 early c = before_search 8 15 (set_words c.args.registers.now) c.args.mode c.args.kind c.args.address
 
 pub returns-then-not-is_relocated : goal.returns-then-not-is_relocated
@@ -31,18 +32,14 @@ returns-then-not-is_relocated c k t is =
     ∙ sym (ap (part_by a.kind a.address (table_found k t))
     (before_real 8 15 (set_words a.registers.now) a.mode a.kind a.address (sym c.is_relocated.ensures ∙ not-true _ c.if-not-is_relocated.true)))
 
-abbrev begin : goal.Joined-is_fetch → goal.Start
-begin c = c
-
 -- the pair is that of the kind's side
-pair_is : (c : goal.Joined-is_fetch) →
-    let a = (begin c).args in
+pair_is : (c : Joined-is_fetch) →
+    let a = c.args in
     c.if-is_fetch.pair ≡ covering_pair 8 15 (set_words a.registers.now) (side_of a.kind) (user_mode a.mode) a.address
 unfolding side_of
 pair_is c =
-    let start = begin c in
-    let a = start.args in
-    let is = start.requires.1.1.1 in
+    let a = c.args in
+    let is = c.requires.1.1.1 in
     let fetch = c.is_fetch.ensures in
     let pair : Bool → ℕ = λ f. covering_pair 8 15 (set_words a.registers.now) (not f) (user_mode a.mode) a.address in
     ⊎_elim (λ w. w.1 ∙ ap (λ (s : Standing). s.ibat) is ∙ ap pair (sym (sym fetch ∙ w.0.true)))
@@ -50,21 +47,18 @@ pair_is c =
 
 pub before_search-requires : goal.before_search-requires
 before_search-requires c =
-    let start = begin c in
-    (start.requires.0, sym c.is_relocated.ensures ∙ not-false _ c.if-not-is_relocated.false, pair_is c)
+    (c.requires.0, sym c.is_relocated.ensures ∙ not-false _ c.if-not-is_relocated.false, pair_is (goal.at.before_search-requires c).Joined-is_fetch)
 
 pub returns-in-Told : goal.returns-in-Told
 returns-in-Told c k t is =
-    let start = begin c in
-    let a = start.args in
-    begun_told a.kind a.address (table_found k t) (early start) c.part-1.given.0.0 (sym c.before_search.ensures ∙ c.part-1.given.1)
+    let a = c.args in
+    begun_told a.kind a.address (table_found k t) (early (goal.at.returns-in-Told c).Start) c.part-1.given.0.0 (sym c.before_search.ensures ∙ c.part-1.given.1)
 
 pub returns-in-Wants : goal.returns-in-Wants
 returns-in-Wants c k t is =
-    let start = begin c in
-    let a = start.args in
+    let a = c.args in
     let wanted = c.wanted-1.given.0.0 in
-    let e = begun_wants a.kind a.address (early start) wanted (sym c.before_search.ensures ∙ c.wanted-1.given.1) in
+    let e = begun_wants a.kind a.address (early (goal.at.returns-in-Wants c).Start) wanted (sym c.before_search.ensures ∙ c.wanted-1.given.1) in
     let wants = (searches 8 15 (set_words a.registers.now) a.mode a.kind a.address wanted e).wants in
     c.after_search.ensures
     ∙ ap (by_found a.kind a.address wanted.key) (ap (λ (s : Standing). s.found) is ∙ ap (table_found k t) (sym wants))

@@ -12,19 +12,20 @@ use Rattle.access_rights.specs.Held.{StandsIn}
 use Rattle.access_rights.proofs.ByTable.{ByTable, by_table}
 use Rattle.access_rights.proofs.Shared.{stopped_tells, done_tells}
 use Rattle.access_rights.proofs.right_of.Goals as goal
+use Rattle.access_rights.proofs.right_of.Goals.{After-part_at-part, Start}
 
 -- what is asked
-abbrev call : goal.Start → RightsCall
+abbrev call : Start → RightsCall
 call c = record { registers = c.args.registers.now; mode = c.args.mode; address = c.args.address }
 
-abbrev ones : goal.Start → ℕ
+abbrev ones : Start → ℕ
 ones c = mask_ones (sdr1_of (set_words c.args.registers.now))
 
 pub part_at-part-requires : goal.part_at-part-requires
-part_at-part-requires c = let (t, stands) = c.requires.1 in (c.requires.0, (ones c, (t, stands.1)))
+part_at-part-requires c = let (t, stands) = c.requires.1 in (c.requires.0, (ones (goal.at.part_at-part-requires c).Start, (t, stands.1)))
 
 -- the part is that of the table
-own : (c : goal.After-part_at-part) (t : List ℕ) →
+own : (c : After-part_at-part) (t : List ℕ) →
     let a = c.args in
     StandsIn (call c) t a.at
     → ByTable (ones c) t a.kind a.address (before_search 8 15 (set_words a.registers.now) a.mode a.kind a.address) c.part_at-part.result
@@ -35,9 +36,9 @@ own c t stands =
 
 pub returns-then-answer-ne-DONE : goal.returns-then-answer-ne-DONE
 returns-then-answer-ne-DONE c t stands kept =
-    stopped_tells (call c) c.requires.0 c.args.kind t kept stands.0 c.part_at-part.result (own c t stands) c.if-answer-ne-DONE.true _ c.stopped.ensures refl
+    stopped_tells (call (goal.at.returns-then-answer-ne-DONE c).Start) c.requires.0 c.args.kind t kept stands.0 c.part_at-part.result (own (goal.at.returns-then-answer-ne-DONE c).After-part_at-part t stands) c.if-answer-ne-DONE.true _ c.stopped.ensures refl
 
 pub returns : goal.returns
 returns c t stands kept =
-    done_tells (call c) c.requires.0 c.args.kind t kept stands.0 c.part_at-part.result (own c t stands) c.if-answer-ne-DONE.false _
+    done_tells (call (goal.at.returns c).Start) c.requires.0 c.args.kind t kept stands.0 c.part_at-part.result (own (goal.at.returns c).After-part_at-part t stands) c.if-answer-ne-DONE.false _
     c.within.ensures c.new_marks.ensures

@@ -10,44 +10,37 @@ use Rattle.theory_calls.proofs.PageCalls.{look_missing, look_contradicted, look_
 use Rattle.page_calls.proofs.Searched.{locatable, primary_asked, secondary_asked, KnownOf, known, First, differs_is}
 use borrow.Author.Rules.{rules}
 use Rattle.page_calls.proofs.look_page.Goals as goal
+use Rattle.page_calls.proofs.look_page.Goals.{After-any, After-differs}
 
 -- what was told is of the page's matches and free entries
-module _ (c : goal.After-any) where
-  abbrev searched : goal.After-in_primary-primary
-  searched = c
+module _ (c : After-any) where
 
-  abbrev at : goal.After-locate-page
-  at = searched
-
-  abbrev begin : goal.Start
-  begin = at
-
-  told_of : KnownOf (record { vsid = begin.args.vsid; index = begin.args.index }) begin.args.table.now at.locate.result c.in_secondary-told.result c.any.result
-  told_of = known _ _ _ _ _ _ begin.requires.1 at.locate.ensures searched.in_primary_law.ensures c.in_secondary-told.ensures c.any.ensures
+  told_of : KnownOf (record { vsid = c.args.vsid; index = c.args.index }) c.args.table.now c.locate-page.result c.in_secondary-told.result c.any.result
+  told_of = known _ _ _ _ _ _ c.requires.1 c.locate-page.ensures c.in_primary-primary.ensures c.in_secondary-told.ensures c.any.ensures
 
 -- there is a match
-leader : (c : goal.After-differs) (sdr1 : ℕ) (right : TableOf sdr1 (length (begin c).args.table.now))
+leader : (c : After-differs) (sdr1 : ℕ) (right : TableOf sdr1 (length c.args.table.now))
     → First _ _ _ _ (told_of c sdr1 right).at _ (told_of c sdr1 right).is
 leader c sdr1 right = (told_of c sdr1 right).matched (not-false _ c.if-not-any.false)
 
 pub returns-then-not-any : goal.returns-then-not-any
 returns-then-not-any c sdr1 right =
-    rw c.refused.ensures (sym (look_missing _ _ _ ((told_of c sdr1 right).unmatched (not-true _ c.if-not-any.true)) _ _))
+    rw c.refused.ensures (sym (look_missing _ _ _ ((told_of (goal.at.returns-then-not-any c).After-any sdr1 right).unmatched (not-true _ c.if-not-any.true)) _ _))
 
 pub returns-then-differs : goal.returns-then-differs
 returns-then-differs c sdr1 right =
-    let f = leader c sdr1 right in
+    let f = leader (goal.at.returns-then-differs c).After-differs sdr1 right in
     rw c.refused-then-differs.ensures
     (sym (look_contradicted _ _ _ _ _ f.are _ _ (differs_is _ _ _ _ _ _ _ f _ c.differs.ensures ∙ c.if-differs.true)))
 
 pub returns : goal.returns
 returns c sdr1 right =
-    let f = leader c sdr1 right in
-    ap (λ (word : ℕ). ended 0 (begin c).args.table.now (word_answer 0 word)) f.word
+    let f = leader (goal.at.returns c).After-differs sdr1 right in
+    ap (λ (word : ℕ). ended 0 c.args.table.now (word_answer 0 word)) f.word
     ∙ sym (look_done _ _ _ _ _ f.are _ _ (differs_is _ _ _ _ _ _ _ f _ c.differs.ensures ∙ c.if-differs.false))
 
 -- LEFT inline answer: λ c . locatable _ _ c.requires.0 c.requires.1
 
--- LEFT inline answer: λ c . let start = c in primary_asked _ start.args.table.now _ start.requires.0 start.requires.1 c.locate-page.ensures
+-- LEFT inline answer: λ c . primary_asked _ c.args.table.now _ c.requires.0 c.requires.1 c.locate-page.ensures
 
--- LEFT inline answer: λ c . let located = c in let start = located in secondary_asked _ start.args.table.now _ start.requires.0 start.requires.1 located.locate.ensures
+-- LEFT inline answer: λ c . secondary_asked _ c.args.table.now _ c.requires.0 c.requires.1 c.locate-page.ensures

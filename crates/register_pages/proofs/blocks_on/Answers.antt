@@ -14,25 +14,22 @@ use Rattle.register_pages.proofs.Page.{page_least}
 use Rattle.register_pages.proofs.Sides.{part_off, off_kept}
 use borrow.Author.Rules.{rules}
 use Rattle.register_pages.proofs.blocks_on.Goals as goal
+use Rattle.register_pages.proofs.blocks_on.Goals.{Else-any_on}
 
 pub returns-then-any_on : goal.returns-then-any_on
 returns-then-any_on c = λ e. absurd (true≢false e)
 
-abbrev begin : goal.After-any_on → goal.Start
-begin c = c
-
 -- the first eight pairs are off
-front : (c : goal.Else-any_on) (i : ℕ) → i < 8 → off (word_at (begin c).args.page.now (68 + 8 * i)) ≡ true
+front : (c : Else-any_on) (i : ℕ) → i < 8 → off (word_at c.args.page.now (68 + 8 * i)) ≡ true
 front c i l =
-    let start = begin c in
-    part_off start.args.page.now 68 8 i (omega (arith, page_least (length start.args.page.now) start.requires)) (c.any_on.ensures c.if-any_on.false) l
+    part_off c.args.page.now 68 8 i (omega (arith, page_least (length c.args.page.now) c.requires)) (c.any_on.ensures c.if-any_on.false) l
 
 pub returns-then-page-eq-REGISTERS_SIZE_LONG : goal.returns-then-page-eq-REGISTERS_SIZE_LONG
 returns-then-page-eq-REGISTERS_SIZE_LONG c = λ e.
-    let page = (begin c).args.page.now in
+    let page = c.args.page.now in
     let size : length page ≡ 196 = c.if-page-eq-REGISTERS_SIZE_LONG.true in
     let all : 2 * block_pairs (is_long (length page)) ≡ 16 = ap (λ (t : Bool). 2 * block_pairs t) (eq-eqb (length page) 196 size) in
-    off_kept page (λ i l. by_test (ltb i 8) (λ t. front c i (ltb-true i 8 t))
+    off_kept page (λ i l. by_test (ltb i 8) (λ t. front (goal.at.returns-then-page-eq-REGISTERS_SIZE_LONG c).Else-any_on i (ltb-true i 8 t))
     (λ t.
     let past = ltb-false i 8 t in
     let here : 132 + 8 * (i - 8) ≡ 68 + 8 * i = omega arith in
@@ -40,9 +37,9 @@ returns-then-page-eq-REGISTERS_SIZE_LONG c = λ e.
 
 pub returns : goal.returns
 returns c = λ e.
-    let page = (begin c).args.page.now in
+    let page = c.args.page.now in
     let all : 2 * block_pairs (is_long (length page)) ≡ 8 = ap (λ (t : Bool). 2 * block_pairs t) (ne_eqb (length page) 196 c.if-page-eq-REGISTERS_SIZE_LONG.false) in
-    off_kept page (λ i l. front c i (omega arith))
+    off_kept page (λ i l. front (goal.at.returns c).Else-any_on i (omega arith))
 
 -- LEFT no goal today for slice-bounds-any-on-end:
 -- LEFT      omega (arith, page_least (length c.args.page.now) c.requires)

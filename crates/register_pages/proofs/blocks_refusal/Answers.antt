@@ -13,6 +13,7 @@ use Rattle.registers.specs.Set.{is_page, is_long, block_pairs}
 use Rattle.register_pages.proofs.Page.{page_least, PageSize, short_size, long_size, page_size_law}
 use Rattle.register_pages.proofs.Sides.{times_most, half_whole, SidesSeen, sides_none, sides_more, sides_wrong, sides_right, lent_length, lent_good, lent_rises, lent_apart}
 use Rattle.register_pages.proofs.blocks_refusal.Goals as goal
+use Rattle.register_pages.proofs.blocks_refusal.Goals.{After-loop-side, In-loop-side, Start}
 
 pub overflow_sub-half : goal.overflow_sub-half
 overflow_sub-half c = omega (arith, page_least (length c.args.page.now) c.requires)
@@ -40,16 +41,11 @@ loop-side-init c =
       λ right. sides_none c.args.page.now right,
     )
 
-abbrev started : goal.At-loop-side → goal.Start
-started c = c
-
 -- the bytes of the side at hand lie on the page
-module _ (c : goal.In-loop-side where
-  abbrev at-loop : goal.At-loop-side
-  at-loop = c
+module _ (c : In-loop-side where
 
-  abbrev begin : goal.Start
-  begin = started at-loop
+  abbrev begin : Start
+  begin = started c
 
   abbrev page : List ℕ
   page = begin.args.page.now
@@ -57,20 +53,20 @@ module _ (c : goal.In-loop-side where
   abbrev half : ℕ
   half = (length page - 68) / 2
 
-  most : at-loop.loop.side * half ≤ half
-  most = times_most at-loop.loop.side half c.loop-side-test.true
+  most : c.loop-side.side * half ≤ half
+  most = times_most c.loop-side.side half c.loop-side-test.true
 
   half_is : half ≡ 8 * block_pairs (is_long (length page))
-  half_is = at-loop.loop.invariant.1
+  half_is = c.loop-side.invariant.1
 
   abbrev at : ℕ
-  at = 68 + at-loop.loop.side * half
+  at = 68 + c.loop-side.side * half
 
   abbrev lent : List ℕ
   lent = take (at + half - at) (drop at page)
 
   own_length : length lent ≡ 8 * block_pairs (is_long (length page))
-  own_length = lent_length page begin.requires at-loop.loop.side half at (at + half) c.loop-side-test.true half_is refl refl
+  own_length = lent_length page begin.requires c.loop-side.side half at (at + half) c.loop-side-test.true half_is refl refl
 
 pub overflow_mul-at : goal.overflow_mul-at
 overflow_mul-at c = omega (arith, most c)
@@ -84,49 +80,39 @@ overflow_add-to c = omega (arith, most c)
 pub side_of-seen-requires : goal.side_of-seen-requires
 side_of-seen-requires c = let (whole, few) = half_whole (is_long (length (page c))) in (ap (λ (n : ℕ). n % 32) (own_length c) ∙ whole, omega (arith, own_length c))
 
--- what the pass over the side told, and the side that it passed
-abbrev told_at : goal.After-struct_known-in-loop-side-1 → goal.After-side_of-seen
-told_at c = c
-
-abbrev own-side : goal.After-struct_known-in-loop-side-1 → goal.In-loop-side
-own-side c = (told_at c)
-
 pub side_apart-apart-requires : goal.side_apart-apart-requires
-side_apart-apart-requires c = omega (arith, own_length (own-side c))
+side_apart-apart-requires c = omega (arith, own_length c)
 
 pub loop-side-preserved : goal.loop-side-preserved
 loop-side-preserved c =
-    let i = own-side c in
-    let seen = (told_at c).side_of-seen in
-    let l = (at-loop i).loop-side in
+    let seen = c.side_of-seen in
+    let l = c.loop-side in
     let s = l.side in
-    let below = i.loop-test.true in
+    let below = c.loop-side-test.true in
     let told = seen.ensures in
     let (upto, half_of_lem, whole, lengths, before) = l.invariant in
-    let H = half i in
-    let A = at i in (
+    let H = half c in
+    let A = at c in (
       omega arith,
       half_of_lem,
       whole,
       lengths,
-      λ any-right. sides_more (page i) any-right s l.good l.apart _ c.if-seen-ne0.apart (before any-right)
-          (lent_good (page i) any-right s H A (A + H) below half_of_lem refl refl _ (32 * s) seen.result lengths refl told)
+      λ any-right. sides_more (page c) any-right s l.good l.apart _ c.if-seen-ne0.apart (before any-right)
+          (lent_good (page c) any-right s H A (A + H) below half_of_lem refl refl _ (32 * s) seen.result lengths refl told)
           (λ shape. ⊎_elim
-          (λ w. w.3 ∙ ap (λ (t : Bool). l.apart && t) (w.2.ensures ∙ lent_apart (page i) any-right s H A (A + H) below half_of_lem refl refl shape))
+          (λ w. w.3 ∙ ap (λ (t : Bool). l.apart && t) (w.2.ensures ∙ lent_apart (page c) any-right s H A (A + H) below half_of_lem refl refl shape))
           (λ w. w.1 ∙ sym (ap (λ (t : Bool). l.apart && t)
-          (lent_rises (page i) any-right s H A (A + H) below half_of_lem refl refl _ (32 * s) seen.result lengths refl told w.0.left shape) ∙ and-true l.apart))
+          (lent_rises (page c) any-right s H A (A + H) below half_of_lem refl refl _ (32 * s) seen.result lengths refl told w.0.left shape) ∙ and-true l.apart))
           c.if-seen-ne0.branch),
     )
 
 -- both sides were passed
-both-sides : (c : goal.After-loop-side →
-    let start = started c in
-    SidesSeen start.args.page.now start.requires 2 c.loop-side.good c.loop-side.apart
+both-sides : (c : After-loop-side →
+    SidesSeen c.args.page.now c.requires 2 c.loop-side.good c.loop-side.apart
 both-sides c =
-    let start = started c in
     let l = c.loop-side in
     let two : l.side ≡ 2 = let upto = l.invariant.0 in omega (arith, c.loop-side-test.false) in
-    subst (λ (n : ℕ). SidesSeen start.args.page.now start.requires n l.good l.apart) two (l.invariant.4 start.requires)
+    subst (λ (n : ℕ). SidesSeen c.args.page.now c.requires n l.good l.apart) two (l.invariant.4 c.requires)
 
 pub returns-then-not-good : goal.returns-then-not-good
 returns-then-not-good c =
@@ -147,4 +133,4 @@ returns c =
 -- LEFT      omega (arith, most c)
 
 -- LEFT no goal today for slice-bounds-side-apart-end:
--- LEFT      omega (arith, most (own-side c))
+-- LEFT      omega (arith, most c)

@@ -14,13 +14,11 @@ use Rattle.register_words.specs.Block.{covers}
 use Rattle.registers.specs.Set.{is_long, block_pairs, set_words, pair_covers, covering_pair}
 use Rattle.register_pages.proofs.Page.{PageSize, short_size, long_size, own_pairs, page_size_law, page_least, pairs_most, pair_fits, upper_at_law, none_covers}
 use Rattle.register_pages.proofs.covering_pair.Goals as goal
+use Rattle.register_pages.proofs.covering_pair.Goals.{After-block_covers, In-loop-first, In-loop-i}
 
 -- no pair of a side before a number covers the address
 abbrev NoneBefore : List ℕ → Bool → Bool → ℕ → ℕ → Type 0
 NoneBefore page side user address n = (k : ℕ) → k < n → pair_covers 8 15 (set_words page) side user address k ≡ false
-
-abbrev begin : goal.At-loop-first → goal.Start
-begin c = c
 
 -- a page has whole fours of pairs
 whole-fours : {size : ℕ} {long : Bool} → PageSize size long → (size - 68) / 16 % 4 ≡ 0
@@ -28,51 +26,45 @@ whole-fours short_size = refl
 whole-fours long_size = refl
 
 -- so four pairs are left
-four-left : (c : goal.In-loop-first →
-    c.loop-first.first + 4 ≤ block_pairs (is_long (length (begin c).args.page.now))
+four-left : (c : In-loop-first →
+    c.loop-first.first + 4 ≤ block_pairs (is_long (length c.args.page.now))
 four-left c =
-    let start = begin c in
-    let size = page_size_law (length start.args.page.now) start.requires in
+    let size = page_size_law (length c.args.page.now) c.requires in
     let own = own_pairs size in
     let fours = whole-fours size in
     let whole = c.loop-first.invariant.1 in
     omega (arith, c.loop-first-test.true)
 
 -- the pair at hand
-module _ (c : goal.In-loop-i where
-  abbrev in-loop : goal.In-loop-first
-  in-loop = c
-
-  abbrev at-loop : goal.At-loop-first
-  at-loop = in-loop
+module _ (c : In-loop-i where
 
   abbrev page : List ℕ
-  page = (begin at-loop).args.page.now
+  page = (begin c).args.page.now
 
   abbrev i : ℕ
   i = c.loop-i.i
 
   -- is the page's own
   own_pair : i < block_pairs (is_long (length page))
-  own_pair = omega (arith, c.loop-i-test.true, four-left in-loop)
+  own_pair = omega (arith, c.loop-i-test.true, four-left c)
 
   -- and lies on the page
-  on-page : at-loop.side-at.result + 8 * i + 8 ≤ length page
+  on-page : c.side_at-start.result + 8 * i + 8 ≤ length page
   on-page =
-      let start = begin at-loop in
-      omega (arith, at-loop.side-at.ensures, pair_fits (length page) start.requires start.args.side i own_pair)
+      let start = begin c in
+      omega (arith, c.side_at-start.ensures, pair_fits (length page) start.requires start.args.side i own_pair)
 
 -- what the call gave is the test of that pair of the set
-covers-is : (c : goal.After-block_covers →
-    let a = (begin (at-loop c)).args in
+covers-is : (c : After-block_covers →
+    let a = (begin c).args in
     c.block_covers.result ≡ pair_covers 8 15 (set_words (page c)) a.side a.user a.address (i c)
 unfolding pair_covers
 covers-is c =
-    let a = (begin (at-loop c)).args in
+    let a = (begin c).args in
     c.block_covers.ensures
     ∙ ap (λ (u : ℕ). covers 15 a.user u a.address)
     (c.read_word.ensures
-    ∙ ap (λ (s : ℕ). word_at (page c) (s + 8 * i c)) (at-loop c).side_at-start.ensures
+    ∙ ap (λ (s : ℕ). word_at (page c) (s + 8 * i c)) c.side_at-start.ensures
     ∙ sym (upper_at_law (page c) a.side (i c) (own_pair c)))
 
 pub overflow_sub-pairs : goal.overflow_sub-pairs
@@ -83,7 +75,7 @@ pub loop-first-init : goal.loop-first-init
 loop-first-init c = (search rules, refl, below_none _)
 
 pub overflow_add-i-end : goal.overflow_add-i-end
-overflow_add-i-end c = omega (arith, four-left c, pairs_most (is_long (length (begin c).args.page.now)))
+overflow_add-i-end c = omega (arith, four-left c, pairs_most (is_long (length c.args.page.now)))
 
 pub loop-i-init : goal.loop-i-init
 loop-i-init c = (search rules, c.loop-first.invariant.2)
@@ -111,9 +103,8 @@ loop-i-preserved c =
 pub loop-first-preserved : goal.loop-first-preserved
 loop-first-preserved c =
     let l = c.loop-first in
-    let start = begin c in
-    let a = start.args in
-    let own = own_pairs (page_size_law (length a.page.now) start.requires) in
+    let a = c.args in
+    let own = own_pairs (page_size_law (length a.page.now) c.requires) in
     let four = four-left c in
     let whole = l.invariant.1 in
     let end : c.loop-i.i ≡ l.first + 4 = omega (arith, c.loop-i-test.false) in
@@ -121,7 +112,6 @@ loop-first-preserved c =
 
 pub returns : goal.returns
 returns c =
-    let start = begin c in
-    let a = start.args in
-    let pairs = own_pairs (page_size_law (length a.page.now) start.requires) in
+    let a = c.args in
+    let pairs = own_pairs (page_size_law (length a.page.now) c.requires) in
     sym (none_covers a.page.now a.side a.user a.address c.loop-first.first (omega arith) c.loop-first.invariant.2)

@@ -15,26 +15,22 @@ use Rattle.register_pages.proofs.Replace.{number_fits}
 use Rattle.register_pages.proofs.Sides.{part_word}
 use borrow.Author.Rules.{rules}
 use Rattle.register_pages.proofs.set_word.Goals as goal
+use Rattle.register_pages.proofs.set_word.Goals.{After-with_word-replaced}
 
 pub with_word-replaced-requires : goal.with_word-replaced-requires
 with_word-replaced-requires c = c.read_set-set.ensures.0
 
-abbrev start_of : goal.After-read_set-set → goal.Start
-start_of c = c
-
 -- what the method answered is the definition's answer for the page
-module _ (c : goal.After-with_word-replaced) where
-  abbrev begin : goal.Start
-  begin = start_of c
+module _ (c : After-with_word-replaced) where
 
   abbrev page : List ℕ
-  page = begin.args.page.now
+  page = c.args.page.now
 
   abbrev number : ℕ
-  number = begin.args.number
+  number = c.args.number
 
   abbrev word : ℕ
-  word = begin.args.word
+  word = c.args.word
 
   abbrev asked : ℕ
   asked = replacing (is_long (length page)) (register_words page) number word
@@ -55,7 +51,7 @@ module _ (c : goal.After-with_word-replaced) where
     size = c.with_word-replaced.result.set.size
 
     fits : 4 * number + 4 ≤ length page
-    fits = number_fits page begin.requires number (replaced_number (is_long (length page)) (register_words page) number word (sym result_is ∙ done))
+    fits = number_fits page c.requires number (replaced_number (is_long (length page)) (register_words page) number word (sym result_is ∙ done))
 
     new_is : take size new ≡ with_word page (4 * number) word
     unfolding page_replaced
@@ -71,27 +67,21 @@ module _ (c : goal.After-with_word-replaced) where
         ap (word_at new) (omega arith)
         ∙ sym (part_word new 0 size (4 * number) (omega (arith, new-fits)))
         ∙ ap (λ (s : List ℕ). word_at s (4 * number)) new_is
-        ∙ word_same page (4 * number) word fits begin.fits.word.fits
-
--- the word was taken
-abbrev taken : goal.After-new-then-result-eq-DONE-1 → goal.Then-result-eq-DONE
-taken c = c
+        ∙ word_same page (4 * number) word fits c.fits.word.fits
 
 pub read_word-requires : goal.read_word-requires
-read_word-requires c = let t = taken c in omega (arith, new-fits t t.if1.true)
+read_word-requires c = omega (arith, new-fits c c.if-result-eq-DONE.true)
 
 pub write_word-requires : goal.write_word-requires
-write_word-requires c = let t = taken c in fits t t.if1.true
+write_word-requires c = fits c c.if-result-eq-DONE.true
 
 pub returns-then-result-eq-DONE : goal.returns-then-result-eq-DONE
 unfolding page_replaced
 returns-then-result-eq-DONE c =
-    let t = taken c in
-    let k = t in
-    rw (← result_is k, eq-eqb _ _ t.if1.true)
-    (ap (λ (b : List ℕ). (k.with-word.result.result, b))
-    (c.write_word.ensures ∙ ap (with_word (page k) (4 * number k)) (c.read_word.ensures ∙ word_is k t.if1.true)))
+    rw (← result_is (goal.at.returns-then-result-eq-DONE c).After-with_word-replaced, eq-eqb _ _ c.if-result-eq-DONE.true)
+    (ap (λ (b : List ℕ). (c.with_word-replaced.result.result, b))
+    (c.write_word.ensures ∙ ap (with_word (page (goal.at.returns-then-result-eq-DONE c).After-with_word-replaced) (4 * number (goal.at.returns-then-result-eq-DONE c).After-with_word-replaced)) (c.read_word.ensures ∙ word_is c c.if-result-eq-DONE.true)))
 
 pub returns-else-result-eq-DONE : goal.returns-else-result-eq-DONE
 unfolding page_replaced
-returns-else-result-eq-DONE c = rw (← result_is c, ne_eqb _ _ c.if-result-eq-DONE.false)
+returns-else-result-eq-DONE c = rw (← result_is (goal.at.returns-else-result-eq-DONE c).After-with_word-replaced, ne_eqb _ _ c.if-result-eq-DONE.false)

@@ -15,44 +15,43 @@ use Rattle.register_words.proofs.Blocks.{off_clash}
 use Rattle.register_pages.specs.Side.{upper_at, apart_from, pairs_apart}
 use Rattle.register_pages.proofs.Pass.{off_word, at_pair, passed_more}
 use Rattle.register_pages.proofs.side_apart.Goals as goal
+use Rattle.register_pages.proofs.side_apart.Goals.{After-read_word-own}
 
 pub loop-at-init : goal.loop-at-init
 unfolding pairs_apart every_below
 loop-at-init c = (omega arith, refl, refl)
 
 -- the pair at hand
-module _ (c : goal.After-read_word-own where
-  abbrev at-loop : goal.At-loop-at
-  at-loop = c
+module _ (c : After-read_word-own where
 
   abbrev at : ℕ
-  at = at-loop.loop.at
+  at = c.loop-at.at
 
   abbrev pairs : List ℕ
-  pairs = at-loop.args.pairs.now
+  pairs = c.args.pairs.now
 
   abbrev apart : ℕ → Bool
   apart j = apart_from pairs (upper_at pairs j) j
 
   own_is : c.read_word-own.result ≡ upper_at pairs (at / 8)
-  own_is = c.read_word-own.ensures ∙ ap (word_at pairs) (sym (at_pair at at-loop.loop.invariant.1))
+  own_is = c.read_word-own.ensures ∙ ap (word_at pairs) (sym (at_pair at c.loop-at.invariant.1))
 
 pub returns-then-not-pair_apart : goal.returns-then-not-pair_apart
 unfolding pairs_apart
 returns-then-not-pair_apart c =
     every_not (apart c) (length (pairs c) / 8) (at c / 8)
-    (omega (arith, c.loop-at-test.true, (at-loop c).loop-at.invariant.1, (at-loop c).requires))
+    (omega (arith, c.loop-at-test.true, c.loop-at.invariant.1, c.requires))
     (ap (λ (w : ℕ). apart_from (pairs c) w (at c / 8)) (sym (own_is c)) ∙ sym c.pair_apart.ensures ∙ not-true _ c.if-not-pair_apart.true)
 
 pub loop-at-preserved : goal.loop-at-preserved
 unfolding pairs_apart apart_from
 loop-at-preserved c =
-    let (upto, whole, before) = (at-loop c).loop-at.invariant in
+    let (upto, whole, before) = c.loop-at.invariant in
     let here : apart c (at c / 8) ≡ true =
     ap (λ (w : ℕ). apart_from (pairs c) w (at c / 8)) (sym (own_is c))
     ∙ ⊎_elim (λ w. sym w.1.ensures ∙ not-false _ w.2.left)
     (λ w. every_all _ (at c / 8) (λ i l. ap not (off_clash 15 c.read_word-own.result (off_word c.read_word-own.result w.left) (upper_at (pairs c) i)).1)) c.if-own-ne0.branch in
-    (omega (arith, c.loop-at-test.true, (at-loop c).requires), omega arith, passed_more (apart c) (at c) whole before here)
+    (omega (arith, c.loop-at-test.true, c.requires), omega arith, passed_more (apart c) (at c) whole before here)
 
 pub returns : goal.returns
 returns c =

@@ -17,6 +17,7 @@ use Rattle.register_words.specs.Block.{bl_width, off, block_shape}
 use Rattle.words.specs.Words.{word_at}
 use Rattle.register_pages.proofs.Pass.{Seen, end_of, seen_none, seen_same, seen_off, seen_on, seen_apart, off_byte, on_byte}
 use Rattle.register_pages.proofs.side_of.Goals as goal
+use Rattle.register_pages.proofs.side_of.Goals.{After-shared_slice_known-in-loop-i-1}
 
 pub loop-at-init : goal.loop-at-init
 loop-at-init c = (omega arith, refl, seen_none _ _ _)
@@ -35,54 +36,46 @@ no-fall : (pair end : ℕ) → bool_byte (leb pair end) ≡ 0 → end < pair
 no-fall pair end z = by_test (leb pair end) (λ e. absurd (let one : ◌≡◌ {A = ℕ} 1 0 = (rw e at z) in omega arith)) (λ e. leb-false pair end e)
 
 -- what was passed, and the pair at hand
-module _ (c : goal.After-shared_slice_known-in-loop-i-1 where
-  abbrev at-loop2 : goal.At-loop-i
-  at-loop2 = c
-
-  abbrev at-loop : goal.At-loop-at
-  at-loop = at-loop2
-
-  abbrev begin : goal.Start
-  begin = at-loop
+module _ (c : After-shared_slice_known-in-loop-i-1 where
 
   abbrev pairs : List ℕ
-  pairs = begin.args.pairs.now
+  pairs = c.args.pairs.now
 
   abbrev n : ℕ
-  n = at-loop.loop.at / 8 + at-loop2.loop2.i
+  n = c.loop-at.at / 8 + c.loop-i.i
 
-  from : 8 * n ≡ at-loop.loop.at + 8 * at-loop2.loop2.i
-  from = let whole = at-loop.loop.invariant.1 in omega arith
+  from : 8 * n ≡ c.loop-at.at + 8 * c.loop-i.i
+  from = let whole = c.loop-at.invariant.1 in omega arith
 
   abbrev SeenAt : ℕ → ℕ → ℕ → ℕ → Type 0
-  SeenAt = Seen begin.args.lengths begin.args.sum pairs
+  SeenAt = Seen c.args.lengths c.args.sum pairs
 
   -- a pair that is on
   on-more : (pair asked end : ℕ) → pair ≡ word_at pairs (8 * n) * 2 ^ 32 + word_at pairs (8 * n + 4) → word_at pairs (8 * n) < 2 ^ 32
       → word_at pairs (8 * n + 4) < 2 ^ 32 → off (word_at pairs (8 * n)) ≡ false
-      → ((long side : Bool) → begin.args.lengths ≡ bl_place long → begin.args.sum ≡ side_sum side → off (pair / 2 ^ 32) ≡ false
+      → ((long side : Bool) → c.args.lengths ≡ bl_place long → c.args.sum ≡ side_sum side → off (pair / 2 ^ 32) ≡ false
       → eqb (bit_and asked (zero_bits side)) 0 ≡ block_shape (bl_width long) side (pair / 2 ^ 32) (pair % 2 ^ 32))
       → end ≡ end_of (pair / 2 ^ 32)
-      → SeenAt (n + 1) (bit_or at-loop2.loop2.any asked) (at-loop2.loop2.falls + bool_byte (leb pair at-loop2.loop2.end)) end
+      → SeenAt (n + 1) (bit_or c.loop-i.any asked) (c.loop-i.falls + bool_byte (leb pair c.loop-i.end)) end
   on-more pair asked end is upper_lt lower-lt on own end_is =
-      let l2 = at-loop2.loop2 in
+      let l2 = c.loop-i in
       let high : pair / 2 ^ 32 ≡ word_at pairs (8 * n) = omega arith in
       let low : pair % 2 ^ 32 ≡ word_at pairs (8 * n + 4) = omega arith in
-      let seen = seen_on begin.args.lengths begin.args.sum pairs n l2.any l2.falls l2.end l2.invariant.1 pair asked (bool_byte (leb pair l2.end))
+      let seen = seen_on c.args.lengths c.args.sum pairs n l2.any l2.falls l2.end l2.invariant.1 pair asked (bool_byte (leb pair l2.end))
       is upper_lt lower-lt (fall-one (leb pair l2.end)) (no-fall pair l2.end)
       (λ long side l s. own long side l s (ap off high ∙ on) ∙ ap₂ (block_shape (bl_width long) side) high low) in
       subst (SeenAt (n + 1) (bit_or l2.any asked) (l2.falls + bool_byte (leb pair l2.end))) (sym (end_is ∙ ap end_of high)) seen
 
 pub overflow_add-falls : goal.overflow_add-falls
 overflow_add-falls c =
-    let l2 = (at-loop2 c).loop-i in
-    record { fits = omega (arith, fall-one (leb c.read_pair-pair.result l2.end), l2.invariant.1.few, (begin c).requires.1) }
+    let l2 = c.loop-i in
+    record { fits = omega (arith, fall-one (leb c.read_pair-pair.result l2.end), l2.invariant.1.few, c.requires.1) }
 
 pub loop-i-preserved : goal.loop-i-preserved
 loop-i-preserved c =
-    let l2 = (at-loop2 c).loop-i in
-    let at = (at-loop c).loop-at.at + 8 * l2.i in
-    let next : n c + 1 ≡ (at-loop c).loop-at.at / 8 + (l2.i + 1) = omega arith in (
+    let l2 = c.loop-i in
+    let at = c.loop-at.at + 8 * l2.i in
+    let next : n c + 1 ≡ c.loop-at.at / 8 + (l2.i + 1) = omega arith in (
       omega (arith, c.loop-i-test.true),
       subst (λ (k : ℕ). SeenAt c k c.if-pairs-from-ne0.any c.if-pairs-from-ne0.falls c.if-pairs-from-ne0.end) next
           (⊎_elim

@@ -18,13 +18,14 @@ use Rattle.translation.proofs.Steps.{before_block, before_no_execute, before_sea
 use Rattle.table_access.specs.Part.{without_page, by_outcome, begun_by}
 use Rattle.table_access.specs.declared.Begun.TheVariants.{Told, Wants}
 use Rattle.table_access.proofs.before_search.Goals as goal
+use Rattle.table_access.proofs.before_search.Goals.{After-no_execute, After-segment-segment, Else-pair-lt-BLOCK_PAIRS, Start}
 
 -- the pair is the first that covers the address
-abbrev covering : goal.Start → ℕ
+abbrev covering : Start → ℕ
 covering c = covering_pair 8 15 (set_words c.args.registers.now) (side_of c.args.kind) (user_mode c.args.mode) c.args.address
 
 -- what the steps come to
-abbrev early : goal.Start → Early
+abbrev early : Start → Early
 early c = before_search 8 15 (set_words c.args.registers.now) c.args.mode c.args.kind c.args.address
 
 pub by_block-requires : goal.by_block-requires
@@ -41,15 +42,15 @@ returns-then-pair-lt-BLOCK_PAIRS c =
     (ap Told (c.by_block.ensures ∙ ap (λ (pair : ℕ). by_outcome a.kind a.address (block_outcome 8 15 words a.kind a.address pair)) c.requires.2))
 
 -- past the first test no block covers the address
-bare : (c : goal.Else-pair-lt-BLOCK_PAIRS) → ltb (covering c) 8 ≡ false
+bare : (c : Else-pair-lt-BLOCK_PAIRS) → ltb (covering c) 8 ≡ false
 bare c = sym (ap (λ (pair : ℕ). ltb pair 8) c.requires.2) ∙ le-ltb _ _ c.if-pair-lt-BLOCK_PAIRS.false
 
-segment-is : (c : goal.After-segment-segment) → let a = c.args in c.segment-segment.result ≡ segment_at (set_words a.registers.now) a.address
+segment-is : (c : After-segment-segment) → let a = c.args in c.segment-segment.result ≡ segment_at (set_words a.registers.now) a.address
 segment-is c =
     c.segment-segment.ensures ∙ ap (segment_of (set_words c.args.registers.now)) (sym (shr_mod 4 28 c.ranges.address.fits))
 
 -- the test of the code is that of a fetch with N = 1
-test : (c : goal.After-no_execute) →
+test : (c : After-no_execute) →
     let a = c.args in
     fetching a.kind && no_execute (segment_at (set_words a.registers.now) a.address) ≡ (c.is_fetch.result && c.no_execute.result)
 test c =
@@ -59,7 +60,7 @@ pub returns-then-is_fetch-no_execute : goal.returns-then-is_fetch-no_execute
 unfolding begun_by answer_of decision_of
 returns-then-is_fetch-no_execute c =
     let a = c.args in
-    rw (before_no_execute 8 15 (set_words a.registers.now) a.mode a.kind a.address c.requires.1 (bare c) (test c ∙ c.if-is_fetch-no_execute.true))
+    rw (before_no_execute 8 15 (set_words a.registers.now) a.mode a.kind a.address c.requires.1 (bare (goal.at.returns-then-is_fetch-no_execute c).Else-pair-lt-BLOCK_PAIRS) (test (goal.at.returns-then-is_fetch-no_execute c).After-no_execute ∙ c.if-is_fetch-no_execute.true))
     (ap Told (c.without_page.ensures
     ∙ ap (without_page 2 0) c.fault_answer-fault.ensures))
 
@@ -67,5 +68,5 @@ pub returns : goal.returns
 unfolding begun_by
 returns c =
     let a = c.args in
-    rw (before_search_law 8 15 (set_words a.registers.now) a.mode a.kind a.address c.requires.1 (bare c) (test c ∙ c.if-is_fetch-no_execute.false))
-    (ap Wants (c.wanted_of.ensures ∙ ap₂ (λ (user : Bool) (segment : ℕ). wanted_of user segment a.address) c.user_mode-user.ensures (segment-is c)))
+    rw (before_search_law 8 15 (set_words a.registers.now) a.mode a.kind a.address c.requires.1 (bare (goal.at.returns c).Else-pair-lt-BLOCK_PAIRS) (test (goal.at.returns c).After-no_execute ∙ c.if-is_fetch-no_execute.false))
+    (ap Wants (c.wanted_of.ensures ∙ ap₂ (λ (user : Bool) (segment : ℕ). wanted_of user segment a.address) c.user_mode-user.ensures (segment-is (goal.at.returns c).After-segment-segment)))

@@ -16,55 +16,48 @@ use Rattle.translation.specs.Decision.{decision_of}
 use Rattle.translation.proofs.Steps.{block_done, block_fault}
 use Rattle.table_access.specs.Part.{without_page}
 use Rattle.table_access.proofs.by_block.Goals as goal
-
-abbrev begin : goal.After-side_of-side → goal.Start
-begin c = c
-
-abbrev asked : goal.After-block_pp → goal.Start
-asked c = begin c
+use Rattle.table_access.proofs.by_block.Goals.{After-block_allows, After-lower-lower, After-upper-upper}
 
 -- the words that were read are those of the pair
-upper_is : (c : goal.After-upper-upper) → let a = (begin c).args in c.upper-upper.result ≡ upper_of 8 (set_words a.registers.now) (side_of a.kind) a.pair
-upper_is c = let a = (begin c).args in c.upper-upper.ensures ∙ ap (λ (side : Bool). upper_of 8 (set_words a.registers.now) side a.pair) c.side_of-side.ensures
+upper_is : (c : After-upper-upper) → let a = c.args in c.upper-upper.result ≡ upper_of 8 (set_words a.registers.now) (side_of a.kind) a.pair
+upper_is c = let a = c.args in c.upper-upper.ensures ∙ ap (λ (side : Bool). upper_of 8 (set_words a.registers.now) side a.pair) c.side_of-side.ensures
 
-lower_is : (c : goal.After-lower-lower) → let a = (begin c).args in c.lower-lower.result ≡ lower_of 8 (set_words a.registers.now) (side_of a.kind) a.pair
+lower_is : (c : After-lower-lower) → let a = c.args in c.lower-lower.result ≡ lower_of 8 (set_words a.registers.now) (side_of a.kind) a.pair
 lower_is c =
-    let a = (begin c).args in
+    let a = c.args in
     c.lower-lower.ensures ∙ ap (λ (side : Bool). lower_of 8 (set_words a.registers.now) side a.pair) c.side_of-side.ensures
 
 -- what the code asks of PP is the test of step 2
-allowed : (c : goal.After-block_allows) →
-    let a = (asked c).args in
+allowed : (c : After-block_allows) →
+    let a = c.args in
     block_allows (block_pp (lower_of 8 (set_words a.registers.now) (side_of a.kind) a.pair)) a.kind ≡ c.block_allows.result
 allowed c =
-    let kind = (asked c).args.kind in
+    let kind = c.args.kind in
     sym (c.block_allows.ensures ∙ ap (λ (pp : ℕ). block_allows pp kind) (c.block_pp.ensures ∙ ap block_pp (lower_is c)))
 
 pub overflow_cast-pair : goal.overflow_cast-pair
 overflow_cast-pair c =
-    let start = asked c in
-    omega (arith, pairs_most (is_long (length start.args.registers.now)))
+    omega (arith, pairs_most (is_long (length c.args.registers.now)))
 
 pub returns-then-not-block_allows : goal.returns-then-not-block_allows
 unfolding answer_of decision_of
 returns-then-not-block_allows c =
-    let a = (asked c).args in
-    rw (block_fault 8 15 (set_words a.registers.now) a.kind a.address a.pair (allowed c ∙ not-true _ c.if-not-block_allows.true))
+    let a = c.args in
+    rw (block_fault 8 15 (set_words a.registers.now) a.kind a.address a.pair (allowed (goal.at.returns-then-not-block_allows c).After-block_allows ∙ not-true _ c.if-not-block_allows.true))
     (c.without_page.ensures ∙ ap (without_page 1 a.pair) c.fault_answer-fault.ensures)
 
 pub overflow_cast-pair-2 : goal.overflow_cast-pair-2
 overflow_cast-pair-2 c =
-    let start = asked c in
-    omega (arith, pairs_most (is_long (length start.args.registers.now)))
+    omega (arith, pairs_most (is_long (length c.args.registers.now)))
 
 pub returns : goal.returns
 unfolding answer_of decision_of
 returns c =
-    let a = (begin c).args in
-    rw (block_done 8 15 (set_words a.registers.now) a.kind a.address a.pair (allowed c ∙ not-false _ c.if-not-block_allows.false))
+    let a = c.args in
+    rw (block_done 8 15 (set_words a.registers.now) a.kind a.address a.pair (allowed (goal.at.returns c).After-block_allows ∙ not-false _ c.if-not-block_allows.false))
     (c.without_page-2.ensures
     ∙ ap (without_page 1 a.pair)
     (c.done_answer-done.ensures
     ∙ ap₂ (λ (p w : ℕ). done_answer p w a.address)
-    (c.block_physical-physical.ensures ∙ ap₂ (λ (u l : ℕ). block_physical 15 u l a.address) (upper_is c) (lower_is c))
-    (c.block_attributes-attributes.ensures ∙ ap block_attributes (lower_is c))))
+    (c.block_physical-physical.ensures ∙ ap₂ (λ (u l : ℕ). block_physical 15 u l a.address) (upper_is (goal.at.returns c).After-upper-upper) (lower_is (goal.at.returns c).After-lower-lower))
+    (c.block_attributes-attributes.ensures ∙ ap block_attributes (lower_is (goal.at.returns c).After-lower-lower))))

@@ -27,34 +27,29 @@ use Rattle.table_access.specs.declared.Part.{Part}
 use Rattle.table_access.proofs.Parts.{good_table}
 use Rattle.table_access.proofs.Operands.{Reached, own_inside, stops, one_part, two_parts, tells}
 use Rattle.table_access.proofs.by_parts.Goals as goal
+use Rattle.table_access.proofs.by_parts.Goals.{After-part_of-part, After-slice_known-then-access-bytes-3-1, After-slice_known-then-further-5-1, After-slice_known-then-own-ne-DONE-1, After-take, At-loop-access, Else-further, Else-own-ne-DONE, Then-further}
 
-abbrev entered : goal.At-loop-access → goal.After-slice_known-1
-entered c = c
-
-abbrev begin : goal.At-loop-access → goal.Start
-begin c = (entered c)
-
-module _ (c : goal.At-loop-access where
+module _ (c : At-loop-access where
   abbrev words : List ℕ
-  words = set_words (begin c).args.registers.now
+  words = set_words c.args.registers.now
 
   abbrev sdr1 : ℕ
   sdr1 = sdr1_of words
 
   abbrev access : Access
-  access = (begin c).args.access
+  access = c.args.access
 
   abbrev lent : List ℕ × List ℕ
-  lent = ((begin c).args.table.now, (begin c).args.cache.now)
+  lent = (c.args.table.now, c.args.cache.now)
 
   abbrev own : Bool → Part
   own = own_part access (mask_ones sdr1) lent (part_early words access)
 
   of : TableOf sdr1 (length lent.0)
-  of = (begin c).requires.0.1
+  of = c.requires.0.1
 
   good : GoodTable (mask_ones sdr1) lent.0
-  good = good_table sdr1 lent.0 of (λ i. ((entered c).slice_known-1.given i).fits)
+  good = good_table sdr1 lent.0 of (λ i. (c.slice_known-1.given i).fits)
 
 pub loop-access-init : goal.loop-access-init
 loop-access-init c =
@@ -62,34 +57,30 @@ loop-access-init c =
     (refl, refl, refl, sym (start_first a.address a.length), λ e. absurd (true≢false (sym e)))
 
 -- the lengths are those of what was lent
-table_right : (c : goal.At-loop-access → TableOf (sdr1 c) (length c.loop-access.table)
+table_right : (c : At-loop-access → TableOf (sdr1 c) (length c.loop-access.table)
 table_right c = record { shape = (of c).shape; right = ap (λ (t : List ℕ). length t) c.loop-access.invariant.0 ∙ (of c).right }
 
-cache-right : (c : goal.At-loop-access → CacheOrNone c.loop-access.cache
-cache-right c = rw c.loop-access.invariant.1 (begin c).requires.1
+cache-right : (c : At-loop-access → CacheOrNone c.loop-access.cache
+cache-right c = rw c.loop-access.invariant.1 c.requires.1
 
-answer-right : (c : goal.At-loop-access → length c.loop-access.answer ≡ 48
-answer-right c = rw c.loop-access.invariant.2 (begin c).requires.3
+answer-right : (c : At-loop-access → length c.loop-access.answer ≡ 48
+answer-right c = rw c.loop-access.invariant.2 c.requires.3
 
 pub part_of-part-requires : goal.part_of-part-requires
-part_of-part-requires c = (((begin c).requires.0.0, table_right c), cache-right c, (begin c).requires.2)
-
-abbrev looped : goal.After-part_of-part → goal.At-loop-access
-looped c = c
+part_of-part-requires c = ((c.requires.0.0, table_right c), cache-right c, c.requires.2)
 
 -- the part that was asked for is the operand's own
-part_is : (c : goal.After-part_of-part → c.part_of-part.result ≡ own (looped c) (looped c).loop-access.further
+part_is : (c : After-part_of-part → c.part_of-part.result ≡ own c c.loop-access.further
 part_is c =
-    let at-loop = looped c in
-    let a = access at-loop in
-    let k = mask_ones (sdr1 at-loop) in
-    let early : ℕ → Early = λ s. before_search 8 15 (words at-loop) a.mode a.kind s in
+    let a = access c in
+    let k = mask_ones (sdr1 c) in
+    let early : ℕ → Early = λ s. before_search 8 15 (words c) a.mode a.kind s in
     c.part_of-part.ensures
-    ∙ ap₂ (λ (t d : List ℕ). part_by a.kind at-loop.loop.address (found_by k a.kind t d) (early at-loop.loop.address)) at-loop.loop.invariant.0 at-loop.loop.invariant.1
-    ∙ ap (λ (s : ℕ). part_by a.kind s (found_by k a.kind (lent at-loop).0 (lent at-loop).1) (early s)) at-loop.loop.invariant.3
+    ∙ ap₂ (λ (t d : List ℕ). part_by a.kind c.loop-access.address (found_by k a.kind t d) (early c.loop-access.address)) c.loop-access.invariant.0 c.loop-access.invariant.1
+    ∙ ap (λ (s : ℕ). part_by a.kind s (found_by k a.kind (lent c).0 (lent c).1) (early s)) c.loop-access.invariant.3
 
 -- the second part is asked for where the first is done and the operand goes on
-reached : (c : goal.At-loop-access → Reached (words c) (access c) (sdr1 c) (lent c) (of c) c.loop-access.further
+reached : (c : At-loop-access → Reached (words c) (access c) (sdr1 c) (lent c) (of c) c.loop-access.further
 unfolding Reached
 reached c = go c.loop-access.further refl
   where
@@ -99,46 +90,42 @@ reached c = go c.loop-access.further refl
 
 pub tell-requires : goal.tell-requires
 tell-requires c =
-    answer-right (looped c)
+    answer-right c
 
-abbrev stopped-loop : goal.After-slice_known-then-own-ne-DONE-1 → goal.At-loop-access
+abbrev stopped-loop : After-slice_known-then-own-ne-DONE-1 → At-loop-access
 stopped-loop c = let at_part = (stopped-at c) in looped at_part
 
 pub shape_of-table-then-own-ne-DONE : goal.shape_of-table-then-own-ne-DONE
-shape_of-table-then-own-ne-DONE c = ap (λ (t : List ℕ). length t) (stopped-loop c).loop-access.invariant.0
+shape_of-table-then-own-ne-DONE c = ap (λ (t : List ℕ). length t) (stopped-loop (goal.at.shape_of-table-then-own-ne-DONE c).After-slice_known-then-own-ne-DONE-1).loop-access.invariant.0
 
 pub shape_of-cache-then-own-ne-DONE : goal.shape_of-cache-then-own-ne-DONE
-shape_of-cache-then-own-ne-DONE c = ap (λ (t : List ℕ). length t) (stopped-loop c).loop-access.invariant.1
+shape_of-cache-then-own-ne-DONE c = ap (λ (t : List ℕ). length t) (stopped-loop (goal.at.shape_of-cache-then-own-ne-DONE c).After-slice_known-then-own-ne-DONE-1).loop-access.invariant.1
 
 pub shape_of-answer-then-own-ne-DONE : goal.shape_of-answer-then-own-ne-DONE
-shape_of-answer-then-own-ne-DONE c = c.tell.auto.0 ∙ ap (λ (t : List ℕ). length t) (stopped-loop c).loop-access.invariant.2
+shape_of-answer-then-own-ne-DONE c = c.tell.auto.0 ∙ ap (λ (t : List ℕ). length t) (stopped-loop (goal.at.shape_of-answer-then-own-ne-DONE c).After-slice_known-then-own-ne-DONE-1).loop-access.invariant.2
 
 pub returns-then-own-ne-DONE : goal.returns-then-own-ne-DONE
 returns-then-own-ne-DONE c =
-    let l = looped c in
     let is = part_is c in
-    let (told, left) = stops (words l) (access l) (sdr1 l) (lent l) (of l) l.loop.further (reached l) (λ z. c.if-own-ne-DONE.true (ap (λ (p : Part). p.answer.result) is ∙ z)) in
-    tells (access l) (mask_ones (sdr1 l)) (lent l) (part_early (words l) (access l)) c.stopped-stopped.result _ (
+    let (told, left) = stops (words c) (access c) (sdr1 c) (lent c) (of c) c.loop-access.further (reached c) (λ z. c.if-own-ne-DONE.true (ap (λ (p : Part). p.answer.result) is ∙ z)) in
+    tells (access c) (mask_ones (sdr1 c)) (lent c) (part_early (words c) (access c)) c.stopped-stopped.result _ (
       c.stopped-stopped.ensures ∙ ap (λ (p : Part). stopped p.answer p.decision) is ∙ told,
-      ap₂ (λ (t d : List ℕ). (t, d)) l.loop.invariant.0 l.loop.invariant.1 ∙ left,
+      ap₂ (λ (t d : List ℕ). (t, d)) c.loop-access.invariant.0 c.loop-access.invariant.1 ∙ left,
     )
     _ _ c.tell.ensures
 
-abbrev part_at : goal.Else-own-ne-DONE → goal.After-part_of-part
-part_at c = c
-
 -- the part that was asked for is done
-part-done : (c : goal.Else-own-ne-DONE → (own (loop-at c) (loop-at c).loop-access.further).answer-1.result ≡ 0
-part-done c = sym (ap (λ (p : Part). p.answer.result) (part_is (part_at c))) ∙ c.if-own-ne-DONE.false
+part-done : (c : Else-own-ne-DONE → (own (loop-at c) (loop-at c).loop-access.further).answer-1.result ≡ 0
+part-done c = sym (ap (λ (p : Part). p.answer.result) (part_is c)) ∙ c.if-own-ne-DONE.false
 
-inside : (c : goal.At-loop-access (second : Bool) (p : Part) → p ≡ own c second → 64 * p.found.group + 64 ≤ length c.loop-access.table
+inside : (c : At-loop-access (second : Bool) (p : Part) → p ≡ own c second → 64 * p.found.group + 64 ≤ length c.loop-access.table
 inside c second p e =
     subst (λ (n : ℕ). 64 * p.found.group + 64 ≤ n) (sym (ap (λ (t : List ℕ). length t) c.loop-access.invariant.0))
     (subst (λ (q : Part). 64 * q.found.group + 64 ≤ length (lent c).0) (sym e) (own_inside (words c) (access c) (sdr1 c) (lent c) (of c) second))
 
 -- past the second test the part is the second, and the first is done
-module _ (c : goal.Then-further where
-  abbrev second-loop : goal.At-loop-access
+module _ (c : Then-further where
+  abbrev second-loop : At-loop-access
   second-loop = loop-at c
 
   over : over_edge (access second-loop).address (access second-loop).length ≡ true
@@ -150,8 +137,8 @@ module _ (c : goal.Then-further where
   first_done : (own second-loop false).answer-1.result ≡ 0
   first_done = (second-loop.loop.invariant.4 c.if-further.true).2
 
-  second_is : (part_at c).part_of-part.result ≡ own second-loop true
-  second_is = part_is (part_at c) ∙ ap (own second-loop) c.if-further.true
+  second_is : c.part_of-part.result ≡ own second-loop true
+  second_is = part_is c ∙ ap (own second-loop) c.if-further.true
 
   second-done : (own second-loop true).answer-1.result ≡ 0
   second-done = sym (ap (λ (p : Part). p.answer.result) second_is) ∙ c.if-own-ne-DONE.false
@@ -164,60 +151,50 @@ take-requires c =
     let l = second-loop c in
     (inside l false l.loop.first (first_is c), cache-right l)
 
-abbrev second_at : goal.After-take → goal.Then-further
-second_at c = c
-
-abbrev first_taken : goal.After-take-arg-then-further-3-1 → goal.After-take
-first_taken c = c
-
 pub take-requires-then-further : goal.take-requires-then-further
 take-requires-then-further c =
-    let at_take = first_taken c in
-    let then2 = second_at at_take in
+    let then2 = second_at c in
     let l = second-loop then2 in
     let p = (part_at then2).part_of-part.result in (
-      subst (λ (n : ℕ). 64 * p.found.group + 64 ≤ n) (sym at_take.take.kept.0) (inside l true p (second_is then2)),
-      subst (λ (n : ℕ). (n ≡ 2048 → ⊥) → n ≡ 0) (sym at_take.take.kept.1.0) (cache-right l),
+      subst (λ (n : ℕ). 64 * p.found.group + 64 ≤ n) (sym c.take.kept.0) (inside l true p (second_is then2)),
+      subst (λ (n : ℕ). (n ≡ 2048 → ⊥) → n ≡ 0) (sym c.take.kept.1.0) (cache-right l),
     )
 
-abbrev both-taken : goal.After-slice_known-then-further-4-1 → goal.After-take-then-further
-both-taken c = c
-
 -- the bytes in the first page
-bytes-are : (c : goal.At-loop-access → c.first_bytes-bytes.result ≡ first_bytes (access c).address (access c).length
+bytes-are : (c : At-loop-access → c.first_bytes-bytes.result ≡ first_bytes (access c).address (access c).length
 bytes-are c = c.first_bytes-bytes.ensures
 
 pub across_edge-both-requires : goal.across_edge-both-requires
 unfolding over_edge
 across_edge-both-requires c =
-    let then2 = second_at (first_taken (both-taken c)) in
+    let then2 = second_at (first_taken c) in
     let l = second-loop then2 in
     subst (λ (n : ℕ). n < (access l).length) (sym (bytes-are l)) (ltb-true _ _ (over then2))
 
 pub tell-requires-then-further : goal.tell-requires-then-further
 tell-requires-then-further c =
-    let then2 = second_at (first_taken (both-taken c)) in
+    let then2 = second_at (first_taken c) in
     answer-right (second-loop then2)
 
-abbrev take_at : goal.After-slice_known-then-further-5-1 → goal.After-take
+abbrev take_at : After-slice_known-then-further-5-1 → After-take
 take_at c = first_taken (take2-at c)
 
 pub shape_of-table-then-further : goal.shape_of-table-then-further
 shape_of-table-then-further c =
-    (take2-at c).take-then-further.auto.0 ∙ (take_at c).take.auto.0 ∙ ap (λ (t : List ℕ). length t) (second-loop (second_at (take_at c))).loop-access.invariant.0
+    (take2-at c).take-then-further.auto.0 ∙ (take_at (goal.at.shape_of-table-then-further c).After-slice_known-then-further-5-1).take.auto.0 ∙ ap (λ (t : List ℕ). length t) (second-loop (second_at (take_at (goal.at.shape_of-table-then-further c).After-slice_known-then-further-5-1))).loop-access.invariant.0
 
 pub shape_of-cache-then-further : goal.shape_of-cache-then-further
 shape_of-cache-then-further c =
-    (take2-at c).take-then-further.auto.1.0 ∙ (take_at c).take.auto.1.0 ∙ ap (λ (t : List ℕ). length t) (second-loop (second_at (take_at c))).loop-access.invariant.1
+    (take2-at c).take-then-further.auto.1.0 ∙ (take_at (goal.at.shape_of-cache-then-further c).After-slice_known-then-further-5-1).take.auto.1.0 ∙ ap (λ (t : List ℕ). length t) (second-loop (second_at (take_at (goal.at.shape_of-cache-then-further c).After-slice_known-then-further-5-1))).loop-access.invariant.1
 
 pub shape_of-answer-then-further : goal.shape_of-answer-then-further
 shape_of-answer-then-further c =
-    c.tell-then-further.auto.0 ∙ ap (λ (t : List ℕ). length t) (second-loop (second_at (take_at c))).loop-access.invariant.2
+    c.tell-then-further.auto.0 ∙ ap (λ (t : List ℕ). length t) (second-loop (second_at (take_at (goal.at.shape_of-answer-then-further c).After-slice_known-then-further-5-1))).loop-access.invariant.2
 
 pub returns-then-further : goal.returns-then-further
 returns-then-further c =
     let at-across = across-at c in
-    let then2 = second_at (take_at c) in
+    let then2 = second_at (take_at (goal.at.returns-then-further c).After-slice_known-then-further-5-1) in
     let l = second-loop then2 in
     let a = access l in
     let first = first_is then2 in
@@ -225,7 +202,7 @@ returns-then-further c =
     let (told, left) = two_parts (words l) a (sdr1 l) (lent l) (of l) (good l) (first_done then2) (over then2) (second-done then2) in
     let take : ℕ → Found → List ℕ × List ℕ → List ℕ × List ℕ = taken_by a.kind in
     let once : _ ≡ take (part_start a.address a.length false) (own l false).found (lent l) =
-    (take_at c).take.ensures
+    (take_at (goal.at.returns-then-further c).After-slice_known-then-further-5-1).take.ensures
     ∙ ap₂ (λ (t d : List ℕ). take a.address l.loop.first.found (t, d)) l.loop.invariant.0 l.loop.invariant.1
     ∙ ap₂ (λ (s : ℕ) (p : Part). take s p.found (lent l)) (sym (start_first a.address a.length)) first in
     tells a (mask_ones (sdr1 l)) (lent l) (part_early (words l) a) at-across.across-edge.result _ (
@@ -234,19 +211,19 @@ returns-then-further c =
           ∙ ap (λ (n : ℕ). across_edge (own l false).answer-1 (own l false).decision (own l true).answer-1 n a.length) (bytes-are l)
           ∙ told,
       (take2-at c).take-then-further.ensures
-          ∙ ap₂ (λ (s : ℕ) (p : Part). take s p.found ((take_at c).take.new.0, (take_at c).take.new.1.0)) (start_is then2) second
+          ∙ ap₂ (λ (s : ℕ) (p : Part). take s p.found ((take_at (goal.at.returns-then-further c).After-slice_known-then-further-5-1).take.new.0, (take_at (goal.at.returns-then-further c).After-slice_known-then-further-5-1).take.new.1.0)) (start_is then2) second
           ∙ ap (take (part_start a.address a.length true) (own l true).found) once
           ∙ left,
     )
     _ _ c.tell-then-further.ensures
 
 -- past it the part is the first
-module _ (c : goal.Else-further where
-  abbrev first-loop : goal.At-loop-access
+module _ (c : Else-further where
+  abbrev first-loop : At-loop-access
   first-loop = loop-at c
 
-  only-is : (part_at c).part_of-part.result ≡ own first-loop false
-  only-is = part_is (part_at c) ∙ ap (own first-loop) c.if-further.false
+  only-is : c.part_of-part.result ≡ own first-loop false
+  only-is = part_is c ∙ ap (own first-loop) c.if-further.false
 
   only-done : (own first-loop false).answer-1.result ≡ 0
   only-done = sym (ap (λ (p : Part). p.answer.result) only-is) ∙ c.if-own-ne-DONE.false
@@ -259,28 +236,21 @@ take-requires-then-access-bytes c =
     let l = first-loop c in
     (inside l false _ (only-is c), cache-right l)
 
-abbrev only-taken : goal.After-within-within → goal.After-take-then-access-bytes
-only-taken c = c
-
-abbrev only_at : goal.After-take-then-access-bytes → goal.Then-access-bytes
-only_at c = c
-
 pub tell-requires-then-access-bytes : goal.tell-requires-then-access-bytes
 tell-requires-then-access-bytes c =
-    let then3 = only_at (only-taken c) in
-    answer-right (first-loop then3)
+    answer-right (first-loop c)
 
-abbrev only-loop : goal.After-slice_known-then-access-bytes-3-1 → goal.At-loop-access
+abbrev only-loop : After-slice_known-then-access-bytes-3-1 → At-loop-access
 only-loop c = let then3 = only_at (only-taken (within-at c)) in first-loop then3
 
 pub shape_of-table-then-access-bytes : goal.shape_of-table-then-access-bytes
-shape_of-table-then-access-bytes c = (only-taken (within-at c)).take-then-access-bytes.kept.0 ∙ ap (λ (t : List ℕ). length t) (only-loop c).loop-access.invariant.0
+shape_of-table-then-access-bytes c = (only-taken (within-at c)).take-then-access-bytes.kept.0 ∙ ap (λ (t : List ℕ). length t) (only-loop (goal.at.shape_of-table-then-access-bytes c).After-slice_known-then-access-bytes-3-1).loop-access.invariant.0
 
 pub shape_of-cache-then-access-bytes : goal.shape_of-cache-then-access-bytes
-shape_of-cache-then-access-bytes c = (only-taken (within-at c)).take-then-access-bytes.kept.1.0 ∙ ap (λ (t : List ℕ). length t) (only-loop c).loop-access.invariant.1
+shape_of-cache-then-access-bytes c = (only-taken (within-at c)).take-then-access-bytes.kept.1.0 ∙ ap (λ (t : List ℕ). length t) (only-loop (goal.at.shape_of-cache-then-access-bytes c).After-slice_known-then-access-bytes-3-1).loop-access.invariant.1
 
 pub shape_of-answer-then-access-bytes : goal.shape_of-answer-then-access-bytes
-shape_of-answer-then-access-bytes c = c.tell-then-access-bytes.auto.0 ∙ ap (λ (t : List ℕ). length t) (only-loop c).loop-access.invariant.2
+shape_of-answer-then-access-bytes c = c.tell-then-access-bytes.auto.0 ∙ ap (λ (t : List ℕ). length t) (only-loop (goal.at.shape_of-answer-then-access-bytes c).After-slice_known-then-access-bytes-3-1).loop-access.invariant.2
 
 pub returns-then-access-bytes : goal.returns-then-access-bytes
 unfolding over_edge

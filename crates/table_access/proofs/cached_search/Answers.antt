@@ -21,39 +21,31 @@ use Rattle.table_access.specs.Part.{SearchTold}
 use Rattle.table_access.specs.declared.Found.{Found}
 use Rattle.table_access.proofs.Finds.{search_told, found_hit, found_table}
 use Rattle.table_access.proofs.cached_search.Goals as goal
+use Rattle.table_access.proofs.cached_search.Goals.{After-find-hit, After-in_secondary-told, After-locate-page, Joined-cache-eq-SIZE}
 
 pub locate-page-requires : goal.locate-page-requires
 locate-page-requires c = locatable _ (wanted_page c.args.wanted) c.requires.0 c.requires.1
 
-abbrev begin : goal.After-locate-page → goal.Start
-begin c = c
-
 -- the groups are the page's
-at : (c : goal.After-locate-page) (sdr1 : ℕ) → TableOf sdr1 (length (begin c).args.table.now)
-    → AtGroups sdr1 (wanted_page (begin c).args.wanted) (begin c).args.table.now c.locate-page.result
-at c sdr1 of = at_groups sdr1 _ _ _ of (begin c).requires.1 c.locate-page.ensures
-
-abbrev located-by : goal.After-find-hit → goal.After-locate-page
-located-by c = c
+at : (c : After-locate-page) (sdr1 : ℕ) → TableOf sdr1 (length c.args.table.now)
+    → AtGroups sdr1 (wanted_page c.args.wanted) c.args.table.now c.locate-page.result
+at c sdr1 of = at_groups sdr1 _ _ _ of c.requires.1 c.locate-page.ensures
 
 -- what the cache has of the page, by what it told
-of-hit : (c : goal.After-find-hit) (b : Bool) → c.find-hit.result.found ≡ b →
-    let a = (begin (located-by c)).args in
+of-hit : (c : After-find-hit) (b : Bool) → c.find-hit.result.found ≡ b →
+    let a = (begin c).args in
     let h = c.find-hit.result in
     hit (storing a.kind) a.cache.now (wanted_page a.wanted) ≡ cond b (some (h.first, h.second)) none
 of-hit c b e =
-    let a = (begin (located-by c)).args in
+    let a = (begin c).args in
     let h = c.find-hit.result in
     sym (c.find-hit.ensures ∙ ap (λ (store : Bool). hit store a.cache.now (wanted_page a.wanted)) c.is_IsStore.ensures)
     ∙ ap (λ (f : Bool). cond f (some (h.first, h.second)) none) e
 
-abbrev hit-by : goal.After-group → goal.After-find-hit
-hit-by c = c
-
 pub overflow_cast-result : goal.overflow_cast-result
 unfolding table_length
 overflow_cast-result c =
-    let at-locate = located-by (hit-by c) in
+    let at-locate = located-by c in
     let start = begin at-locate in
     let (sdr1, of) = start.requires.0 in
     let right = of.right in
@@ -62,49 +54,45 @@ overflow_cast-result c =
 
 pub returns-then-hit : goal.returns-then-hit
 returns-then-hit c sdr1 of =
-    let at-locate = located-by c in
-    let a = (begin at-locate).args in
+    let a = (begin c).args in
     let h = c.find-hit.result in
     let group : c.group.result ≡ group_number (10 + mask_ones sdr1) (eqb (bits 25 25 h.first) 1) (wanted_page a.wanted)
-    = group_is_law sdr1 _ _ _ (at at-locate sdr1 of) _ _ c.group.ensures
+    = group_is_law sdr1 _ _ _ (at (goal.at.returns-then-hit c).After-locate-page sdr1 of) _ _ c.group.ensures
     ∙ ap (λ (b : Bool). group_number (10 + mask_ones sdr1) b (wanted_page a.wanted)) c.is_secondary.ensures in
     let shown : ℕ → Found = λ g. record { any = true; differs = false; second = h.second; group = g; entry = 8 } in
     ap shown group
-    ∙ sym (found_hit (mask_ones sdr1) a.kind a.table.now a.cache.now a.wanted h.first h.second (of-hit c true c.if-hit.true))
+    ∙ sym (found_hit (mask_ones sdr1) a.kind a.table.now a.cache.now a.wanted h.first h.second (of-hit (goal.at.returns-then-hit c).After-find-hit true c.if-hit.true))
 
 pub in_primary-primary-requires : goal.in_primary-primary-requires
-in_primary-primary-requires c = let start = begin c in primary_asked _ start.args.table.now _ start.requires.0 start.requires.1 c.locate-page.ensures
+in_primary-primary-requires c = primary_asked _ c.args.table.now _ c.requires.0 c.requires.1 c.locate-page.ensures
 
 pub in_secondary-told-requires : goal.in_secondary-told-requires
-in_secondary-told-requires c = let start = begin c in secondary_asked _ start.args.table.now _ start.requires.0 start.requires.1 c.locate-page.ensures
+in_secondary-told-requires c = secondary_asked _ c.args.table.now _ c.requires.0 c.requires.1 c.locate-page.ensures
 
 -- what the search told of the page
-told_of : (c : goal.After-in_secondary-told) (sdr1 : ℕ) →
-    let a = (begin c).args in
+told_of : (c : After-in_secondary-told) (sdr1 : ℕ) →
+    let a = c.args in
     TableOf sdr1 (length a.table.now) → SearchTold sdr1 a.table.now a.wanted c.locate-page.result c.in_secondary-told.result
 told_of c sdr1 of =
-    let start = begin c in
-    search_told sdr1 start.args.table.now start.args.wanted _ _ _ of start.requires.1 c.locate-page.ensures c.in_primary-primary.ensures c.in_secondary-told.ensures
+    search_told sdr1 c.args.table.now c.args.wanted _ _ _ of c.requires.1 c.locate-page.ensures c.in_primary-primary.ensures c.in_secondary-told.ensures
 
 pub found_in-requires : goal.found_in-requires
 found_in-requires c =
-    let start = begin c in
-    let (sdr1, of) = start.requires.0 in
-    (sdr1, (start.args.table.now, (start.args.wanted, told_of c sdr1 of)))
+    let (sdr1, of) = c.requires.0 in
+    (sdr1, (c.args.table.now, (c.args.wanted, told_of (goal.at.found_in-requires c).After-in_secondary-told sdr1 of)))
 
 -- past the hit there is none: the cache has none, or none is lent
-missing : (c : goal.Joined-cache-eq-SIZE) →
-    let a = (begin c).args in
+missing : (c : Joined-cache-eq-SIZE) →
+    let a = c.args in
     hit (storing a.kind) a.cache.now (wanted_page a.wanted) ≡ none
 missing c =
-    let start = begin c in
-    let a = start.args in
+    let a = c.args in
     ⊎_elim
     (λ w. of-hit (record { before = record { before = record { before = c; if1 = w.0 }; is_IsStore = w.1 }; find = w.2 }) false w.3.left)
-    (λ w. ap (λ (d : List ℕ). hit (storing a.kind) d (wanted_page a.wanted)) (no_bytes _ (start.requires.2 w.left)) ∙ never_hit _ _) c.if-cache-eq-SIZE.branch
+    (λ w. ap (λ (d : List ℕ). hit (storing a.kind) d (wanted_page a.wanted)) (no_bytes _ (c.requires.2 w.left)) ∙ never_hit _ _) c.if-cache-eq-SIZE.branch
 
 pub returns : goal.returns
 returns c sdr1 of =
-    let a = (begin c).args in
-    c.found_in.ensures sdr1 a.table.now a.wanted (told_of c sdr1 of)
-    ∙ sym (found_table (mask_ones sdr1) a.kind a.table.now a.cache.now a.wanted (missing c))
+    let a = c.args in
+    c.found_in.ensures sdr1 a.table.now a.wanted (told_of (goal.at.returns c).After-in_secondary-told sdr1 of)
+    ∙ sym (found_table (mask_ones sdr1) a.kind a.table.now a.cache.now a.wanted (missing (goal.at.returns c).Joined-cache-eq-SIZE))

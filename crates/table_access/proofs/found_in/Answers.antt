@@ -61,35 +61,30 @@ returns-then-not-any c sdr1 t wanted is =
     c.nothing.ensures
     ∙ sym (in_none (mask_ones sdr1) t wanted (none-are a.page a.told sdr1 t wanted is c.any.result c.any.ensures (not-true _ c.if-not-any.true)))
 
-abbrev begin : goal.Else-not-any → goal.Start
-begin c = c
-
 pub overflow_cast-result : goal.overflow_cast-result
 unfolding table_length
 overflow_cast-result c =
-    let start = begin c in
-    let (sdr1, rest) = start.requires in
+    let (sdr1, rest) = c.requires in
     let (t, further) = rest in
     let (wanted, is) = further in
     let right = is.0.right in
-    let own = group_of start.args.page start.args.told sdr1 t wanted is c.in_secondary.result c.group.result c.group.ensures in
+    let own = group_of c.args.page c.args.told sdr1 t wanted is c.in_secondary.result c.group.result c.group.ensures in
     let within = inside sdr1 t wanted is.0 c.in_secondary.result in
     record { fits = omega arith }
 
 pub overflow_cast-result-2 : goal.overflow_cast-result-2
 overflow_cast-result-2 c =
-    let start = begin c in
-    let (sdr1, rest) = start.requires in
+    let (sdr1, rest) = c.requires in
     let (t, further) = rest in
     let (wanted, is) = further in
-    let a = start.args in
+    let a = c.args in
     by_first a.page a.told sdr1 t wanted is _ c.any.result c.any.ensures (not-false _ c.if-not-any.false)
     (λ x xs e. let own = c.entry.ensures x xs is.2.0 (tells a.page a.told sdr1 t wanted is x xs e) in record { fits = omega arith })
 
 pub returns : goal.returns
 unfolding table_found
 returns c sdr1 t wanted is =
-    let a = (begin c).args in
+    let a = c.args in
     let k = mask_ones sdr1 in
     let free = is.2.0 in
     let shown : Bool → ℕ → ℕ → ℕ → Found = λ d w g i. record { any = true; differs = d; second = w; group = g; entry = i } in

@@ -11,16 +11,10 @@ use Rattle.registers.specs.Set.{is_long, block_pairs, sdr1_of, register_words}
 use Rattle.theory_calls.proofs.Access as rules
 use Rattle.theory_calls.proofs.Pages.{sdr1_set}
 use Rattle.table_access.proofs.refusal.Goals as goal
-
-abbrev begin : goal.After-struct_known-2-1 → goal.Start
-begin c = c
-
--- the arguments are in range
-abbrev in_range_law : goal.After-struct_known-4-1 → goal.Else-not-access
-in_range_law c = c
+use Rattle.table_access.proofs.refusal.Goals.{After-table_length, Start}
 
 -- the page's own limits
-module _ (c : goal.Start) where
+module _ (c : Start) where
   abbrev registers : List ℕ
   registers = c.args.registers.now
 
@@ -32,47 +26,42 @@ module _ (c : goal.Start) where
 
 pub returns-then-not-access : goal.returns-then-not-access
 returns-then-not-access c =
-    let start = begin c in
-    let a = start.args in
-    sym (rules.then_range (pairs start) (width start) (register_words (registers start)) a.access.mode a.access.kind a.access.length a.lent (not-true _ c.if-not-access.true))
+    let a = c.args in
+    sym (rules.then_range (pairs (goal.at.returns-then-not-access c).Start) (width (goal.at.returns-then-not-access c).Start) (register_words (registers (goal.at.returns-then-not-access c).Start)) a.access.mode a.access.kind a.access.length a.lent (not-true _ c.if-not-access.true))
 
 pub returns-then-not-access-2 : goal.returns-then-not-access-2
 returns-then-not-access-2 c =
-    let else1 = in_range_law c in
-    let start = begin else1 in
+    let start = begin c in
     let a = start.args in
     sym (rules.then_operand (pairs start) (width start) (register_words (registers start)) a.access.mode a.access.kind a.access.length a.lent
-    (not-false _ else1.if1.left) (not-true _ c.if-not-access-2.true))
+    (not-false _ c.if-not-access.left) (not-true _ c.if-not-access-2.true))
 
 pub returns-then-broken-ne-DONE : goal.returns-then-broken-ne-DONE
 returns-then-broken-ne-DONE c =
-    let else1 = in_range_law c in
-    let start = begin else1 in
+    let start = begin c in
     let a = start.args in
     let told = c.check-broken.ensures in
     told ∙ sym (rules.then_check (pairs start) (width start) (register_words (registers start)) a.access.mode a.access.kind a.access.length a.lent
-    (not-false _ else1.if1.left) (not-false _ c.if-not-access-2.false) (λ z. c.if-broken-ne-DONE.true (told ∙ z)))
+    (not-false _ c.if-not-access.left) (not-false _ c.if-not-access-2.false) (λ z. c.if-broken-ne-DONE.true (told ∙ z)))
 
 -- the length that is asked for is that of the page's SDR1
-length_is : (c : goal.After-table_length) →
-    let start = begin (in_range_law c) in
+length_is : (c : After-table_length) →
+    let start = begin c in
     c.table_length.result ≡ table_length (sdr1_of (register_words (registers start)))
 length_is c =
-    let start = begin (in_range_law c) in
+    let start = begin c in
     c.table_length.ensures ∙ ap table_length (c.sdr1.ensures ∙ sdr1_set (registers start) start.requires)
 
 pub returns-then-lent-table_length : goal.returns-then-lent-table_length
 returns-then-lent-table_length c =
-    let else1 = in_range_law c in
-    let start = begin else1 in
+    let start = begin c in
     let a = start.args in
     sym (rules.then_length (pairs start) (width start) (register_words (registers start)) a.access.mode a.access.kind a.access.length a.lent
-    (not-false _ else1.if1.left) (not-false _ c.if-not-access-2.false) (sym c.check-broken.ensures ∙ c.if-broken-ne-DONE.false) (λ e. c.if-lent-table_length.true (e ∙ sym (length_is c))))
+    (not-false _ c.if-not-access.left) (not-false _ c.if-not-access-2.false) (sym c.check-broken.ensures ∙ c.if-broken-ne-DONE.false) (λ e. c.if-lent-table_length.true (e ∙ sym (length_is (goal.at.returns-then-lent-table_length c).After-table_length))))
 
 pub returns : goal.returns
 returns c =
-    let else1 = in_range_law c in
-    let start = begin else1 in
+    let start = begin c in
     let a = start.args in
     sym (rules.then_none (pairs start) (width start) (register_words (registers start)) a.access.mode a.access.kind a.access.length a.lent
-    (not-false _ else1.if1.left) (not-false _ c.if-not-access-2.false) (sym c.check-broken.ensures ∙ c.if-broken-ne-DONE.false) (c.if-lent-table_length.false ∙ length_is c))
+    (not-false _ c.if-not-access.left) (not-false _ c.if-not-access-2.false) (sym c.check-broken.ensures ∙ c.if-broken-ne-DONE.false) (c.if-lent-table_length.false ∙ length_is (goal.at.returns c).After-table_length))

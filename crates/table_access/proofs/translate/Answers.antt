@@ -25,73 +25,60 @@ use Rattle.table_access.specs.Part.{call_of, part_early, EndsAs}
 use Rattle.table_access.proofs.Operands.{tells}
 use Rattle.table_access.proofs.Calls.{own_rules, cached_refused, real_comes, right_table, cached_ends, uncached_ends}
 use Rattle.table_access.proofs.translate.Goals as goal
+use Rattle.table_access.proofs.translate.Goals.{Else-number-ne-DONE, Start}
 
-abbrev begin : goal.After-refusal-number → goal.Start
-begin c = c
-
-abbrev lent : goal.Start → List ℕ × List ℕ
+abbrev lent : Start → List ℕ × List ℕ
 lent c = (c.args.table.now, c.args.cache.now)
 
 pub returns-then-number-ne-DONE : goal.returns-then-number-ne-DONE
 returns-then-number-ne-DONE c =
-    let start = begin c in
-    let a = start.args in
+    let a = c.args in
     let number = c.refusal-number.result in
     let told : c.stopped-stopped.result ≡ stopped (refused_answer number) (decided 0 0) =
     c.stopped-stopped.ensures ∙ ap₂ (λ (x : Answer) (d : Decision). stopped x d) c.refused_answer-refused.ensures c.decided-none.ensures in
     let result = c.tell.ensures.0 ∙ ap (λ (x : OperandAnswer). x.part.result) told in
     let written = c.tell.ensures.1 ∙ ap access_answer told in
     let call = call_of a.registers.now a.asked a.answer.now in (
-      λ right. ap₂ (λ (n : ℕ) (bytes : List ℕ). ended n (lent start) bytes) result written
-          ∙ sym (cached_refused call (lent start) right start.requires.0 start.requires.2 number c.refusal-number.ensures c.if-number-ne-DONE.true),
+      λ right. ap₂ (λ (n : ℕ) (bytes : List ℕ). ended n (lent (goal.at.returns-then-number-ne-DONE c).Start) bytes) result written
+          ∙ sym (cached_refused call (lent (goal.at.returns-then-number-ne-DONE c).Start) right c.requires.0 c.requires.2 number c.refusal-number.ensures c.if-number-ne-DONE.true),
       λ empty. ap₂ (λ (n : ℕ) (bytes : List ℕ). ended n a.table.now bytes) result written
-          ∙ sym (access_refused call a.table.now start.requires.0 start.requires.2 number c.refusal-number.ensures c.if-number-ne-DONE.true),
+          ∙ sym (access_refused call a.table.now c.requires.0 c.requires.2 number c.refusal-number.ensures c.if-number-ne-DONE.true),
     )
 
 -- past the refusals the rules are kept
-kept : (c : goal.Else-number-ne-DONE) → let start = begin c in first_broken (own_rules start.args.registers.now start.args.asked (length start.args.table.now)) ≡ 0
+kept : (c : Else-number-ne-DONE) → first_broken (own_rules c.args.registers.now c.args.asked (length c.args.table.now)) ≡ 0
 kept c = sym c.refusal-number.ensures ∙ c.if-number-ne-DONE.false
 
 -- what an operand ends with is what the call does
-ends : (c : goal.Else-number-ne-DONE) (r : ℕ) (left : List ℕ × List ℕ) (written : List ℕ) →
-    let start = begin c in
-    let a = start.args in
+ends : (c : Else-number-ne-DONE) (r : ℕ) (left : List ℕ × List ℕ) (written : List ℕ) →
+    let a = c.args in
     let words = set_words a.registers.now in
     let call = call_of a.registers.now a.asked a.answer.now in
-    EndsAs a.asked (mask_ones (sdr1_of words)) (lent start) (part_early words a.asked) r left written
-    → (length a.cache.now ≡ 2048 → ended r left written ≡ on_cached call (lent start)) × (length a.cache.now ≡ 0 → ended r left.0 written ≡ on_bytes (access call) a.table.now)
+    EndsAs a.asked (mask_ones (sdr1_of words)) (lent c) (part_early words a.asked) r left written
+    → (length a.cache.now ≡ 2048 → ended r left written ≡ on_cached call (lent c)) × (length a.cache.now ≡ 0 → ended r left.0 written ≡ on_bytes (access call) a.table.now)
 ends c r left written e =
-    let start = begin c in
-    let a = start.args in (
-      λ right. cached_ends a.registers.now a.asked (lent start) start.requires.0 (kept c) r left a.answer.now written start.requires.2 e right,
-      λ empty. uncached_ends a.registers.now a.asked (lent start) start.requires.0 (kept c) r left a.answer.now written start.requires.2 e empty,
+    let a = c.args in (
+      λ right. cached_ends a.registers.now a.asked (lent c) c.requires.0 (kept c) r left a.answer.now written c.requires.2 e right,
+      λ empty. uncached_ends a.registers.now a.asked (lent c) c.requires.0 (kept c) r left a.answer.now written c.requires.2 e empty,
     )
 
 pub returns-then-not-is_relocated : goal.returns-then-not-is_relocated
 returns-then-not-is_relocated c =
-    let start = begin c in
-    let a = start.args in
+    let a = c.args in
     let words = set_words a.registers.now in
     let k = mask_ones (sdr1_of words) in
     let off = sym c.is_relocated.ensures ∙ not-true _ c.if-not-is_relocated.true in
-    ends c _ (lent start) _
-    (tells a.asked k (lent start) (part_early words a.asked) c.untranslated-real.result (lent start)
-    (real_comes words a.asked k (lent start) c.untranslated-real.result off (c.untranslated-real.ensures a.asked.kind)) _ _ c.tell-then-not-is_relocated.ensures)
-
-abbrev parts_at : goal.After-by_parts-arg-3-1 → goal.Else-not-is_relocated
-parts_at c = c
+    ends (goal.at.returns-then-not-is_relocated c).Else-number-ne-DONE _ (lent (goal.at.returns-then-not-is_relocated c).Start) _
+    (tells a.asked k (lent (goal.at.returns-then-not-is_relocated c).Start) (part_early words a.asked) c.untranslated-real.result (lent (goal.at.returns-then-not-is_relocated c).Start)
+    (real_comes words a.asked k (lent (goal.at.returns-then-not-is_relocated c).Start) c.untranslated-real.result off (c.untranslated-real.ensures a.asked.kind)) _ _ c.tell-then-not-is_relocated.ensures)
 
 pub by_parts-requires : goal.by_parts-requires
 by_parts-requires c =
-    let else2 = parts_at c in
-    let at-relocated = else2 in
-    let else1 = at-relocated in
-    let start = begin else1 in
+    let start = begin c in
     let a = start.args in
-    let on = sym at-relocated.is-relocated.ensures ∙ not-false _ else2.if2.left in
-    ((start.requires.0, right_table a.registers.now a.asked (lent start) start.requires.0 (kept else1)), start.requires.1, on, start.requires.2)
+    let on = sym c.is_relocated.ensures ∙ not-false _ c.if-not-is_relocated.left in
+    ((start.requires.0, right_table a.registers.now a.asked (lent start) start.requires.0 (kept (goal.at.by_parts-requires c).Else-number-ne-DONE)), start.requires.1, on, start.requires.2)
 
 pub returns : goal.returns
 returns c =
-    let else2 = parts_at c in
-    ends else2 _ _ _ c.by_parts.ensures
+    ends (goal.at.returns c).Else-number-ne-DONE _ _ _ c.by_parts.ensures

@@ -13,6 +13,7 @@ use Rattle.translation.specs.declared.Outcome.TheVariants.{Real}
 use Rattle.translation.proofs.Parts.{start_first, start_second, one_done, both_done}
 use Rattle.table_access.specs.declared.Part.{Part}
 use Rattle.table_access.proofs.untranslated.Goals as goal
+use Rattle.table_access.proofs.untranslated.Goals.{After-real_part-first}
 
 -- what a part answers in real mode, and what decides it
 abbrev real : ℕ → ℕ → ℕ → Bool → Answer
@@ -26,7 +27,7 @@ unfolding answer_of
 real-done address length kind second = refl
 
 -- the first part's answer and what decided it
-first_is : (c : goal.After-real_part-first) (kind : ℕ) →
+first_is : (c : After-real_part-first) (kind : ℕ) →
     let a = c.args in
     (c.real_part-first.result.answer ≡ real a.address a.length kind false) × (c.real_part-first.result.decision ≡ rule false)
 first_is c kind =
@@ -42,7 +43,7 @@ returns-then-bytes-length c kind =
     let over = lt-ltb (first_bytes a.address a.length) a.length (rw bytes at c.if-bytes-length.true) in
     let behind = c.next_start.ensures ∙ ap (λ (n : ℕ). (a.address + n) % 2 ^ 32) bytes ∙ sym (start_second a.address a.length) in
     let second = ap (λ (p : Part). p.answer) (c.real_part-second.ensures kind) ∙ ap (λ (s : ℕ). answer_of kind s Real) behind in
-    let (answer, decides) = first_is c kind in
+    let (answer, decides) = first_is (goal.at.returns-then-bytes-length c).After-real_part-first kind in
     c.across_edge.ensures
     ∙ ap₂ (λ (x y : Answer). across_edge x c.real_part-first.result.decision y c.first_bytes-bytes.result a.length) answer second
     ∙ ap₂ (λ (d : Decision) (n : ℕ). across_edge (real a.address a.length kind false) d (real a.address a.length kind true) n a.length) decides bytes
@@ -54,7 +55,7 @@ returns c kind =
     let a = c.args in
     let bytes = c.first_bytes-bytes.ensures in
     let one = le-ltb (first_bytes a.address a.length) a.length (rw bytes at c.if-bytes-length.false) in
-    let (answer, decides) = first_is c kind in
+    let (answer, decides) = first_is (goal.at.returns c).After-real_part-first kind in
     c.within.ensures
     ∙ ap₂ (λ (x : Answer) (d : Decision). within x d a.length) answer decides
     ∙ sym (one_done a.address a.length (real a.address a.length kind) rule (real-done a.address a.length kind false) one)

@@ -9,13 +9,11 @@ use Rattle.registers.specs.Set.{is_page}
 use Rattle.words.proofs.Tests.{both}
 use Rattle.theory_calls.proofs.Access.{access_wrong_length}
 use Rattle.mmu.proofs.access.mmu_access.Goals as goal
-
-abbrev begin : goal.After-is_page → goal.Start
-begin c = c
+use Rattle.mmu.proofs.access.mmu_access.Goals.{Else-not-is_page-answer}
 
 -- past the refusal of a length both lengths are right
-lengths : (c : goal.Else-not-is_page-answer) →
-    let a = (begin c).args in
+lengths : (c : Else-not-is_page-answer) →
+    let a = c.args in
     (is_page (length a.registers.now) ≡ true) × (length a.answer.now ≡ 48)
 lengths c =
     let right = both _ _ (not-false _ c.if-not-is_page-answer.false) in
@@ -23,13 +21,13 @@ lengths c =
 
 pub returns-then-not-is_page-answer : goal.returns-then-not-is_page-answer
 returns-then-not-is_page-answer c =
-    let a = (begin c).args in
+    let a = c.args in
     sym
     (access_wrong_length (record { registers = a.registers.now; mode = a.mode; kind = a.kind; address = a.address; length = a.length; answer = a.answer.now }) a.table.now
     (ap (λ (b : Bool). b && eqb (length a.answer.now) 48) (sym c.is_page.ensures) ∙ not-true _ c.if-not-is_page-answer.true))
 
 pub translate-requires : goal.translate-requires
-translate-requires c = let (page, answer) = lengths c in (page, λ other. refl, answer)
+translate-requires c = let (page, answer) = lengths (goal.at.translate-requires c).Else-not-is_page-answer in (page, λ other. refl, answer)
 
 pub returns : goal.returns
 returns c =

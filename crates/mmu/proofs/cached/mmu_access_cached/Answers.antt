@@ -14,13 +14,11 @@ use Rattle.theory_calls.specs.OnBytes.{ended}
 use Rattle.theory_cache.specs.Cached.{on_cached}
 use Rattle.table_access.proofs.Calls.{cache_wrong_length, wrong_length}
 use Rattle.mmu.proofs.cached.mmu_access_cached.Goals as goal
-
-abbrev begin : goal.After-is_page → goal.Start
-begin c = c
+use Rattle.mmu.proofs.cached.mmu_access_cached.Goals.{Else-not-lent-cache}
 
 -- past the refusal of a length all three lengths are right
-lengths : (c : goal.Else-not-lent-cache) →
-    let a = (begin c).args in
+lengths : (c : Else-not-lent-cache) →
+    let a = c.args in
     (is_page (length a.registers.now) ≡ true) × (length a.answer.now ≡ 48) × (length a.cache.now ≡ 2048)
 lengths c =
     let right = both _ _ (not-false _ c.if-not-lent-cache.false) in
@@ -40,14 +38,14 @@ one-wrong c lent wrong = go (eqb (length lent.1) 2048) refl (is_page (length c.r
 
 pub returns-then-not-lent-cache : goal.returns-then-not-lent-cache
 returns-then-not-lent-cache c =
-    let a = (begin c).args in
+    let a = c.args in
     sym
     (one-wrong (record { registers = a.registers.now; mode = a.mode; kind = a.kind; address = a.address; length = a.length; answer = a.answer.now }) (a.table.now, a.cache.now)
     (ap (λ (b : Bool). (b && eqb (length a.answer.now) 48) && eqb (length a.cache.now) 2048) (sym c.is_page.ensures) ∙ not-true _ c.if-not-lent-cache.true))
 
 pub translate-requires : goal.translate-requires
-translate-requires c = let (page, answer, cache) = lengths c in (page, λ other. absurd (other cache), answer)
+translate-requires c = let (page, answer, cache) = lengths (goal.at.translate-requires c).Else-not-lent-cache in (page, λ other. absurd (other cache), answer)
 
 pub returns : goal.returns
 returns c =
-    c.translate.ensures.0 (lengths c).2
+    c.translate.ensures.0 (lengths (goal.at.returns c).Else-not-lent-cache).2

@@ -16,85 +16,84 @@ use Rattle.register_pages.specs.Replace.{page_replaced}
 use Rattle.register_pages.proofs.Replace.{page_most, number_fits, put_right, put_replaced, put_past, put_back, take_with}
 use borrow.Author.Rules.{rules}
 use Rattle.register_pages.proofs.Set.with_word.Goals as goal
+use Rattle.register_pages.proofs.Set.with_word.Goals.{After-check-result, After-count_of, After-read_word-old, After-write_word, Else-number-count_of}
 
 -- the page that the set holds
-module _ (c : goal.After-count_of) where
-  abbrev begin : goal.Start
-  begin = c
+module _ (c : After-count_of) where
 
   abbrev bytes : List ℕ
-  bytes = begin.args.self.bytes
+  bytes = c.args.self.bytes
 
   abbrev size : ℕ
-  size = begin.args.self.size
+  size = c.args.self.size
 
   abbrev page : List ℕ
   page = take size bytes
 
   abbrev at : ℕ
-  at = 4 * begin.args.number
+  at = 4 * c.args.number
 
   most : size ≤ length bytes
-  most = let room = begin.requires.room in omega (arith, page_most size begin.requires.page)
+  most = let room = c.requires.room in omega (arith, page_most size c.requires.page)
 
   page_length : length page ≡ size
   page_length = length-take-le size bytes most
 
   right : is_page (length page) ≡ true
-  right = ap is_page page_length ∙ begin.requires.page
+  right = ap is_page page_length ∙ c.requires.page
 
   count : register_count (is_long (length page)) ≡ c.count_of.result
   count = ap (λ (n : ℕ). register_count (is_long n)) page_length ∙ sym c.count_of.ensures
 
   -- past the test the word lies on the page
-  module _ (own : begin.args.number < c.count_of.result) where
-    own-number : begin.args.number < register_count (is_long (length page))
+  module _ (own : c.args.number < c.count_of.result) where
+    own-number : c.args.number < register_count (is_long (length page))
     own-number = rw count own
 
     on-page : at + 4 ≤ size
-    on-page = omega (arith, number_fits page right begin.args.number own-number, page_length)
+    on-page = omega (arith, number_fits page right c.args.number own-number, page_length)
 
     on-bytes : at + 4 ≤ length bytes
     on-bytes = omega (arith, on-page, most)
 
     abbrev put : List ℕ
-    put = with_word page at begin.args.word
+    put = with_word page at c.args.word
 
-    put_is : (new : List ℕ) → new ≡ with_word bytes at begin.args.word → take size new ≡ put
-    put_is new e = ap (take size) e ∙ take_with bytes at begin.args.word size on-page
+    put_is : (new : List ℕ) → new ≡ with_word bytes at c.args.word → take size new ≡ put
+    put_is new e = ap (take size) e ∙ take_with bytes at c.args.word size on-page
 
     abbrev checked : ℕ
     checked = check_words (block_pairs (is_long (length put))) (bl_width (is_long (length put))) (register_words put)
 
-    is-replaced : page_replaced page begin.args.number begin.args.word ≡ (checked, cond (eqb checked 0) put page)
-    is-replaced = put_replaced page right begin.args.number own-number begin.args.word begin.fits.word.fits
+    is-replaced : page_replaced page c.args.number c.args.word ≡ (checked, cond (eqb checked 0) put page)
+    is-replaced = put_replaced page right c.args.number own-number c.args.word c.fits.word.fits
 
 pub returns-then-number-count_of : goal.returns-then-number-count_of
-returns-then-number-count_of c = sym (put_past (page c) (begin c).args.number (begin c).args.word (rw (count c) c.if-number-count_of.true))
+returns-then-number-count_of c = sym (put_past (page (goal.at.returns-then-number-count_of c).After-count_of) c.args.number c.args.word (rw (count (goal.at.returns-then-number-count_of c).After-count_of) c.if-number-count_of.true))
 
 pub read_word-old-requires : goal.read_word-old-requires
 read_word-old-requires c = on-bytes c c.if-number-count_of.false
 
 -- past the test of the number, from where the old word was read
-abbrev tested : goal.After-read_word-old → goal.Else-number-count_of
+abbrev tested : After-read_word-old → Else-number-count_of
 tested r = r
 
 pub write_word-requires : goal.write_word-requires
-write_word-requires c = let e = tested c in on-bytes e e.if1.left
+write_word-requires c = let e = tested (goal.at.write_word-requires c).After-read_word-old in on-bytes e e.if1.left
 
 -- the bytes with the word put in
-module _ (w : goal.After-write_word) where
-  abbrev past : goal.Else-number-count_of
+module _ (w : After-write_word) where
+  abbrev past : Else-number-count_of
   past = tested w
 
-  abbrev held : goal.After-count_of
+  abbrev held : After-count_of
   held = past
 
   abbrev new : List ℕ
   new = w.write_word.last.0
 
   new-length : length new ≡ length (bytes held)
-  new-length = ap length w.write_word.ensures ∙ length_with_word (bytes held) (at held) (begin held).args.word
+  new-length = ap length w.write_word.ensures ∙ length_with_word (bytes held) (at held) (c held).args.word
 
   new-page : take (size held) new ≡ put held past.if1.left
   new-page = put_is held past.if1.left new w.write_word.ensures
@@ -102,44 +101,36 @@ module _ (w : goal.After-write_word) where
   lent-page : take (size held - 0) new ≡ put held past.if1.left
   lent-page = let whole : size held - 0 ≡ size held = omega arith in ap (λ (n : ℕ). take n new) whole ∙ new-page
 
--- where the word was put in, from where the bytes are lent to the check
-abbrev changed : goal.After-check-arg-1 → goal.After-write_word
-changed c = c
-
 -- what the check of them answered
-result_is : (c : goal.After-check-result) → let w = changed c in c.check-result.result ≡ checked (held w) (past w).if-number-count_of.left
+result_is : (c : After-check-result) → c.check-result.result ≡ checked (held c) (past c).if-number-count_of.left
 result_is c =
-    let w = changed c in
     c.check-result.ensures
-    ∙ ap (λ (p : List ℕ). check_words (block_pairs (is_long (length p))) (bl_width (is_long (length p))) (register_words p)) (lent-page w)
+    ∙ ap (λ (p : List ℕ). check_words (block_pairs (is_long (length p))) (bl_width (is_long (length p))) (register_words p)) (lent-page c)
 
 pub check-result-requires : goal.check-result-requires
 check-result-requires c =
-    let w = changed c in
-    ap (λ (p : List ℕ). is_page (length p)) (lent-page w) ∙ put_right (page (held w)) (right (held w)) (at (held w)) (begin (held w)).args.word
+    ap (λ (p : List ℕ). is_page (length p)) (lent-page c) ∙ put_right (page (held c)) (right (held c)) (at (held c)) (c (held c)).args.word
 
 pub write_word-requires-then-result-ne-DONE : goal.write_word-requires-then-result-ne-DONE
-write_word-requires-then-result-ne-DONE c = let w = changed c in omega (arith, new-length w, on-bytes (held w) (past w).if-number-count_of.left)
+write_word-requires-then-result-ne-DONE c = omega (arith, new-length c, on-bytes (held c) (past c).if-number-count_of.left)
 
 pub returns-then-result-ne-DONE : goal.returns-then-result-ne-DONE
 returns-then-result-ne-DONE c =
-    let w = changed c in
-    let h = held w in
-    let own = (past w).if-number-count_of.left in
+    let h = held c in
+    let own = (past c).if-number-count_of.left in
     let old : c.write_word-then-result-ne-DONE.new.0 ≡ bytes h =
     c.write_word-then-result-ne-DONE.ensures
-    ∙ ap₂ (λ (s : List ℕ) (v : ℕ). with_word s (at h) v) w.write_word.ensures w.read_word.ensures
-    ∙ put_back (bytes h) (at h) (begin h).args.word (begin h).requires.bytes (on-bytes h own) in
-    ap₂ (λ (r : ℕ) (p : List ℕ). (r, p)) (result_is c) (ap (take (size h)) old)
-    ∙ sym (is-replaced h own ∙ ap (λ (t : Bool). (checked h own, cond t (put h own) (page h))) (ne_eqb (checked h own) 0 (λ z. c.if-result-ne-DONE.true (result_is c ∙ z))))
+    ∙ ap₂ (λ (s : List ℕ) (v : ℕ). with_word s (at h) v) c.write_word.ensures c.read_word-old.ensures
+    ∙ put_back (bytes h) (at h) (c h).args.word (c h).requires.bytes (on-bytes h own) in
+    ap₂ (λ (r : ℕ) (p : List ℕ). (r, p)) (result_is (goal.at.returns-then-result-ne-DONE c).After-check-result) (ap (take (size h)) old)
+    ∙ sym (is-replaced h own ∙ ap (λ (t : Bool). (checked h own, cond t (put h own) (page h))) (ne_eqb (checked h own) 0 (λ z. c.if-result-ne-DONE.true (result_is (goal.at.returns-then-result-ne-DONE c).After-check-result ∙ z))))
 
 pub returns-else-result-ne-DONE : goal.returns-else-result-ne-DONE
 returns-else-result-ne-DONE c =
-    let w = changed c in
-    let h = held w in
-    let own = (past w).if-number-count_of.left in
-    ap₂ (λ (r : ℕ) (p : List ℕ). (r, p)) (result_is c) (new-page w)
-    ∙ sym (is-replaced h own ∙ ap (λ (t : Bool). (checked h own, cond t (put h own) (page h))) (eq-eqb (checked h own) 0 (sym (result_is c) ∙ c.if-result-ne-DONE.false)))
+    let h = held c in
+    let own = (past c).if-number-count_of.left in
+    ap₂ (λ (r : ℕ) (p : List ℕ). (r, p)) (result_is (goal.at.returns-else-result-ne-DONE c).After-check-result) (new-page c)
+    ∙ sym (is-replaced h own ∙ ap (λ (t : Bool). (checked h own, cond t (put h own) (page h))) (eq-eqb (checked h own) 0 (sym (result_is (goal.at.returns-else-result-ne-DONE c).After-check-result) ∙ c.if-result-ne-DONE.false)))
 
 -- LEFT no goal today for slice-bounds-check-end:
 -- LEFT      omega (arith, new-length c, most (held c))

@@ -1,15 +1,15 @@
 -- The check answers 0 exactly where the set is good: each rule that is kept says its part, and two blocks of right shape that clash would cover one
 -- address for one privilege.
-use Prim.Native.Nat.{ℕ, ◌+◌, ◌-◌, ◌*◌, ◌/◌, ◌%◌, ◌^◌, ◌≤◌, ◌<◌}
-use mathlib.Core.Bool.{Bool, true, false, cond, not, ◌&&◌, ◌||◌, true≢false}
+use Prim.Native.Nat.{ℕ, ◌+◌, ◌-◌, ◌/◌, ◌%◌, ◌^◌, ◌≤◌, ◌<◌}
+use mathlib.Core.Bool.{Bool, true, false, not, ◌&&◌, true≢false}
 use mathlib.Core.List.{List}
 use mathlib.Core.Logic.{◌↔◌}
 use mathlib.Core.Path.{◌≡◌, sym, ap, ◌∙◌, subst}
 use native.Mathlib.Omega.{arith}
 use lib.Bits.{bit_and, and_mask, and_step, and_le_l, and_le_r}
-use lib.Dec.{eqb, ltb, lit≤}
+use lib.Dec.{eqb, lit≤}
 use lib.ListN.{set}
-use lib.Pow.{mod-mod-pow, pow_mono}
+use lib.Pow.{mod-mod-pow}
 use borrow.Author.Tests.{eqb-true, eqb-false, eq-eqb, ne_eqb, lt-ltb}
 use Rattle.words.specs.Ones.{low_ones}
 use Rattle.words.proofs.Below.{every_at, every_all}
@@ -17,7 +17,7 @@ use Rattle.words.specs.Bits.{bits}
 use Rattle.words.proofs.Tests.{both, by_test}
 use Rattle.register_words.specs.Sdr1.{origin_of, mask_of, sdr1_shape, mask_ones}
 use Rattle.register_words.specs.Segment.{segment_shape}
-use Rattle.register_words.specs.Block.{bl_width, off, upper_shape, lower_shape, block_shape, in_block, common_v, share_address, valid_for, clash, covers}
+use Rattle.register_words.specs.Block.{bl_width, off, upper_shape, lower_shape, block_shape, common_v, share_address, valid_for, clash, covers}
 use Rattle.register_words.proofs.Sdr1.{mask_is, ones_at_most_9, made_shape}
 use Rattle.register_words.proofs.Blocks.{share_witness}
 use Rattle.registers.specs.Set.{block_pairs, register_count, sdr1_of, segment_of, upper_of, lower_of, segments_shape, side_shape, pair_apart, side_apart, check_words, pair_covers, replacing}

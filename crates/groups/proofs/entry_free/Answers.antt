@@ -9,7 +9,6 @@ use borrow.Author.Tests.{ltb-true, ltb-false, eq-eqb, ne_eqb}
 use Rattle.words.specs.Words.{word_of, word_at}
 use Rattle.entry.specs.Entry.{free}
 use Rattle.groups.specs.Group.{first_at, entry_free}
-use borrow.Author.Rules.{rules}
 use Rattle.groups.proofs.entry_free.Goals as goal
 
 -- V is the highest bit of the first of a word's four bytes

@@ -1,5 +1,4 @@
 -- `groups::free_after` meets its contract. The invariant: the number tells the free ones among the entries passed, behind those told before.
-use Prim.Native.Nat.{◌-◌, ◌≤◌, ◌<◌, ◌^◌}
 use mathlib.Core.Path.{◌≡◌, refl, sym, ap, ◌∙◌}
 use native.Mathlib.Numerals.{add-one}
 use native.Mathlib.Omega.{arith}
@@ -21,8 +20,8 @@ pub loop-entry-preserved : goal.loop-entry-preserved
 loop-entry-preserved c =
     let a = c.args in (
       omega arith,
-      λ fits. free_more a a.group.now c.loop-entry.entry _ _ fits (omega arith) (c.loop-entry.invariant.1 fits) c.entry_free.ensures
-          ∙ ap (free_to a a.group.now) (sym (add-one c.loop-entry.entry)),
+      λ fits. free_more a.before a.group.now c.loop-entry.entry _ _ fits (omega arith) (c.loop-entry.invariant.1 fits) c.entry_free.ensures
+          ∙ ap (free_to a.before a.group.now) (sym (add-one c.loop-entry.entry)),
     )
 
 pub returns : goal.returns

@@ -1,10 +1,7 @@
 -- `groups::free_after` meets its contract. The invariant: the number tells the free ones among the entries passed, behind those told before.
 use Prim.Native.Nat.{◌-◌, ◌≤◌, ◌<◌, ◌^◌}
-use mathlib.Core.Path.{◌≡◌, refl, sym, ap, ◌∙◌}
-use native.Mathlib.Numerals.{add-one}
-use native.Mathlib.Omega.{arith}
-use Rattle.groups.specs.Group.{free_to, free_after}
-use Rattle.groups.proofs.Free.{one_is, one_lt, free_more}
+use mathlib.Core.Path.{◌≡◌}
+use Rattle.groups.specs.Group.{free_to}
 use Rattle.groups.proofs.free_after.Given as goal
 
 abbrev pub invariant-loop-entry : goal.invariant-loop-entry

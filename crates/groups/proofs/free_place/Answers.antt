@@ -1,16 +1,12 @@
 -- `groups::free_place` meets its contract. The invariants: no entry of this group before this one is free, and no group before this one has a free
 -- entry.
-use Prim.Native.Nat.{ℕ, ◌-◌, ◌<◌, ◌≤◌}
-use mathlib.Core.Path.{◌≡◌, refl, sym, ◌∙◌}
-use mathlib.Core.Bool.{false, cond}
-use mathlib.Core.List.{List}
+use Prim.Native.Nat.{◌<◌}
+use mathlib.Core.Path.{refl, sym, ◌∙◌}
 use native.Mathlib.Omega.{arith}
-use lib.Dec.{eqb}
 use borrow.Author.Tests.{eq-eqb, ne_eqb}
 use borrow.Author.Count.{below_more, below_none}
 use Rattle.words.proofs.Below.{first_none, first_found}
-use Rattle.groups.specs.Group.{entry_free, first_free, free_after}
-use Rattle.groups.specs.declared.Place.TheVariants.{Full}
+use Rattle.groups.specs.Group.{first_free}
 use Rattle.groups.proofs.Free.{free_asked, free_found, free_nowhere}
 use Rattle.groups.proofs.free_place.Goals as goal
 
@@ -22,20 +18,20 @@ loop-entry-init c = (omega arith, c.search.invariant.1, λ p s is. below_none _)
 
 pub loop-entry-preserved : goal.loop-entry-preserved
 loop-entry-preserved c = (
-      omega arith,
-      c.loop-entry.invariant.1,
-      λ p s is.
-          below_more _ _ (c.loop-entry.invariant.2 p s is)
-          (sym (free_asked p s c.args.free c.search.h c.loop-entry.entry is (omega arith) (omega arith)) ∙ ne_eqb _ _ c.if-free-behind-eq1.false),
-    )
+  omega arith,
+  c.loop-entry.invariant.1,
+  λ p s is.
+      below_more _ _ (c.loop-entry.invariant.2 p s is)
+      (sym (free_asked p s c.args.free c.search.h c.loop-entry.entry is (omega arith) (omega arith)) ∙ ne_eqb _ _ c.if-free-behind-eq1.false),
+)
 
 pub search-preserved : goal.search-preserved
 unfolding first_free
 search-preserved c = (
-      omega arith,
-      c.loop-entry.invariant.1,
-      λ p s is. below_more _ _ (c.search.invariant.2 p s is) (first_none _ 8 (λ k below. c.loop-entry.invariant.2 p s is k (omega (arith, below)))),
-    )
+  omega arith,
+  c.loop-entry.invariant.1,
+  λ p s is. below_more _ _ (c.search.invariant.2 p s is) (first_none _ 8 (λ k below. c.loop-entry.invariant.2 p s is k (omega (arith, below)))),
+)
 
 pub returns-after-search : goal.returns-after-search
 returns-after-search c p s is =

@@ -1,17 +1,12 @@
 -- `groups::free_place` meets its contract. The invariants: no entry of this group before this one is free, and no group before this one has a free
 -- entry.
 use Prim.Native.Nat.{ℕ, ◌-◌, ◌<◌, ◌≤◌}
-use mathlib.Core.Path.{◌≡◌, refl, sym, ◌∙◌}
+use mathlib.Core.Path.{◌≡◌}
 use mathlib.Core.Bool.{false, cond}
 use mathlib.Core.List.{List}
-use native.Mathlib.Omega.{arith}
 use lib.Dec.{eqb}
-use borrow.Author.Tests.{eq-eqb, ne_eqb}
-use borrow.Author.Count.{below_more, below_none}
-use Rattle.words.proofs.Below.{first_none, first_found}
 use Rattle.groups.specs.Group.{entry_free, first_free, free_after}
 use Rattle.groups.specs.declared.Place.TheVariants.{Full}
-use Rattle.groups.proofs.Free.{free_asked, free_found, free_nowhere}
 use Rattle.groups.proofs.free_place.Given as goal
 
 abbrev pub invariant-loop-entry : goal.invariant-loop-entry

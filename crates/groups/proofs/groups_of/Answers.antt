@@ -1,5 +1,4 @@
 -- `groups::groups_of` meets its contract: under n ones the hash leaves its low n bits, and exclusive or with the ones leaves their complement.
-use mathlib.Core.Path.{ap}
 use Prim.Native.Nat.{◌%◌, ◌^◌}
 use native.Mathlib.Nat.{mod-lt}
 use lib.Bits.{and_mask}

@@ -6,7 +6,6 @@ use native.Mathlib.Omega.{arith}
 use lib.Pow.{pow-add}
 use Rattle.entry.proofs.Addresses.{api_lt}
 use Rattle.groups.specs.Hash.{group_number, groups_of}
-use borrow.Author.Rules.{rules}
 use Rattle.groups.proofs.locate.Goals as goal
 
 pub match_word-requires : goal.match_word-requires

@@ -1,7 +1,6 @@
 -- `groups::put_entry` meets its contract: the part that is lent is the group.
 use Rattle.groups.specs.Group.{put_entry, put_at}
 use Rattle.groups.proofs.Lent.{back_on}
-use borrow.Author.Rules.{rules}
 use Rattle.groups.proofs.put_entry.Goals as goal
 
 pub returns : goal.returns

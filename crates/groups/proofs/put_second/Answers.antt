@@ -3,7 +3,6 @@ use Prim.Native.Nat.{ℕ}
 use mathlib.Core.Path.{ap, ◌∙◌}
 use Rattle.groups.specs.Group.{first_of, put_at}
 use Rattle.groups.proofs.Lent.{first_in_table}
-use borrow.Author.Rules.{rules}
 use Rattle.groups.proofs.put_second.Goals as goal
 
 pub returns : goal.returns

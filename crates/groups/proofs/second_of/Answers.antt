@@ -2,7 +2,6 @@
 use mathlib.Core.Path.{◌∙◌}
 use Rattle.groups.specs.Group.{second_of}
 use Rattle.groups.proofs.Lent.{second_in_table}
-use borrow.Author.Rules.{rules}
 use Rattle.groups.proofs.second_of.Goals as goal
 
 pub returns : goal.returns

@@ -1,6 +1,5 @@
 -- `groups::write_entry` meets its contract: two words are written, one behind the other.
 use Rattle.groups.specs.Group.{put_entry}
-use borrow.Author.Rules.{rules}
 use Rattle.groups.proofs.write_entry.Goals as goal
 
 pub returns : goal.returns

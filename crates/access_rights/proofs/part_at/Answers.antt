@@ -30,7 +30,7 @@ returns-then-not-is_relocated c k t is =
     let a = c.args in
     c.real_part.ensures a.kind
     ∙ sym (ap (part_by a.kind a.address (table_found k t))
-    (before_real 8 15 (set_words a.registers.now) a.mode a.kind a.address (sym c.is_relocated.ensures ∙ not-true _ c.if-not-is_relocated.true)))
+    (before_real 8 15 (set_words a.registers.now) a.mode a.kind a.address (sym c.is_relocated.ensures ∙ c.if-not-is_relocated.true))
 
 -- the pair is that of the kind's side
 pair_is : (c : Joined-is_fetch) →
@@ -47,7 +47,7 @@ pair_is c =
 
 pub before_search-requires : goal.before_search-requires
 before_search-requires c =
-    (c.requires.0, sym c.is_relocated.ensures ∙ not-false _ c.if-not-is_relocated.false, pair_is (goal.at.before_search-requires c).Joined-is_fetch)
+    (c.requires.0, sym c.is_relocated.ensures ∙ c.if-not-is_relocated.false, pair_is (goal.at.before_search-requires c).Joined-is_fetch)
 
 pub returns-in-Told : goal.returns-in-Told
 returns-in-Told c k t is =

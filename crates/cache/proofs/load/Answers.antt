@@ -10,13 +10,13 @@ pub write_place-requires : goal.write_place-requires
 write_place-requires c = omega (arith, set_lt c.args.index)
 
 pub write_word-requires : goal.write_word-requires
-write_word-requires c = omega (arith, set_lt (begin c).args.index)
+write_word-requires c = omega (arith, set_lt c.args.index)
 
 pub write_place-requires-else-load_place : goal.write_place-requires-else-load_place
 write_place-requires-else-load_place c = omega (arith, set_lt c.args.index)
 
 pub write_word-requires-else-load_place : goal.write_word-requires-else-load_place
-write_word-requires-else-load_place c = omega (arith, set_lt (begin c).args.index)
+write_word-requires-else-load_place c = omega (arith, set_lt c.args.index)
 
 pub returns-then-load_place : goal.returns-then-load_place
 returns-then-load_place c =
@@ -26,4 +26,4 @@ returns-then-load_place c =
 pub returns-else-load_place : goal.returns-else-load_place
 returns-else-load_place c =
     c.write_word-else-load_place.ensures
-    ∙ loaded_0 _ _ _ _ _ c.set_start-start.ensures _ c.write_place-else-load_place.ensures (sym c.load_place.ensures ∙ c.if-load_place.left)
+    ∙ loaded_0 _ _ _ _ _ c.set_start-start.ensures _ c.write_place-else-load_place.ensures (sym c.load_place.ensures ∙ c.if-load_place.false)

@@ -13,5 +13,5 @@ returns c =
     let a = c.args in
     zeroed_part a.cache.now _ a.index c.set_start-start.result c.requires c.set_start-start.ensures c.clear.ensures
 
--- LEFT no goal today for slice-bounds-clear-end:
--- LEFT      omega (arith, set_lt c.args.index)
+pub slice_bounds-clear-end : goal.slice_bounds-clear-end
+slice_bounds-clear-end c = omega (arith, set_lt c.args.index)

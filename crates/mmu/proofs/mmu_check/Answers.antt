@@ -11,11 +11,11 @@ use Rattle.mmu.proofs.mmu_check.Goals.{Else-not-is_page}
 
 pub returns-then-not-is_page : goal.returns-then-not-is_page
 unfolding check_call
-returns-then-not-is_page c = rw (sym c.is_page.ensures ∙ not-true _ c.if-not-is_page.true)
+returns-then-not-is_page c = rw (sym c.is_page.ensures ∙ c.if-not-is_page.true
 
 -- past the refusal of the length the page has one of the two
 page : (c : Else-not-is_page) → is_page (length c.args.registers.now) ≡ true
-page c = sym c.is_page.ensures ∙ not-false _ c.if-not-is_page.false
+page c = sym c.is_page.ensures ∙ c.if-not-is_page.false
 
 pub check-requires : goal.check-requires
 check-requires c = page (goal.at.check-requires c).Else-not-is_page

@@ -12,11 +12,11 @@ use Rattle.mmu.proofs.mmu_set_register.Goals.{Else-not-is_page}
 
 pub returns-then-not-is_page : goal.returns-then-not-is_page
 unfolding set_register_call
-returns-then-not-is_page c = rw (sym c.is_page.ensures ∙ not-true _ c.if-not-is_page.true)
+returns-then-not-is_page c = rw (sym c.is_page.ensures ∙ c.if-not-is_page.true
 
 -- past the refusal of the length the page has one of the two
 page : (c : Else-not-is_page) → is_page (length c.args.registers.now) ≡ true
-page c = sym c.is_page.ensures ∙ not-false _ c.if-not-is_page.false
+page c = sym c.is_page.ensures ∙ c.if-not-is_page.false
 
 pub set_word-requires : goal.set_word-requires
 set_word-requires c = page (goal.at.set_word-requires c).Else-not-is_page

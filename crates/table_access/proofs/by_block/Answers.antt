@@ -43,7 +43,7 @@ pub returns-then-not-block_allows : goal.returns-then-not-block_allows
 unfolding answer_of decision_of
 returns-then-not-block_allows c =
     let a = c.args in
-    rw (block_fault 8 15 (set_words a.registers.now) a.kind a.address a.pair (allowed (goal.at.returns-then-not-block_allows c).After-block_allows ∙ not-true _ c.if-not-block_allows.true))
+    rw (block_fault 8 15 (set_words a.registers.now) a.kind a.address a.pair (allowed (goal.at.returns-then-not-block_allows c).After-block_allows ∙ c.if-not-block_allows.true)
     (c.without_page.ensures ∙ ap (without_page 1 a.pair) c.fault_answer-fault.ensures)
 
 pub overflow_cast-pair-2 : goal.overflow_cast-pair-2
@@ -54,7 +54,7 @@ pub returns : goal.returns
 unfolding answer_of decision_of
 returns c =
     let a = c.args in
-    rw (block_done 8 15 (set_words a.registers.now) a.kind a.address a.pair (allowed (goal.at.returns c).After-block_allows ∙ not-false _ c.if-not-block_allows.false))
+    rw (block_done 8 15 (set_words a.registers.now) a.kind a.address a.pair (allowed (goal.at.returns c).After-block_allows ∙ c.if-not-block_allows.false)
     (c.without_page-2.ensures
     ∙ ap (without_page 1 a.pair)
     (c.done_answer-done.ensures

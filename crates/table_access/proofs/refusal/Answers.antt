@@ -27,14 +27,14 @@ module _ (c : Start) where
 pub returns-then-not-access : goal.returns-then-not-access
 returns-then-not-access c =
     let a = c.args in
-    sym (rules.then_range (pairs (goal.at.returns-then-not-access c).Start) (width (goal.at.returns-then-not-access c).Start) (register_words (registers (goal.at.returns-then-not-access c).Start)) a.access.mode a.access.kind a.access.length a.lent (not-true _ c.if-not-access.true))
+    sym (rules.then_range (pairs (goal.at.returns-then-not-access c).Start) (width (goal.at.returns-then-not-access c).Start) (register_words (registers (goal.at.returns-then-not-access c).Start)) a.access.mode a.access.kind a.access.length a.lent (c.if-not-access.true)
 
 pub returns-then-not-access-2 : goal.returns-then-not-access-2
 returns-then-not-access-2 c =
     let start = begin c in
     let a = start.args in
     sym (rules.then_operand (pairs start) (width start) (register_words (registers start)) a.access.mode a.access.kind a.access.length a.lent
-    (not-false _ c.if-not-access.left) (not-true _ c.if-not-access-2.true))
+    (not-false _ c.if-not-access.left) (c.if-not-access-2.true)
 
 pub returns-then-broken-ne-DONE : goal.returns-then-broken-ne-DONE
 returns-then-broken-ne-DONE c =
@@ -42,7 +42,7 @@ returns-then-broken-ne-DONE c =
     let a = start.args in
     let told = c.check-broken.ensures in
     told ∙ sym (rules.then_check (pairs start) (width start) (register_words (registers start)) a.access.mode a.access.kind a.access.length a.lent
-    (not-false _ c.if-not-access.left) (not-false _ c.if-not-access-2.false) (λ z. c.if-broken-ne-DONE.true (told ∙ z)))
+    (not-false _ c.if-not-access.left) (c.if-not-access-2.false (λ z. c.if-broken-ne-DONE.true (told ∙ z)))
 
 -- the length that is asked for is that of the page's SDR1
 length_is : (c : After-table_length) →
@@ -57,11 +57,11 @@ returns-then-lent-table_length c =
     let start = begin c in
     let a = start.args in
     sym (rules.then_length (pairs start) (width start) (register_words (registers start)) a.access.mode a.access.kind a.access.length a.lent
-    (not-false _ c.if-not-access.left) (not-false _ c.if-not-access-2.false) (sym c.check-broken.ensures ∙ c.if-broken-ne-DONE.false) (λ e. c.if-lent-table_length.true (e ∙ sym (length_is (goal.at.returns-then-lent-table_length c).After-table_length))))
+    (not-false _ c.if-not-access.left) (c.if-not-access-2.false (sym c.check-broken.ensures ∙ c.if-broken-ne-DONE.false) (λ e. c.if-lent-table_length.true (e ∙ sym (length_is (goal.at.returns-then-lent-table_length c).After-table_length))))
 
 pub returns : goal.returns
 returns c =
     let start = begin c in
     let a = start.args in
     sym (rules.then_none (pairs start) (width start) (register_words (registers start)) a.access.mode a.access.kind a.access.length a.lent
-    (not-false _ c.if-not-access.left) (not-false _ c.if-not-access-2.false) (sym c.check-broken.ensures ∙ c.if-broken-ne-DONE.false) (c.if-lent-table_length.false ∙ length_is (goal.at.returns c).After-table_length))
+    (not-false _ c.if-not-access.left) (c.if-not-access-2.false (sym c.check-broken.ensures ∙ c.if-broken-ne-DONE.false) (c.if-lent-table_length.false ∙ length_is (goal.at.returns c).After-table_length))

@@ -67,7 +67,7 @@ returns-then-not-is_relocated c =
     let a = c.args in
     let words = set_words a.registers.now in
     let k = mask_ones (sdr1_of words) in
-    let off = sym c.is_relocated.ensures ∙ not-true _ c.if-not-is_relocated.true in
+    let off = sym c.is_relocated.ensures ∙ c.if-not-is_relocated.true in
     ends (goal.at.returns-then-not-is_relocated c).Else-number-ne-DONE _ (lent (goal.at.returns-then-not-is_relocated c).Start) _
     (tells a.asked k (lent (goal.at.returns-then-not-is_relocated c).Start) (part_early words a.asked) c.untranslated-real.result (lent (goal.at.returns-then-not-is_relocated c).Start)
     (real_comes words a.asked k (lent (goal.at.returns-then-not-is_relocated c).Start) c.untranslated-real.result off (c.untranslated-real.ensures a.asked.kind)) _ _ c.tell-then-not-is_relocated.ensures)

@@ -30,6 +30,7 @@ pub fn user_mode(mode: u32) -> bool
 }
 
 // Whether the access is a fetch.
+#[tactic(auto, unfolding(crate::specs::Access::fetching))]
 pub fn is_fetch(kind: u32) -> bool
     ensures { result ≡ fetching kind }
 {
@@ -37,6 +38,7 @@ pub fn is_fetch(kind: u32) -> bool
 }
 
 // Whether the access is a store.
+#[tactic(auto, unfolding(crate::specs::Access::storing))]
 pub fn is_store(kind: u32) -> bool
     ensures { result ≡ storing kind }
 {
@@ -51,6 +53,7 @@ pub fn side_of(kind: u32) -> bool
 }
 
 // Whether G of the attributes is one.
+#[tactic(auto, unfolding(crate::specs::Protection::guarded))]
 pub fn is_guarded(wimg: u32) -> bool
     ensures { result ≡ guarded wimg }
 {
@@ -112,6 +115,7 @@ fn fault_with(res: u32, word: u32, offset: u32) -> Fault
 }
 
 // The fault of a cause and a kind of access.
+#[tactic(auto, unfolding(crate::specs::Fault::fault_of, crate::specs::Fault::cause_word, crate::specs::Access::fetching, crate::specs::Access::storing))]
 pub fn fault_of(cause: u32, kind: u32) -> Fault
     ensures { result ≡ fault_of cause kind }
 {

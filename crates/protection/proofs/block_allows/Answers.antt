@@ -2,7 +2,6 @@
 use borrow.Author.Tests.{ne_eqb}
 use mathlib.Core.Bool.{Bool, true, false, cond, not, ◌&&◌}
 use mathlib.Core.Path.{◌≡◌, refl}
-use Prim.Native.Nat.{ℕ}
 use lib.Dec.{eqb}
 use Rattle.protection.specs.Access.{storing}
 use Rattle.protection.specs.Protection.{block_allows}

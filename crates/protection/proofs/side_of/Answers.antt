@@ -1,5 +1,4 @@
 -- `protection::side_of` meets its contract: it is the definition.
-use borrow.Author.Rules.{rules}
 use mathlib.Core.Path.{ap}
 use mathlib.Core.Bool.{not}
 use Rattle.protection.specs.Access.{side_of}

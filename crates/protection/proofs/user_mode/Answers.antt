@@ -1,5 +1,5 @@
 -- `protection::user_mode` meets its contract: the mask leaves the one bit PR.
-use Prim.Native.Nat.{◌/◌, ◌^◌}
+use Prim.Native.Nat.{◌/◌}
 use lib.Bits.{and_mask}
 use Rattle.protection.specs.Access.{user_mode}
 use Rattle.protection.proofs.user_mode.Goals as goal

@@ -11,7 +11,7 @@
 --   operand_same, operand_related: operands whose parts answer alike answer alike, also up to a relation of what decided them
 --   result_of: what holds of the results of both parts holds of the operand's
 --   SameButPlace, decisions_agree: what decided an outcome is the same for two searches but for the place of the entry
-use Rattle.std.proofs.Common.{◌≡◌, ℕ, ◌+◌, ◌-◌, ◌*◌, ◌/◌, ◌%◌, ◌^◌, ◌<◌, ◌≤◌, Bool, true, false, cond, eqb, ltb, sym, refl, ap, ◌∙◌, arith, lit<, ltb-false, ltb-true, le-ltb, lt-ltb, eq-eqb, ne_eqb, eqb-true}
+use Rattle.std.proofs.Common.{◌≡◌, ℕ, ◌+◌, ◌-◌, ◌/◌, ◌%◌, ◌^◌, ◌<◌, ◌≤◌, Bool, true, false, cond, eqb, ltb, sym, refl, ap, ◌∙◌, arith, lit<, ltb-false, ltb-true, le-ltb, lt-ltb, eq-eqb, ne_eqb, eqb-true}
 use borrow.Author.Tests.{eqb-false}
 use Rattle.entry.specs.Entry.{page_index}
 use Rattle.translation.specs.Decision.{key_and_pp, decision_of}

@@ -1,9 +1,9 @@
 -- Steps 1 to 3 by a short page's words are those by the same words as a long page's: BL of 11 bits beside BL of 15, and pairs that are off.
-use Rattle.std.proofs.Common.{◌≡◌, ℕ, ◌<◌, Bool, true, false, cond, not, ◌&&◌, ltb, List, length, sym, refl, ap, ◌∙◌, ap₂, arith, ltb-true, lt-ltb}
+use Rattle.std.proofs.Common.{◌≡◌, ℕ, ◌<◌, Bool, true, false, cond, not, ◌&&◌, ltb, List, length, sym, refl, ap, arith, ltb-true, lt-ltb}
 use Rattle.words.specs.Bits.{bits}
 use Rattle.words.proofs.Below.{FirstOf, same_first, none_first, first_passes}
 use Rattle.register_words.specs.Segment.{no_execute}
-use Rattle.register_words.specs.Block.{block_attributes, block_pp, block_physical}
+use Rattle.register_words.specs.Block.{block_attributes, block_pp}
 use Rattle.register_words.proofs.Blocks.{physical_same}
 use Rattle.registers.specs.Set.{upper_of, lower_of, pair_covers, covering_pair, widened}
 use Rattle.registers.proofs.Wide.{Narrow, covering_same}

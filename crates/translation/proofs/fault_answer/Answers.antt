@@ -1,5 +1,4 @@
 -- `translation::fault_answer` meets its contract: the fault's words, then the effective address.
-use Rattle.std.proofs.Common.{rules}
 use Rattle.translation.proofs.fault_answer.Goals as goal
 
 pub returns : goal.returns

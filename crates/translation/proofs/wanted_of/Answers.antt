@@ -1,5 +1,4 @@
 -- `translation::wanted_of` meets its contract: each field is what its function says.
-use Rattle.std.proofs.Common.{rules}
 use Rattle.translation.proofs.wanted_of.Goals as goal
 
 pub returns : goal.returns

@@ -1,5 +1,5 @@
 -- `translation::decision::key_and_pp` meets its contract, with the key and without.
-use Rattle.std.proofs.Common.{arith, rules}
+use Rattle.std.proofs.Common.{arith}
 use Rattle.translation.specs.Decision.{key_and_pp}
 use Rattle.translation.proofs.decision.key_and_pp.Goals as goal
 

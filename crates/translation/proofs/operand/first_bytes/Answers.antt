@@ -1,6 +1,6 @@
 -- `translation::operand::first_bytes` meets its contract: the mask leaves the byte's place in its page.
-use Rattle.std.proofs.Common.{◌≡◌, ◌-◌, ◌%◌, ◌^◌, ◌≤◌, true, false, ltb, arith, le-ltb, lt-ltb}
-use lib.Bits.{bit_and, and_mask}
+use Rattle.std.proofs.Common.{◌-◌, ◌%◌, arith, le-ltb, lt-ltb}
+use lib.Bits.{and_mask}
 use Rattle.translation.specs.Operand.{first_bytes}
 use Rattle.translation.proofs.operand.first_bytes.Goals as goal
 

@@ -2,7 +2,6 @@
 -- measure.
 use mathlib.Core.Path.{◌≡◌, refl, sym, ap, ◌∙◌}
 use mathlib.Core.Bool.{Bool, not, ◌&&◌, ◌||◌}
-use mathlib.Core.List.{[]}
 use native.Mathlib.Omega.{arith}
 use Rattle.entry.specs.Entry.{matches}
 use Rattle.theory_tables.specs.Matches.{matches_below}
@@ -10,7 +9,7 @@ use Rattle.groups.specs.Group.{first_at, second_at}
 use Rattle.matches.specs.Search.{hOf, agree, any_match, disagrees, matches_to}
 use Rattle.matches.proofs.Matches.{entry_at, wanted_matches}
 use Rattle.matches.proofs.Found.{last_more}
-use Prim.Native.Nat.{ℕ, ◌-◌, ◌<◌}
+use Prim.Native.Nat.{ℕ, ◌-◌}
 use Rattle.matches.proofs.+disagree.Goals as goal
 
 pub returns-then-entries-eq0 : goal.returns-then-entries-eq0
@@ -39,7 +38,7 @@ returns t c secondary vsid api wants =
     let test = disagrees a.second in
     let told : not c.words_agree.result ≡ test (entry_at secondary a.group.now last) =
     ap not (c.words_agree.ensures ∙ ap (agree a.second) c.read_word-other.ensures) in
-    ap (λ (b : Bool). c.is_IsWord.result && b) told
-    ∙ sym (last_more test secondary vsid api a.group.now a.entries c.if-entries-eq0.false _ (wanted_matches secondary vsid api _ _ _ wants c.is_IsWord.ensures)
-    ∙ ap (λ (b : Bool). b || (c.is_IsWord.result && test (entry_at secondary a.group.now last)))
+    ap (λ (b : Bool). c.is_word.result && b) told
+    ∙ sym (last_more test secondary vsid api a.group.now a.entries c.if-entries-eq0.false _ (wanted_matches secondary vsid api _ _ _ wants c.is_word.ensures)
+    ∙ ap (λ (b : Bool). b || (c.is_word.result && test (entry_at secondary a.group.now last)))
     (sym (c.disagree.ensures secondary vsid api wants) ∙ c.if-disagree.false))

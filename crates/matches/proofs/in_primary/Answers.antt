@@ -5,7 +5,6 @@ use mathlib.Core.List.{[]}
 use native.Mathlib.Omega.{arith}
 use Rattle.groups.proofs.Lent.{lent_part}
 use Rattle.matches.specs.Search.{in_primary}
-use borrow.Author.Rules.{rules}
 use Rattle.matches.proofs.in_primary.Goals as goal
 
 pub returns : goal.returns

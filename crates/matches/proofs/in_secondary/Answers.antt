@@ -5,7 +5,6 @@ use Rattle.groups.specs.Group.{free_after}
 use Rattle.groups.proofs.Free.{free_one}
 use Rattle.groups.proofs.Lent.{lent_part}
 use Rattle.matches.specs.Search.{group_matches, pair_matches, in_primary, in_both}
-use borrow.Author.Rules.{rules}
 use Rattle.matches.proofs.in_secondary.Goals as goal
 
 pub returns : goal.returns

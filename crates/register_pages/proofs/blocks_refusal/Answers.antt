@@ -42,7 +42,7 @@ loop-side-init c =
     )
 
 -- the bytes of the side at hand lie on the page
-module _ (c : In-loop-side where
+module _ (c : In-loop-side) where
 
   abbrev begin : Start
   begin = started c
@@ -107,7 +107,7 @@ loop-side-preserved c =
     )
 
 -- both sides were passed
-both-sides : (c : After-loop-side →
+both-sides : (c : After-loop-side) →
     SidesSeen c.args.page.now c.requires 2 c.loop-side.good c.loop-side.apart
 both-sides c =
     let l = c.loop-side in

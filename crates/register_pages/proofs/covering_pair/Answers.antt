@@ -26,7 +26,7 @@ whole-fours short_size = refl
 whole-fours long_size = refl
 
 -- so four pairs are left
-four-left : (c : In-loop-first →
+four-left : (c : In-loop-first) →
     c.loop-first.first + 4 ≤ block_pairs (is_long (length c.args.page.now))
 four-left c =
     let size = page_size_law (length c.args.page.now) c.requires in
@@ -36,7 +36,7 @@ four-left c =
     omega (arith, c.loop-first-test.true)
 
 -- the pair at hand
-module _ (c : In-loop-i where
+module _ (c : In-loop-i) where
 
   abbrev page : List ℕ
   page = (begin c).args.page.now
@@ -55,7 +55,7 @@ module _ (c : In-loop-i where
       omega (arith, c.side_at-start.ensures, pair_fits (length page) start.requires start.args.side i own_pair)
 
 -- what the call gave is the test of that pair of the set
-covers-is : (c : After-block_covers →
+covers-is : (c : After-block_covers) →
     let a = (begin c).args in
     c.block_covers.result ≡ pair_covers 8 15 (set_words (page c)) a.side a.user a.address (i c)
 unfolding pair_covers

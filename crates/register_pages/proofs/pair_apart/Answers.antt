@@ -19,7 +19,7 @@ unfolding apart_from every_below
 loop-before-init c = (omega arith, refl, refl)
 
 -- what the call gave is the test of the pair at hand
-module _ (c : After-blocks_clash where
+module _ (c : After-blocks_clash) where
 
   abbrev pairs : List ℕ
   pairs = c.args.pairs.now

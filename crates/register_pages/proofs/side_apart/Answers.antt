@@ -22,7 +22,7 @@ unfolding pairs_apart every_below
 loop-at-init c = (omega arith, refl, refl)
 
 -- the pair at hand
-module _ (c : After-read_word-own where
+module _ (c : After-read_word-own) where
 
   abbrev at : ℕ
   at = c.loop-at.at

@@ -36,7 +36,7 @@ no-fall : (pair end : ℕ) → bool_byte (leb pair end) ≡ 0 → end < pair
 no-fall pair end z = by_test (leb pair end) (λ e. absurd (let one : ◌≡◌ {A = ℕ} 1 0 = (rw e at z) in omega arith)) (λ e. leb-false pair end e)
 
 -- what was passed, and the pair at hand
-module _ (c : After-shared_slice_known-in-loop-i-1 where
+module _ (c : After-shared_slice_known-in-loop-i-1) where
 
   abbrev pairs : List ℕ
   pairs = c.args.pairs.now

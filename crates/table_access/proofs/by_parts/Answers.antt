@@ -29,7 +29,7 @@ use Rattle.table_access.proofs.Operands.{Reached, own_inside, stops, one_part, t
 use Rattle.table_access.proofs.by_parts.Goals as goal
 use Rattle.table_access.proofs.by_parts.Goals.{After-part_of-part, After-slice_known-then-access-bytes-3-1, After-slice_known-then-further-5-1, After-slice_known-then-own-ne-DONE-1, After-take, At-loop-access, Else-further, Else-own-ne-DONE, Then-further}
 
-module _ (c : At-loop-access where
+module _ (c : At-loop-access) where
   abbrev words : List ℕ
   words = set_words c.args.registers.now
 
@@ -57,20 +57,20 @@ loop-access-init c =
     (refl, refl, refl, sym (start_first a.address a.length), λ e. absurd (true≢false (sym e)))
 
 -- the lengths are those of what was lent
-table_right : (c : At-loop-access → TableOf (sdr1 c) (length c.loop-access.table)
+table_right : (c : At-loop-access) → TableOf (sdr1 c) (length c.loop-access.table)
 table_right c = record { shape = (of c).shape; right = ap (λ (t : List ℕ). length t) c.loop-access.invariant.0 ∙ (of c).right }
 
-cache-right : (c : At-loop-access → CacheOrNone c.loop-access.cache
+cache-right : (c : At-loop-access) → CacheOrNone c.loop-access.cache
 cache-right c = rw c.loop-access.invariant.1 c.requires.1
 
-answer-right : (c : At-loop-access → length c.loop-access.answer ≡ 48
+answer-right : (c : At-loop-access) → length c.loop-access.answer ≡ 48
 answer-right c = rw c.loop-access.invariant.2 c.requires.3
 
 pub part_of-part-requires : goal.part_of-part-requires
 part_of-part-requires c = ((c.requires.0.0, table_right c), cache-right c, c.requires.2)
 
 -- the part that was asked for is the operand's own
-part_is : (c : After-part_of-part → c.part_of-part.result ≡ own c c.loop-access.further
+part_is : (c : After-part_of-part) → c.part_of-part.result ≡ own c c.loop-access.further
 part_is c =
     let a = access c in
     let k = mask_ones (sdr1 c) in
@@ -80,7 +80,7 @@ part_is c =
     ∙ ap (λ (s : ℕ). part_by a.kind s (found_by k a.kind (lent c).0 (lent c).1) (early s)) c.loop-access.invariant.3
 
 -- the second part is asked for where the first is done and the operand goes on
-reached : (c : At-loop-access → Reached (words c) (access c) (sdr1 c) (lent c) (of c) c.loop-access.further
+reached : (c : At-loop-access) → Reached (words c) (access c) (sdr1 c) (lent c) (of c) c.loop-access.further
 unfolding Reached
 reached c = go c.loop-access.further refl
   where
@@ -115,16 +115,16 @@ returns-then-own-ne-DONE c =
     _ _ c.tell.ensures
 
 -- the part that was asked for is done
-part-done : (c : Else-own-ne-DONE → (own (loop-at c) (loop-at c).loop-access.further).answer-1.result ≡ 0
+part-done : (c : Else-own-ne-DONE) → (own (loop-at c) (loop-at c).loop-access.further).answer-1.result ≡ 0
 part-done c = sym (ap (λ (p : Part). p.answer.result) (part_is c)) ∙ c.if-own-ne-DONE.false
 
-inside : (c : At-loop-access (second : Bool) (p : Part) → p ≡ own c second → 64 * p.found.group + 64 ≤ length c.loop-access.table
+inside : (c : At-loop-access) (second : Bool) (p : Part) → p ≡ own c second → 64 * p.found.group + 64 ≤ length c.loop-access.table
 inside c second p e =
     subst (λ (n : ℕ). 64 * p.found.group + 64 ≤ n) (sym (ap (λ (t : List ℕ). length t) c.loop-access.invariant.0))
     (subst (λ (q : Part). 64 * q.found.group + 64 ≤ length (lent c).0) (sym e) (own_inside (words c) (access c) (sdr1 c) (lent c) (of c) second))
 
 -- past the second test the part is the second, and the first is done
-module _ (c : Then-further where
+module _ (c : Then-further) where
   abbrev second-loop : At-loop-access
   second-loop = loop-at c
 
@@ -161,7 +161,7 @@ take-requires-then-further c =
     )
 
 -- the bytes in the first page
-bytes-are : (c : At-loop-access → c.first_bytes-bytes.result ≡ first_bytes (access c).address (access c).length
+bytes-are : (c : At-loop-access) → c.first_bytes-bytes.result ≡ first_bytes (access c).address (access c).length
 bytes-are c = c.first_bytes-bytes.ensures
 
 pub across_edge-both-requires : goal.across_edge-both-requires
@@ -218,7 +218,7 @@ returns-then-further c =
     _ _ c.tell-then-further.ensures
 
 -- past it the part is the first
-module _ (c : Else-further where
+module _ (c : Else-further) where
   abbrev first-loop : At-loop-access
   first-loop = loop-at c
 

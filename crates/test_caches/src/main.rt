@@ -8,30 +8,32 @@ mod loads;
 mod refused;
 mod runs;
 
+use std::io;
+
 // Runs the cases of the module `loads`.
-fn run_loads() {
-    loads::first_loads();
-    loads::replaced();
-    loads::reloaded();
-    loads::not_loaded();
-    loads::garbage();
-    loads::two_pages();
+fn run_loads(rt: &impl Print) -> io::Result<()> {
+    loads::first_loads(rt)?;
+    loads::replaced(rt)?;
+    loads::reloaded(rt)?;
+    loads::not_loaded(rt)?;
+    loads::garbage(rt)?;
+    loads::two_pages(rt)
 }
 
 // Runs the cases of the module `hits`.
-fn run_hits() {
-    hits::answers();
-    hits::tests();
-    hits::faults();
-    hits::stores();
+fn run_hits(rt: &impl Print) -> io::Result<()> {
+    hits::answers(rt)?;
+    hits::tests(rt)?;
+    hits::faults(rt)?;
+    hits::stores(rt)
 }
 
-fn main() {
-    run_loads();
-    run_hits();
-    refused::lengths();
-    refused::in_order();
-    refused::invalidates();
-    runs::disciplined();
-    runs::undisciplined();
+fn main(rt: HostRuntime) -> io::Result<()> {
+    run_loads(&rt)?;
+    run_hits(&rt)?;
+    refused::lengths(&rt)?;
+    refused::in_order(&rt)?;
+    refused::invalidates(&rt)?;
+    runs::disciplined(&rt)?;
+    runs::undisciplined(&rt)
 }

@@ -1,5 +1,6 @@
 // Refusals of accesses with a cache and of invalidate, and what they leave.
 use super::asked::{FIRST, PLACE_0, PLACE_1};
+use std::io;
 use test_report::lent::{SDR1, SEGMENT, access_refused, kept, page_with};
 use test_report::line;
 
@@ -16,14 +17,14 @@ fn lent_cache() -> [u8; 2052] {
 // The lengths that an access is lent: of the register page, the table, the cache and the answer.
 #[derive(Clone, Copy)]
 pub struct Sizes {
-    pub page: isize,
-    pub table: isize,
-    pub cache: isize,
-    pub answer: isize,
+    pub page: usize,
+    pub table: usize,
+    pub cache: usize,
+    pub answer: usize,
 }
 
 // Those lengths.
-fn lent(page: isize, table: isize, cache: isize, answer: isize) -> Sizes {
+fn lent(page: usize, table: usize, cache: usize, answer: usize) -> Sizes {
     Sizes {
         page,
         table,
@@ -42,10 +43,10 @@ fn access_part(
     cache: &mut [u8],
     answer: &mut [u8],
 ) -> u32 {
-    let k = io::count(lengths.page, page);
-    let n = io::count(lengths.table, table);
-    let c = io::count(lengths.cache, cache);
-    let m = io::count(lengths.answer, answer);
+    let k = lengths.page.min(page.len());
+    let n = lengths.table.min(table.len());
+    let c = lengths.cache.min(cache.len());
+    let m = lengths.answer.min(answer.len());
     mmu::mmu_access_cached(
         &page[..k],
         mode,
@@ -82,24 +83,24 @@ fn number(mode: u32, length: u32, lengths: Sizes) -> u32 {
 }
 
 // A length that is not right.
-pub fn lengths() {
+pub fn lengths(rt: &impl Print) -> io::Result<()> {
     // A cache of 0, 2,047, 2,049 and 2,052 bytes; a short register page; a short answer. Source: request 7; R37.
-    line(1152, number(1, 1, lent(132, 65536, 0, 48)) == 11);
-    line(1153, number(1, 1, lent(132, 65536, 2047, 48)) == 11);
-    line(1154, number(1, 1, lent(132, 65536, 2049, 48)) == 11);
-    line(1155, number(1, 1, lent(132, 65536, 2052, 48)) == 11);
-    line(1156, number(1, 1, lent(131, 65536, 2048, 48)) == 11);
-    line(1157, number(1, 1, lent(132, 65536, 2048, 47)) == 11);
+    line(rt, 1152, number(1, 1, lent(132, 65536, 0, 48)) == 11)?;
+    line(rt, 1153, number(1, 1, lent(132, 65536, 2047, 48)) == 11)?;
+    line(rt, 1154, number(1, 1, lent(132, 65536, 2049, 48)) == 11)?;
+    line(rt, 1155, number(1, 1, lent(132, 65536, 2052, 48)) == 11)?;
+    line(rt, 1156, number(1, 1, lent(131, 65536, 2048, 48)) == 11)?;
+    line(rt, 1157, number(1, 1, lent(132, 65536, 2048, 47)) == 11)
 }
 
 // Two rules broken, and the table's length though the page hits.
-pub fn in_order() {
+pub fn in_order(rt: &impl Print) -> io::Result<()> {
     // 11 before 6, 12 and 1; 6 before 12; 12 before 1; 1 though the page would hit. Source: R38.
-    line(1158, number(8, 0, lent(132, 65535, 2047, 48)) == 11);
-    line(1159, number(8, 0, lent(132, 65535, 2048, 48)) == 6);
-    line(1160, number(1, 0, lent(132, 65535, 2048, 48)) == 12);
-    line(1161, number(1, 1, lent(132, 65535, 2048, 48)) == 1);
-    line(1162, number(1, 1, lent(132, 0, 2048, 48)) == 1);
+    line(rt, 1158, number(8, 0, lent(132, 65535, 2047, 48)) == 11)?;
+    line(rt, 1159, number(8, 0, lent(132, 65535, 2048, 48)) == 6)?;
+    line(rt, 1160, number(1, 0, lent(132, 65535, 2048, 48)) == 12)?;
+    line(rt, 1161, number(1, 1, lent(132, 65535, 2048, 48)) == 1)?;
+    line(rt, 1162, number(1, 1, lent(132, 0, 2048, 48)) == 1)
 }
 
 // A cache in which every byte is 55, but the set that begins at this byte is zero.
@@ -119,30 +120,30 @@ fn zeroed(at: usize) -> [u8; 2048] {
 }
 
 // An invalidate lent a part of this length.
-fn invalidate_part(index: u32, length: isize, cache: &mut [u8]) -> u32 {
-    let n = io::count(length, cache);
+fn invalidate_part(index: u32, length: usize, cache: &mut [u8]) -> u32 {
+    let n = length.min(cache.len());
     mmu::mmu_invalidate(index, &mut cache[..n])
 }
 
 // Whether an invalidate of this page index, lent so many bytes of a cache, answers this number and leaves this cache.
-fn invalidate(index: u32, length: isize, res: u32, after: [u8; 2048]) -> bool {
+fn invalidate(index: u32, length: usize, res: u32, after: [u8; 2048]) -> bool {
     let mut cache = [0x55u8; 2048];
     let number = invalidate_part(index, length, &mut cache);
     (number == res) & check::same(&cache, &after)
 }
 
 // Invalidate.
-pub fn invalidates() {
+pub fn invalidates(rt: &impl Print) -> io::Result<()> {
     let left = [0x55u8; 2048];
     // Both places of the set, by the low six bits of the page index, and no other byte. Source: request 7; R54.
-    line(1163, invalidate(0xFFA, 2048, 0, zeroed(PLACE_0)));
-    line(1164, invalidate(0x3A, 2048, 0, zeroed(PLACE_1 - 16)));
-    line(1165, invalidate(0, 2048, 0, zeroed(0)));
-    line(1166, invalidate(0xFFFF, 2048, 0, zeroed(2016)));
-    line(1167, invalidate(0x20, 2048, 0, zeroed(1024)));
+    line(rt, 1163, invalidate(0xFFA, 2048, 0, zeroed(PLACE_0)))?;
+    line(rt, 1164, invalidate(0x3A, 2048, 0, zeroed(PLACE_1 - 16)))?;
+    line(rt, 1165, invalidate(0, 2048, 0, zeroed(0)))?;
+    line(rt, 1166, invalidate(0xFFFF, 2048, 0, zeroed(2016)))?;
+    line(rt, 1167, invalidate(0x20, 2048, 0, zeroed(1024)))?;
     // A page index past 65,535; a wrong length, before it. Source: R37, R38.
-    line(1168, invalidate(0x10000, 2048, 6, left));
-    line(1169, invalidate(0xFFFFFFFF, 2048, 6, left));
-    line(1170, invalidate(0x10000, 2047, 11, left));
-    line(1171, invalidate(0xFFA, 0, 11, left));
+    line(rt, 1168, invalidate(0x10000, 2048, 6, left))?;
+    line(rt, 1169, invalidate(0xFFFFFFFF, 2048, 6, left))?;
+    line(rt, 1170, invalidate(0x10000, 2047, 11, left))?;
+    line(rt, 1171, invalidate(0xFFA, 0, 11, left))
 }

@@ -1,5 +1,6 @@
 // Runs of calls with one cache: each unmap and protect followed by its invalidate, and not.
 use super::asked::{EMPTY, access, byte};
+use std::io;
 use test_report::lent::{INDEX, SDR1, VSID};
 use test_report::line;
 
@@ -59,19 +60,27 @@ fn ends(kind: u32, protect: bool, step: Between, with: u32, without: u32) -> boo
 }
 
 // Followed by its invalidate, of the same page index or of one of the same set.
-pub fn disciplined() {
+pub fn disciplined(rt: &impl Print) -> io::Result<()> {
     // The run cannot be told from one without a cache. Source: request 7; P7.
-    line(1172, ends(1, false, Between::Invalidate(0xFFA), 64, 64));
-    line(1173, ends(1, false, Between::Invalidate(0x103A), 64, 64));
-    line(1174, ends(0, false, Between::Invalidate(0x3A), 65, 65));
-    line(1175, ends(2, true, Between::Invalidate(0xFFA), 64, 64));
+    line(rt, 1172, ends(1, false, Between::Invalidate(0xFFA), 64, 64))?;
+    line(
+        rt,
+        1173,
+        ends(1, false, Between::Invalidate(0x103A), 64, 64),
+    )?;
+    line(rt, 1174, ends(0, false, Between::Invalidate(0x3A), 65, 65))?;
+    line(rt, 1175, ends(2, true, Between::Invalidate(0xFFA), 64, 64))
 }
 
 // Not followed by it.
-pub fn undisciplined() {
+pub fn undisciplined(rt: &impl Print) -> io::Result<()> {
     // No invalidate, that of another set, or a refused one: the cache still answers done. Source: P7, readings that are false.
-    line(1176, ends(1, false, Between::Nothing, 0, 64));
-    line(1177, ends(1, false, Between::Invalidate(0xFFB), 0, 64));
-    line(1178, ends(1, false, Between::Invalidate(0x10FFA), 0, 64));
-    line(1179, ends(2, true, Between::Nothing, 0, 64));
+    line(rt, 1176, ends(1, false, Between::Nothing, 0, 64))?;
+    line(rt, 1177, ends(1, false, Between::Invalidate(0xFFB), 0, 64))?;
+    line(
+        rt,
+        1178,
+        ends(1, false, Between::Invalidate(0x10FFA), 0, 64),
+    )?;
+    line(rt, 1179, ends(2, true, Between::Nothing, 0, 64))
 }

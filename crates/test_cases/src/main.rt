@@ -4,7 +4,7 @@
 
 ghost use Rattle.std.specs.Prelude.{◌+◌, ◌^◌, ◌≤◌, ◌<◌};
 
-use libc::STDOUT_FILENO;
+use std::io;
 
 // SDR1 of the cases, VSID and page index of their page, and the address that is accessed.
 const SDR1: u32 = 0x0F980000;
@@ -19,12 +19,11 @@ const ADDRESS: u32 = 0x00FFA01B;
 const SECOND: u32 = 0x12345012;
 
 // Writes a case's line: its number, a space, `ok` or `bad`.
-fn line(number: &[u8], good: bool) {
-    io::write_all(STDOUT_FILENO, number);
+fn line(rt: &impl Print, number: u64, good: bool) -> io::Result<()> {
     if good {
-        io::write_all(STDOUT_FILENO, b" ok\n");
+        println!(rt; "{number} ok")
     } else {
-        io::write_all(STDOUT_FILENO, b" bad\n");
+        println!(rt; "{number} bad")
     }
 }
 
@@ -241,17 +240,17 @@ fn case12() -> bool {
     all
 }
 
-fn main() {
-    line(b"1", case1());
-    line(b"2", case2());
-    line(b"3", case3());
-    line(b"4", case4());
-    line(b"5", case5());
-    line(b"6", case6());
-    line(b"7", case7());
-    line(b"8", case8());
-    line(b"9", case9());
-    line(b"10", case10());
-    line(b"11", case11());
-    line(b"12", case12());
+fn main(rt: HostRuntime) -> io::Result<()> {
+    line(&rt, 1, case1())?;
+    line(&rt, 2, case2())?;
+    line(&rt, 3, case3())?;
+    line(&rt, 4, case4())?;
+    line(&rt, 5, case5())?;
+    line(&rt, 6, case6())?;
+    line(&rt, 7, case7())?;
+    line(&rt, 8, case8())?;
+    line(&rt, 9, case9())?;
+    line(&rt, 10, case10())?;
+    line(&rt, 11, case11())?;
+    line(&rt, 12, case12())
 }

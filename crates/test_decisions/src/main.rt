@@ -9,54 +9,56 @@ mod rights;
 mod shown;
 mod steps;
 
+use std::io;
+
 // Runs the cases of the module `steps`.
-fn run_steps() {
-    steps::real_mode();
-    steps::no_execute();
-    steps::no_match();
-    steps::guarded();
+fn run_steps(rt: &impl Print) -> io::Result<()> {
+    steps::real_mode(rt)?;
+    steps::no_execute(rt)?;
+    steps::no_match(rt)?;
+    steps::guarded(rt)
 }
 
 // Runs the cases of the module `blocks`.
-fn run_blocks() {
-    blocks::instruction_pairs();
-    blocks::data_pairs();
-    blocks::not_allowed();
-    blocks::one_address();
-    blocks::first();
+fn run_blocks(rt: &impl Print) -> io::Result<()> {
+    blocks::instruction_pairs(rt)?;
+    blocks::data_pairs(rt)?;
+    blocks::not_allowed(rt)?;
+    blocks::one_address(rt)?;
+    blocks::first(rt)
 }
 
 // Runs the cases of the module `rights`.
-fn run_rights() {
-    rights::not_allowed();
-    rights::read();
-    rights::written();
-    rights::keys();
+fn run_rights(rt: &impl Print) -> io::Result<()> {
+    rights::not_allowed(rt)?;
+    rights::read(rt)?;
+    rights::written(rt)?;
+    rights::keys(rt)
 }
 
 // Runs the cases of the module `places`.
-fn run_places() {
-    places::primary();
-    places::secondary();
-    places::of_faults();
-    places::duplicates();
-    places::more_groups();
+fn run_places(rt: &impl Print) -> io::Result<()> {
+    places::primary(rt)?;
+    places::secondary(rt)?;
+    places::of_faults(rt)?;
+    places::duplicates(rt)?;
+    places::more_groups(rt)
 }
 
 // Runs the cases of the module `parts`.
-fn run_parts() {
-    parts::done();
-    parts::second_stops();
-    parts::first_stops();
-    parts::refused();
-    parts::with_block();
-    parts::two_segments();
+fn run_parts(rt: &impl Print) -> io::Result<()> {
+    parts::done(rt)?;
+    parts::second_stops(rt)?;
+    parts::first_stops(rt)?;
+    parts::refused(rt)?;
+    parts::with_block(rt)?;
+    parts::two_segments(rt)
 }
 
-fn main() {
-    run_steps();
-    run_blocks();
-    run_rights();
-    run_places();
-    run_parts();
+fn main(rt: HostRuntime) -> io::Result<()> {
+    run_steps(&rt)?;
+    run_blocks(&rt)?;
+    run_rights(&rt)?;
+    run_places(&rt)?;
+    run_parts(&rt)
 }

@@ -1,5 +1,6 @@
 // Operands over a page edge: the first part's record where they are done, that of the part whose fault is given, and none after a refusal.
 use super::shown::with_pair;
+use std::io;
 use test_report::asked::{Asked, shows};
 use test_report::lent::{Other, SDR1, SEGMENT, also, page_with, pages, with_two};
 use test_report::line;
@@ -17,52 +18,60 @@ fn at_edge(mode: u32, kind: u32, table: [u8; 65536], res: u32, record: [u32; 4])
 }
 
 // Both parts done.
-pub fn done() {
+pub fn done(rt: &impl Print) -> io::Result<()> {
     let both = pages(0x12345011, 0x6789A022);
     // Over a page edge a done access shows the first page: a load, a store and a fetch of PP 1 before the edge and PP 2 after it; in real mode four zero words. Source: rules 5.
-    line(812, at_edge(3, 1, both, 0, [6, 1, 998, 0]));
-    line(813, at_edge(3, 2, both, 0, [6, 1, 998, 0]));
-    line(814, at_edge(3, 0, both, 0, [6, 1, 998, 0]));
-    line(815, at_edge(0, 1, both, 0, [0, 0, 0, 0]));
+    line(rt, 812, at_edge(3, 1, both, 0, [6, 1, 998, 0]))?;
+    line(rt, 813, at_edge(3, 2, both, 0, [6, 1, 998, 0]))?;
+    line(rt, 814, at_edge(3, 0, both, 0, [6, 1, 998, 0]))?;
+    line(rt, 815, at_edge(0, 1, both, 0, [0, 0, 0, 0]))
 }
 
 // The first part done and the second not.
-pub fn second_stops() {
+pub fn second_stops(rt: &impl Print) -> io::Result<()> {
     let alone = pages(0x12345011, 0);
     let closed = pages(0x12345011, 0x6789A023);
     let guarded = pages(0x12345011, 0x6789A00A);
     let secondary = also(alone, 24, 7, 0x86380E43, 0x6789A023);
     // Over a page edge a fault of the second page shows that page: no match, protection, guarded, and protection by an entry in its secondary group, 24. Source: rules 5.
-    line(816, at_edge(3, 1, alone, 64, [3, 0, 0, 0]));
-    line(817, at_edge(3, 2, closed, 64, [5, 3, 999, 3]));
-    line(818, at_edge(3, 0, guarded, 65, [4, 0, 999, 3]));
-    line(819, at_edge(3, 2, secondary, 64, [5, 3, 24, 7]));
+    line(rt, 816, at_edge(3, 1, alone, 64, [3, 0, 0, 0]))?;
+    line(rt, 817, at_edge(3, 2, closed, 64, [5, 3, 999, 3]))?;
+    line(rt, 818, at_edge(3, 0, guarded, 65, [4, 0, 999, 3]))?;
+    line(rt, 819, at_edge(3, 2, secondary, 64, [5, 3, 24, 7]))
 }
 
 // The first part not done.
-pub fn first_stops() {
+pub fn first_stops(rt: &impl Print) -> io::Result<()> {
     let none = pages(0, 0x6789A022);
     let closed = pages(0x12345013, 0x6789A022);
     let guarded = pages(0x1234500A, 0x6789A022);
     // Over a page edge a fault of the first page shows that page: no match, protection, guarded, where the second would be done; protection and no match, no match and protection, where it would not. Source: rules 5.
-    line(820, at_edge(3, 1, none, 64, [3, 0, 0, 0]));
-    line(821, at_edge(3, 2, closed, 64, [5, 3, 998, 0]));
-    line(822, at_edge(3, 0, guarded, 65, [4, 0, 998, 0]));
-    line(823, at_edge(3, 2, pages(0x12345013, 0), 64, [5, 3, 998, 0]));
-    line(824, at_edge(3, 2, pages(0, 0x6789A023), 64, [3, 0, 0, 0]));
+    line(rt, 820, at_edge(3, 1, none, 64, [3, 0, 0, 0]))?;
+    line(rt, 821, at_edge(3, 2, closed, 64, [5, 3, 998, 0]))?;
+    line(rt, 822, at_edge(3, 0, guarded, 65, [4, 0, 998, 0]))?;
+    line(
+        rt,
+        823,
+        at_edge(3, 2, pages(0x12345013, 0), 64, [5, 3, 998, 0]),
+    )?;
+    line(
+        rt,
+        824,
+        at_edge(3, 2, pages(0, 0x6789A023), 64, [3, 0, 0, 0]),
+    )
 }
 
 // Contradicting matches.
-pub fn refused() {
+pub fn refused(rt: &impl Print) -> io::Result<()> {
     let both = pages(0x12345011, 0x6789A022);
     let none = pages(0, 0x6789A022);
     let second = also(both, 24, 0, 0x86380E43, 0x6789B022);
     let first = also(both, 25, 0, 0x86380E43, 0x12346011);
     let after_none = also(none, 24, 0, 0x86380E43, 0x6789B022);
     // Over a page edge contradicting matches show nothing: of the second page where the first would be done, and of the first; after no match of the first they are not met. Source: rules 5.
-    line(825, at_edge(3, 1, second, 10, [0, 0, 0, 0]));
-    line(826, at_edge(3, 1, first, 10, [0, 0, 0, 0]));
-    line(827, at_edge(3, 1, after_none, 64, [3, 0, 0, 0]));
+    line(rt, 825, at_edge(3, 1, second, 10, [0, 0, 0, 0]))?;
+    line(rt, 826, at_edge(3, 1, first, 10, [0, 0, 0, 0]))?;
+    line(rt, 827, at_edge(3, 1, after_none, 64, [3, 0, 0, 0]))
 }
 
 // Whether an access to two bytes before 01000000 and two after it, by data pair 3 with these words, shows this record.
@@ -86,20 +95,29 @@ fn by_pair(
 }
 
 // Page 0FFF, in group 995, is before the edge at 01000000, and page 1000, in group 28, after it.
-pub fn with_block() {
+pub fn with_block(rt: &impl Print) -> io::Result<()> {
     let zero = [0u8; 65536];
     let after = also(zero, 28, 2, 0x86380E04, 0x6789A022);
     let before = also(zero, 995, 2, 0x86380E03, 0x12345012);
     let shown = [1, 3, 0, 0];
     // Over a page edge from a block to a page the block is shown, from a page to a block the page; a store to a block of PP 1 after a page shows the block, no match after a block no match. Source: rules 5.
-    line(828, by_pair(0x00FE0002, 0x10000012, 1, after, 0, shown));
+    line(rt, 828, by_pair(0x00FE0002, 0x10000012, 1, after, 0, shown))?;
     let place = [6, 2, 995, 2];
-    line(829, by_pair(0x01000002, 0x30000022, 1, before, 0, place));
-    line(830, by_pair(0x01000002, 0x30000021, 2, before, 64, shown));
     line(
+        rt,
+        829,
+        by_pair(0x01000002, 0x30000022, 1, before, 0, place),
+    )?;
+    line(
+        rt,
+        830,
+        by_pair(0x01000002, 0x30000021, 2, before, 64, shown),
+    )?;
+    line(
+        rt,
         831,
         by_pair(0x00FE0002, 0x10000012, 1, zero, 64, [3, 0, 0, 0]),
-    );
+    )
 }
 
 // Whether an access to two bytes of segment 0, VSID 0C701C, and two of segment 1 with this register, VSID 1, shows this record. Page FFFF of
@@ -124,9 +142,9 @@ fn over_segment(kind: u32, segment: u32, res: u32, record: [u32; 4]) -> bool {
 }
 
 // The second part by its own segment.
-pub fn two_segments() {
+pub fn two_segments(rt: &impl Print) -> io::Result<()> {
     // Over the end of segment 0, by segment register 1 of the second part: done, N, and Ks with PP 0, which is shown as key 1. Source: rules 5.
-    line(832, over_segment(1, 0x00000001, 0, [6, 2, 995, 0]));
-    line(833, over_segment(0, 0x10000001, 65, [2, 0, 0, 0]));
-    line(834, over_segment(2, 0x40000001, 64, [5, 4, 1, 6]));
+    line(rt, 832, over_segment(1, 0x00000001, 0, [6, 2, 995, 0]))?;
+    line(rt, 833, over_segment(0, 0x10000001, 65, [2, 0, 0, 0]))?;
+    line(rt, 834, over_segment(2, 0x40000001, 64, [5, 4, 1, 6]))
 }

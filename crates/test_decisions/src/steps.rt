@@ -1,5 +1,6 @@
 // The steps in their order: the first whose condition holds decides, and no later one is shown.
 use super::shown::{ADDRESS, byte_shows, contradicting, covered, page_shows};
+use std::io;
 use test_report::lent::{NONE, SEGMENT, with_two};
 use test_report::line;
 
@@ -13,11 +14,11 @@ fn real(mode: u32, kind: u32) -> bool {
 }
 
 // Rule 0.
-pub fn real_mode() {
+pub fn real_mode(rt: &impl Print) -> io::Result<()> {
     // Real mode is shown as four zero words, by a fetch with IR off, a load and a store with DR off, whatever blocks, segment and table have. Source: rules 5, step 1.
-    line(735, real(5, 0));
-    line(736, real(6, 1));
-    line(737, real(4, 2));
+    line(rt, 735, real(5, 0))?;
+    line(rt, 736, real(6, 1))?;
+    line(rt, 737, real(4, 2))
 }
 
 // Whether a fetch by a segment with N shows rule 2.
@@ -26,14 +27,22 @@ fn stopped(table: [u8; 65536]) -> bool {
 }
 
 // Rule 2.
-pub fn no_execute() {
+pub fn no_execute(rt: &impl Print) -> io::Result<()> {
     let mapped = with_two(998, 0, 0x86380E03, 0x12345012, NONE);
     // No-execute is shown for a fetch where the segment has N: the page is mapped, has no match, has G, or has contradicting matches; a load by that segment is done by the page. Source: rules 5, step 3.
-    line(738, stopped(mapped));
-    line(739, stopped([0u8; 65536]));
-    line(740, stopped(with_two(998, 0, 0x86380E03, 0x1234501A, NONE)));
-    line(741, stopped(contradicting()));
-    line(742, page_shows(NO_EXECUTE, 1, mapped, 0, [6, 2, 998, 0]));
+    line(rt, 738, stopped(mapped))?;
+    line(rt, 739, stopped([0u8; 65536]))?;
+    line(
+        rt,
+        740,
+        stopped(with_two(998, 0, 0x86380E03, 0x1234501A, NONE)),
+    )?;
+    line(rt, 741, stopped(contradicting()))?;
+    line(
+        rt,
+        742,
+        page_shows(NO_EXECUTE, 1, mapped, 0, [6, 2, 998, 0]),
+    )
 }
 
 // Whether an access meets no match and shows no place.
@@ -43,27 +52,36 @@ fn unmatched(kind: u32, table: [u8; 65536]) -> bool {
 }
 
 // Rule 3.
-pub fn no_match() {
+pub fn no_match(rt: &impl Print) -> io::Result<()> {
     let zero = [0u8; 65536];
     // No match is shown without a place: a load, a store and a fetch of an empty table, and a load where an entry in the primary group has H. Source: rules 5, step 4.
-    line(743, unmatched(1, zero));
-    line(744, unmatched(2, zero));
-    line(745, unmatched(0, zero));
+    line(rt, 743, unmatched(1, zero))?;
+    line(rt, 744, unmatched(2, zero))?;
+    line(rt, 745, unmatched(0, zero))?;
     line(
+        rt,
         746,
         unmatched(1, with_two(998, 0, 0x86380E43, 0x12345012, NONE)),
-    );
+    )
 }
 
 // Rule 4.
-pub fn guarded() {
+pub fn guarded(rt: &impl Print) -> io::Result<()> {
     let primary = with_two(998, 0, 0x86380E03, 0x1234501A, NONE);
     let secondary = with_two(25, 7, 0x86380E43, 0x1234501A, NONE);
     let closed = with_two(998, 0, 0x86380E03, 0x12345018, NONE);
     // Guarded is shown with the entry's place and no key: a fetch by the primary group, by the secondary, and with key 1 and PP 0 too; a load and a store of the page are done by it. Source: rules 5, step 5.
-    line(747, page_shows(SEGMENT, 0, primary, 65, [4, 0, 998, 0]));
-    line(748, page_shows(SEGMENT, 0, secondary, 65, [4, 0, 25, 7]));
-    line(749, page_shows(0x600C701C, 0, closed, 65, [4, 0, 998, 0]));
-    line(750, page_shows(SEGMENT, 1, primary, 0, [6, 2, 998, 0]));
-    line(751, page_shows(SEGMENT, 2, primary, 0, [6, 2, 998, 0]));
+    line(rt, 747, page_shows(SEGMENT, 0, primary, 65, [4, 0, 998, 0]))?;
+    line(
+        rt,
+        748,
+        page_shows(SEGMENT, 0, secondary, 65, [4, 0, 25, 7]),
+    )?;
+    line(
+        rt,
+        749,
+        page_shows(0x600C701C, 0, closed, 65, [4, 0, 998, 0]),
+    )?;
+    line(rt, 750, page_shows(SEGMENT, 1, primary, 0, [6, 2, 998, 0]))?;
+    line(rt, 751, page_shows(SEGMENT, 2, primary, 0, [6, 2, 998, 0]))
 }

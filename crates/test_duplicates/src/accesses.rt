@@ -1,5 +1,6 @@
 // Accesses by two matches that agree: the first is used and marked.
 use super::asked::{byte, done, in_both};
+use std::io;
 use test_report::lent::{SDR1, SEGMENT, page_with};
 use test_report::line;
 
@@ -14,38 +15,38 @@ fn marks_first(kind: u32, first: u32, other: u32, marked: u32) -> bool {
 }
 
 // Loads.
-pub fn loads() {
+pub fn loads(rt: &impl Print) -> io::Result<()> {
     // Duplicates that differ in R, in C, in an ignored bit (20, 21, 22, 29) of the other, in all ignored bits of the first: a load is done and sets R in the first alone; R that stood in the first stays. Source: rules 4 and 5, step 7.
-    line(845, marks_first(1, 0x12345012, 0x12345112, 0x12345112));
-    line(846, marks_first(1, 0x12345012, 0x12345092, 0x12345112));
-    line(847, marks_first(1, 0x12345012, 0x12345812, 0x12345112));
-    line(848, marks_first(1, 0x12345012, 0x12345412, 0x12345112));
-    line(849, marks_first(1, 0x12345012, 0x12345212, 0x12345112));
-    line(850, marks_first(1, 0x12345012, 0x12345016, 0x12345112));
-    line(851, marks_first(1, 0x12345E16, 0x12345012, 0x12345F16));
-    line(852, marks_first(1, 0x12345112, 0x12345012, 0x12345112));
+    line(rt, 845, marks_first(1, 0x12345012, 0x12345112, 0x12345112))?;
+    line(rt, 846, marks_first(1, 0x12345012, 0x12345092, 0x12345112))?;
+    line(rt, 847, marks_first(1, 0x12345012, 0x12345812, 0x12345112))?;
+    line(rt, 848, marks_first(1, 0x12345012, 0x12345412, 0x12345112))?;
+    line(rt, 849, marks_first(1, 0x12345012, 0x12345212, 0x12345112))?;
+    line(rt, 850, marks_first(1, 0x12345012, 0x12345016, 0x12345112))?;
+    line(rt, 851, marks_first(1, 0x12345E16, 0x12345012, 0x12345F16))?;
+    line(rt, 852, marks_first(1, 0x12345112, 0x12345012, 0x12345112))
 }
 
 // Stores and fetches.
-pub fn other_kinds() {
+pub fn other_kinds(rt: &impl Print) -> io::Result<()> {
     // A store sets R and C in the first alone: where the other has them already, where the first has R, where the other has ignored bits too. Source: rules 4 and 5, step 7.
-    line(853, marks_first(2, 0x12345012, 0x12345192, 0x12345192));
-    line(854, marks_first(2, 0x12345112, 0x12345012, 0x12345192));
-    line(855, marks_first(2, 0x12345012, 0x12345F96, 0x12345192));
+    line(rt, 853, marks_first(2, 0x12345012, 0x12345192, 0x12345192))?;
+    line(rt, 854, marks_first(2, 0x12345112, 0x12345012, 0x12345192))?;
+    line(rt, 855, marks_first(2, 0x12345012, 0x12345F96, 0x12345192))?;
     // A fetch sets R in the first alone: where the other has both marks, where the first has C. Source: rules 4 and 5, step 7.
-    line(856, marks_first(0, 0x12345012, 0x12345192, 0x12345112));
-    line(857, marks_first(0, 0x12345092, 0x12345012, 0x12345192));
+    line(rt, 856, marks_first(0, 0x12345012, 0x12345192, 0x12345112))?;
+    line(rt, 857, marks_first(0, 0x12345092, 0x12345012, 0x12345192))
 }
 
 // Faults.
-pub fn faults() {
+pub fn faults(rt: &impl Print) -> io::Result<()> {
     let read_only = in_both(0x12345013, 0x12345193);
     let guarded = in_both(0x1234500A, 0x1234598E);
     let protection = [64, 0x0A000000, 0x300, 0x00FFA01B, 0, 0, 0, 0, 5, 3, 998, 7];
     let no_fetch = [65, 0x10000000, 0x400, 0x00FFA01B, 0, 0, 0, 0, 4, 0, 998, 7];
     // Duplicates that agree and forbid the access: a store of PP 3 and a fetch of G fault by the first and mark neither. Source: rules 5, steps 5 to 7.
-    line(858, byte(2, read_only, protection, read_only));
-    line(859, byte(0, guarded, no_fetch, guarded));
+    line(rt, 858, byte(2, read_only, protection, read_only))?;
+    line(rt, 859, byte(0, guarded, no_fetch, guarded))
 }
 
 // Whether two loads and a store on one table are done one after the other and leave the marks of both in the first match alone.
@@ -60,7 +61,7 @@ fn in_a_row() -> bool {
 }
 
 // An access after another.
-pub fn touched() {
+pub fn touched(rt: &impl Print) -> io::Result<()> {
     // Equal duplicates in both groups: a load, a load and a store on one table are all done, and the first alone has their marks. Source: rules 4; request 3's own example.
-    line(860, in_a_row());
+    line(rt, 860, in_a_row())
 }

@@ -1,5 +1,6 @@
 // Operands over the edge between pages 0FFA and 0FFB, each with a second match in its secondary group: three bytes before it and five after.
 use super::asked::{REFUSED, access};
+use std::io;
 use test_report::lent::{also, pages};
 use test_report::line;
 
@@ -33,7 +34,7 @@ const DONE: [u32; 12] = [
 ];
 
 // Both agree.
-pub fn agreeing() {
+pub fn agreeing(rt: &impl Print) -> io::Result<()> {
     let read = Duplicates {
         first: 0x12345012,
         other: 0x12345112,
@@ -52,6 +53,7 @@ pub fn agreeing() {
     };
     // Over a page edge, duplicates of both pages that agree: a load where R differs before the edge and C after it, a store where ignored bits differ; the first of each page is marked. Source: rules 4 and 5.
     line(
+        rt,
         900,
         at_edge(
             1,
@@ -59,11 +61,11 @@ pub fn agreeing() {
             DONE,
             table(read_after, changed_after),
         ),
-    );
+    )
 }
 
 // Continues `agreeing`.
-pub fn ignored() {
+pub fn ignored(rt: &impl Print) -> io::Result<()> {
     let plain = Duplicates {
         first: 0x12345012,
         other: 0x12345E16,
@@ -81,6 +83,7 @@ pub fn ignored() {
         other: 0x6789A022,
     };
     line(
+        rt,
         901,
         at_edge(
             2,
@@ -88,7 +91,7 @@ pub fn ignored() {
             DONE,
             table(plain_after, ignored_after),
         ),
-    );
+    )
 }
 
 // Whether a load over the edge by these entries is refused 10 and marks neither page.
@@ -98,7 +101,7 @@ fn refused(before: Duplicates, after: Duplicates) -> bool {
 }
 
 // One of them contradicts.
-pub fn contradicting() {
+pub fn contradicting(rt: &impl Print) -> io::Result<()> {
     let agreeing = Duplicates {
         first: 0x12345012,
         other: 0x12345112,
@@ -116,6 +119,6 @@ pub fn contradicting() {
         other: 0x6789A0A2,
     };
     // Over a page edge, duplicates of one page agree and those of the other contradict: after the edge by PP, before it by WIMG; neither page is marked. Source: rules 4 and 5.
-    line(902, refused(agreeing, by_pp));
-    line(903, refused(by_attributes, agreeing_after));
+    line(rt, 902, refused(agreeing, by_pp))?;
+    line(rt, 903, refused(by_attributes, agreeing_after))
 }

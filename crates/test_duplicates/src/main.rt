@@ -10,38 +10,40 @@ mod looks;
 mod others;
 mod several;
 
+use std::io;
+
 // Runs the cases of two matches.
-fn run_two() {
-    looks::marks();
-    looks::ignored();
-    accesses::loads();
-    accesses::other_kinds();
-    accesses::faults();
-    accesses::touched();
-    others::unmaps();
-    others::protects();
-    contradicting::single_bits();
-    contradicting::with_others();
+fn run_two(rt: &impl Print) -> io::Result<()> {
+    looks::marks(rt)?;
+    looks::ignored(rt)?;
+    accesses::loads(rt)?;
+    accesses::other_kinds(rt)?;
+    accesses::faults(rt)?;
+    accesses::touched(rt)?;
+    others::unmaps(rt)?;
+    others::protects(rt)?;
+    contradicting::single_bits(rt)?;
+    contradicting::with_others(rt)
 }
 
 // Runs the cases of the module `several`.
-fn run_several() {
-    several::one_group();
-    several::three_contradict_1();
-    several::three_contradict_2();
-    several::three_agree();
-    several::all_sixteen();
+fn run_several(rt: &impl Print) -> io::Result<()> {
+    several::one_group(rt)?;
+    several::three_contradict_1(rt)?;
+    several::three_contradict_2(rt)?;
+    several::three_agree(rt)?;
+    several::all_sixteen(rt)
 }
 
 // Runs the cases of the module `edges`.
-fn run_edges() {
-    edges::agreeing();
-    edges::ignored();
-    edges::contradicting();
+fn run_edges(rt: &impl Print) -> io::Result<()> {
+    edges::agreeing(rt)?;
+    edges::ignored(rt)?;
+    edges::contradicting(rt)
 }
 
-fn main() {
-    run_two();
-    run_several();
-    run_edges();
+fn main(rt: HostRuntime) -> io::Result<()> {
+    run_two(&rt)?;
+    run_several(&rt)?;
+    run_edges(&rt)
 }

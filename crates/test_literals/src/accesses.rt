@@ -1,5 +1,6 @@
 // Accesses, by a page, by two, by a block, in real mode, and a fault.
 use super::lent::{registers, table_with, table_with_next};
+use std::io;
 use test_report::line;
 
 // Mode, kind, effective address and length.
@@ -85,22 +86,22 @@ fn leaves(mode: u32, kind: u32, address: u32, res: u32, expected: &[u8]) -> bool
 }
 
 // By one page, the marks in the entry's last two bytes; by two. Source: rules 5.
-pub fn pages() {
-    line(1235, byte(2, 0, 0x51, 0x12));
-    line(1236, byte(1, 1, 0x51, 0x12));
-    line(1237, byte(1, 2, 0x51, 0x92));
-    line(1238, over_an_edge());
+pub fn pages(rt: &impl Print) -> io::Result<()> {
+    line(rt, 1235, byte(2, 0, 0x51, 0x12))?;
+    line(rt, 1236, byte(1, 1, 0x51, 0x12))?;
+    line(rt, 1237, byte(1, 2, 0x51, 0x92))?;
+    line(rt, 1238, over_an_edge())
 }
 
 // A store by the data block at 80000000, 1FFFFFFF with WIMG 11; a fetch in real mode; a store to page 0FFB, which has no entry. Source: rules 5.
-pub fn others() {
+pub fn others(rt: &impl Print) -> io::Result<()> {
     let by_block =
         b"\x00\x00\x00\x00\x1F\xFF\xFF\xFF\x00\x00\x00\x0B\x8F\xFF\xFF\xFF\x00\x00\x00\x00\x00\x00\x00\x00\x00\x00\x00\x01\x00\x00\x00\x00\x00\x00\x00\x01\x00\x00\x00\x00\x00\x00\x00\x00\x00\x00\x00\x00";
-    line(1239, leaves(1, 2, 0x8FFFFFFF, 0, by_block));
+    line(rt, 1239, leaves(1, 2, 0x8FFFFFFF, 0, by_block))?;
     let in_real_mode =
         b"\x00\x00\x00\x00\x00\xFF\xA0\x1B\x00\x00\x00\x03\x00\xFF\xA0\x1B\x00\x00\x00\x00\x00\x00\x00\x00\x00\x00\x00\x01\x00\x00\x00\x00\x00\x00\x00\x00\x00\x00\x00\x00\x00\x00\x00\x00\x00\x00\x00\x00";
-    line(1240, leaves(0, 0, 0x00FFA01B, 0, in_real_mode));
+    line(rt, 1240, leaves(0, 0, 0x00FFA01B, 0, in_real_mode))?;
     let no_match =
         b"\x00\x00\x00\x40\x42\x00\x00\x00\x00\x00\x03\x00\x00\xFF\xB0\x1B\x00\x00\x00\x00\x00\x00\x00\x00\x00\x00\x00\x00\x00\x00\x00\x00\x00\x00\x00\x03\x00\x00\x00\x00\x00\x00\x00\x00\x00\x00\x00\x00";
-    line(1241, leaves(1, 2, 0x00FFB01B, 64, no_match));
+    line(rt, 1241, leaves(1, 2, 0x00FFB01B, 64, no_match))
 }

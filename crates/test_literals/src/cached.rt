@@ -1,5 +1,6 @@
 // An access with a cache, an invalidate, and rights. Set 58, of page index 0FFA, begins at the cache's byte 1856.
 use super::lent::{INDEX, registers, table_with};
+use std::io;
 use test_report::line;
 
 // A cache whose set 58 has the page in place 0, its second word ending with these bytes.
@@ -90,13 +91,13 @@ fn told() -> bool {
 }
 
 // A load into the cache, a hit, an invalidate. Source: request 7.
-pub fn caches() {
-    line(1247, first_load());
-    line(1248, hit());
-    line(1249, invalidate());
+pub fn caches(rt: &impl Print) -> io::Result<()> {
+    line(rt, 1247, first_load())?;
+    line(rt, 1248, hit())?;
+    line(rt, 1249, invalidate())
 }
 
 // What a fetch, a load and a store would come to. Source: rules 5.
-pub fn rights() {
-    line(1250, told());
+pub fn rights(rt: &impl Print) -> io::Result<()> {
+    line(rt, 1250, told())
 }

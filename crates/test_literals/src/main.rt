@@ -8,13 +8,15 @@ mod lent;
 mod pages;
 mod without_table;
 
-fn main() {
-    pages::tables();
-    pages::answers();
-    accesses::pages();
-    accesses::others();
-    without_table::pages();
-    without_table::entries();
-    cached::caches();
-    cached::rights();
+use std::io;
+
+fn main(rt: HostRuntime) -> io::Result<()> {
+    pages::tables(&rt)?;
+    pages::answers(&rt)?;
+    accesses::pages(&rt)?;
+    accesses::others(&rt)?;
+    without_table::pages(&rt)?;
+    without_table::entries(&rt)?;
+    cached::caches(&rt)?;
+    cached::rights(&rt)
 }

@@ -1,5 +1,6 @@
 // The page calls.
 use super::lent::{INDEX, SDR1, VSID, table_with};
+use std::io;
 use test_report::line;
 
 fn clear() -> bool {
@@ -44,15 +45,15 @@ fn look_in_vain() -> bool {
 }
 
 // Calls that answer by the table alone. Source: rules 6.
-pub fn tables() {
-    line(1229, clear());
-    line(1230, map());
-    line(1231, protect());
+pub fn tables(rt: &impl Print) -> io::Result<()> {
+    line(rt, 1229, clear())?;
+    line(rt, 1230, map())?;
+    line(rt, 1231, protect())
 }
 
 // Calls that answer bytes. Source: rules 6.
-pub fn answers() {
-    line(1232, unmap());
-    line(1233, look());
-    line(1234, look_in_vain());
+pub fn answers(rt: &impl Print) -> io::Result<()> {
+    line(rt, 1232, unmap())?;
+    line(rt, 1233, look())?;
+    line(rt, 1234, look_in_vain())
 }

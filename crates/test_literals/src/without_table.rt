@@ -1,5 +1,6 @@
 // Check, set_register, pack and unpack.
 use super::lent::registers;
+use std::io;
 use test_report::line;
 
 fn check_good() -> bool {
@@ -40,14 +41,14 @@ fn unpack() -> bool {
 }
 
 // Calls on a register page. Source: rules 3.
-pub fn pages() {
-    line(1242, check_good());
-    line(1243, check_broken());
-    line(1244, set_register());
+pub fn pages(rt: &impl Print) -> io::Result<()> {
+    line(rt, 1242, check_good())?;
+    line(rt, 1243, check_broken())?;
+    line(rt, 1244, set_register())
 }
 
 // Calls on an entry. Source: rules 4.
-pub fn entries() {
-    line(1245, pack());
-    line(1246, unpack());
+pub fn entries(rt: &impl Print) -> io::Result<()> {
+    line(rt, 1245, pack())?;
+    line(rt, 1246, unpack())
 }

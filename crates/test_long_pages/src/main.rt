@@ -11,44 +11,46 @@ mod shared;
 mod sizes;
 mod widened;
 
+use std::io;
+
 // Runs the cases of lengths and pairs.
-fn run_pages() {
-    lengths::checks();
-    lengths::sets();
-    lengths::accesses();
-    pairs::instruction();
-    pairs::data();
-    pairs::outside();
-    pairs::word_25();
+fn run_pages(rt: &impl Print) -> io::Result<()> {
+    lengths::checks(rt)?;
+    lengths::sets(rt)?;
+    lengths::accesses(rt)?;
+    pairs::instruction(rt)?;
+    pairs::data(rt)?;
+    pairs::outside(rt)?;
+    pairs::word_25(rt)
 }
 
 // Runs the cases of the rules of blocks.
-fn run_blocks() {
-    sizes::lengths_1();
-    sizes::lengths_2();
-    sizes::shapes();
-    sizes::short_limit();
-    shared::two_of_eight();
-    shared::within();
-    shared::all_addresses();
-    shared::off();
+fn run_blocks(rt: &impl Print) -> io::Result<()> {
+    sizes::lengths_1(rt)?;
+    sizes::lengths_2(rt)?;
+    sizes::shapes(rt)?;
+    sizes::short_limit(rt)?;
+    shared::two_of_eight(rt)?;
+    shared::within(rt)?;
+    shared::all_addresses(rt)?;
+    shared::off(rt)
 }
 
 // Runs the cases of set register and access, and of a widened page.
-fn run_calls() {
-    sets::numbers();
-    sets::short_numbers();
-    sets::judged();
-    accesses::rights();
-    accesses::refusals();
-    accesses::beside_pages();
-    widened::checks();
-    widened::accesses();
-    widened::sets();
+fn run_calls(rt: &impl Print) -> io::Result<()> {
+    sets::numbers(rt)?;
+    sets::short_numbers(rt)?;
+    sets::judged(rt)?;
+    accesses::rights(rt)?;
+    accesses::refusals(rt)?;
+    accesses::beside_pages(rt)?;
+    widened::checks(rt)?;
+    widened::accesses(rt)?;
+    widened::sets(rt)
 }
 
-fn main() {
-    run_pages();
-    run_blocks();
-    run_calls();
+fn main(rt: HostRuntime) -> io::Result<()> {
+    run_pages(&rt)?;
+    run_blocks(&rt)?;
+    run_calls(&rt)
 }

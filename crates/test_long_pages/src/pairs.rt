@@ -3,6 +3,7 @@ use super::asked::{
     answers, by_block, fetch, fetch_lost, load, load_lost, long_page, one, pair, short_answers,
     short_page, short_pair,
 };
+use std::io;
 use test_report::line;
 
 // Instruction pairs 0 to 7 at words 17 to 32: 128 Kbytes each, one after the other from 80000000 on, at 10000000.
@@ -53,68 +54,90 @@ fn loaded(address: u32, physical: u32, number: u32) -> bool {
 }
 
 // Instruction pairs.
-pub fn instruction() {
+pub fn instruction(rt: &impl Print) -> io::Result<()> {
     // Long page, sixteen blocks: a fetch by each instruction pair, words 17 to 32, is shown by the pair's number, 0 to 7. Source: request 5; rules 5.
-    line(929, fetched(0x80000000, 0x10000000, 0));
-    line(930, fetched(0x80020001, 0x10020001, 1));
-    line(931, fetched(0x80040002, 0x10040002, 2));
-    line(932, fetched(0x80060003, 0x10060003, 3));
-    line(933, fetched(0x80080004, 0x10080004, 4));
-    line(934, fetched(0x800A0005, 0x100A0005, 5));
-    line(935, fetched(0x800C0006, 0x100C0006, 6));
-    line(936, fetched(0x800FFFFF, 0x100FFFFF, 7));
+    line(rt, 929, fetched(0x80000000, 0x10000000, 0))?;
+    line(rt, 930, fetched(0x80020001, 0x10020001, 1))?;
+    line(rt, 931, fetched(0x80040002, 0x10040002, 2))?;
+    line(rt, 932, fetched(0x80060003, 0x10060003, 3))?;
+    line(rt, 933, fetched(0x80080004, 0x10080004, 4))?;
+    line(rt, 934, fetched(0x800A0005, 0x100A0005, 5))?;
+    line(rt, 935, fetched(0x800C0006, 0x100C0006, 6))?;
+    line(rt, 936, fetched(0x800FFFFF, 0x100FFFFF, 7))
 }
 
 // Data pairs.
-pub fn data() {
+pub fn data(rt: &impl Print) -> io::Result<()> {
     // Long page, sixteen blocks: a load by each data pair, words 33 to 48, is shown by the pair's number, 0 to 7. Source: request 5; rules 5.
-    line(937, loaded(0xA0000000, 0x20000000, 0));
-    line(938, loaded(0xA0020001, 0x20020001, 1));
-    line(939, loaded(0xA0040002, 0x20040002, 2));
-    line(940, loaded(0xA0060003, 0x20060003, 3));
-    line(941, loaded(0xA0080004, 0x20080004, 4));
-    line(942, loaded(0xA00A0005, 0x200A0005, 5));
-    line(943, loaded(0xA00C0006, 0x200C0006, 6));
-    line(944, loaded(0xA00FFFFF, 0x200FFFFF, 7));
+    line(rt, 937, loaded(0xA0000000, 0x20000000, 0))?;
+    line(rt, 938, loaded(0xA0020001, 0x20020001, 1))?;
+    line(rt, 939, loaded(0xA0040002, 0x20040002, 2))?;
+    line(rt, 940, loaded(0xA0060003, 0x20060003, 3))?;
+    line(rt, 941, loaded(0xA0080004, 0x20080004, 4))?;
+    line(rt, 942, loaded(0xA00A0005, 0x200A0005, 5))?;
+    line(rt, 943, loaded(0xA00C0006, 0x200C0006, 6))?;
+    line(rt, 944, loaded(0xA00FFFFF, 0x200FFFFF, 7))
 }
 
 // Addresses that no block of the side holds.
-pub fn outside() {
+pub fn outside(rt: &impl Print) -> io::Result<()> {
     let page = sixteen();
     // Long page, sixteen blocks: the addresses before the first and after the eighth, and those of the other side, meet no match. Source: request 5; rules 5.
     line(
+        rt,
         945,
         answers(page, fetch(0x7FFFFFFF), fetch_lost(0x7FFFFFFF)),
-    );
+    )?;
     line(
+        rt,
         946,
         answers(page, fetch(0x80100000), fetch_lost(0x80100000)),
-    );
+    )?;
     line(
+        rt,
         947,
         answers(page, fetch(0xA00E0000), fetch_lost(0xA00E0000)),
-    );
-    line(948, answers(page, load(0x9FFFFFFF), load_lost(0x9FFFFFFF)));
-    line(949, answers(page, load(0xA0100000), load_lost(0xA0100000)));
-    line(950, answers(page, load(0x800E0000), load_lost(0x800E0000)));
+    )?;
+    line(
+        rt,
+        948,
+        answers(page, load(0x9FFFFFFF), load_lost(0x9FFFFFFF)),
+    )?;
+    line(
+        rt,
+        949,
+        answers(page, load(0xA0100000), load_lost(0xA0100000)),
+    )?;
+    line(
+        rt,
+        950,
+        answers(page, load(0x800E0000), load_lost(0x800E0000)),
+    )
 }
 
 // The same words on both pages.
-pub fn word_25() {
+pub fn word_25(rt: &impl Print) -> io::Result<()> {
     let long = one(25, 0xB0000003, 0x10000002);
     let short = short_pair(short_page(), 25, 0xB0000003, 0x10000002);
     // Words 25 and 26 are data pair 0 on a short page and instruction pair 4 on a long one: load and fetch on the short page, load and fetch on the long one. Source: request 5; rules 3.
     line(
+        rt,
         951,
         short_answers(short, load(0xB0001234), by_block(0xB0001234, 0x10001234, 0)),
-    );
+    )?;
     line(
+        rt,
         952,
         short_answers(short, fetch(0xB0001234), fetch_lost(0xB0001234)),
-    );
-    line(953, answers(long, load(0xB0001234), load_lost(0xB0001234)));
+    )?;
     line(
+        rt,
+        953,
+        answers(long, load(0xB0001234), load_lost(0xB0001234)),
+    )?;
+    line(
+        rt,
         954,
         answers(long, fetch(0xB0001234), by_block(0xB0001234, 0x10001234, 4)),
-    );
+    )
 }

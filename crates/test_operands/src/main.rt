@@ -8,43 +8,45 @@ mod lengths;
 mod pages;
 mod segments;
 
+use std::io;
+
 // Runs the cases of the module `lengths`.
-fn run_lengths() {
-    lengths::parts_1();
-    lengths::parts_2();
-    lengths::refused_alone();
-    lengths::refused_in_order();
+fn run_lengths(rt: &impl Print) -> io::Result<()> {
+    lengths::parts_1(rt)?;
+    lengths::parts_2(rt)?;
+    lengths::refused_alone(rt)?;
+    lengths::refused_in_order(rt)
 }
 
 // Runs the cases of the module `pages`.
-fn run_pages() {
-    pages::done();
-    pages::kept_bits();
-    pages::second_stops_1();
-    pages::second_stops_2();
-    pages::first_stops();
-    pages::neither_done();
-    pages::duplicates();
-    pages::shared_groups();
+fn run_pages(rt: &impl Print) -> io::Result<()> {
+    pages::done(rt)?;
+    pages::kept_bits(rt)?;
+    pages::second_stops_1(rt)?;
+    pages::second_stops_2(rt)?;
+    pages::first_stops(rt)?;
+    pages::neither_done(rt)?;
+    pages::duplicates(rt)?;
+    pages::shared_groups(rt)
 }
 
 // Runs the cases of the module `segments`.
-fn run_segments() {
-    segments::two_segments_1();
-    segments::two_segments_2();
-    segments::last_address();
+fn run_segments(rt: &impl Print) -> io::Result<()> {
+    segments::two_segments_1(rt)?;
+    segments::two_segments_2(rt)?;
+    segments::last_address(rt)
 }
 
 // Runs the cases of the module `blocks`.
-fn run_blocks() {
-    blocks::within_block();
-    blocks::two_means();
-    blocks::stopped();
+fn run_blocks(rt: &impl Print) -> io::Result<()> {
+    blocks::within_block(rt)?;
+    blocks::two_means(rt)?;
+    blocks::stopped(rt)
 }
 
-fn main() {
-    run_lengths();
-    run_pages();
-    run_segments();
-    run_blocks();
+fn main(rt: HostRuntime) -> io::Result<()> {
+    run_lengths(&rt)?;
+    run_pages(&rt)?;
+    run_segments(&rt)?;
+    run_blocks(&rt)
 }

@@ -1,5 +1,6 @@
 // Operands over the end of a segment, and over the last address.
 use super::asked::fault;
+use std::io;
 use test_report::asked::{Asked, answers};
 use test_report::lent::{Other, SDR1, SEGMENT, with_two};
 use test_report::{line, put};
@@ -49,25 +50,37 @@ fn access(
 const DONE: [u32; 8] = [0, 0x12345FFE, 2, 0x0FFFFFFE, 0x6789A000, 4, 2, 2];
 
 // Each part by its own segment.
-pub fn two_segments_1() {
+pub fn two_segments_1(rt: &impl Print) -> io::Result<()> {
     let table = pages(0x12345012, 0x6789A022);
     let read = pages(0x12345112, 0x6789A122);
     let second = fault(65, 0x10000000, 0x10000000);
     let first = fault(65, 0x10000000, 0x0FFFFFFE);
     // Over the end of segment 0, each part by its own segment register: VSID, N of the second, N of the first, Ks of the second, Ks of the first. Source: rules 5, parts, steps 3 and 6.
-    line(715, access(1, SEGMENT, 0x00000001, table, DONE, read));
-    line(716, access(0, SEGMENT, 0x10000001, table, second, table));
-    line(717, access(0, 0x100C701C, 0x00000001, table, first, table));
+    line(rt, 715, access(1, SEGMENT, 0x00000001, table, DONE, read))?;
+    line(
+        rt,
+        716,
+        access(0, SEGMENT, 0x10000001, table, second, table),
+    )?;
+    line(
+        rt,
+        717,
+        access(0, 0x100C701C, 0x00000001, table, first, table),
+    )
 }
 
 // Continues `two_segments_1`.
-pub fn two_segments_2() {
+pub fn two_segments_2(rt: &impl Print) -> io::Result<()> {
     let both = pages(0x12345010, 0x6789A020);
     let stops = fault(64, 0x0A000000, 0x10000000);
-    line(718, access(2, SEGMENT, 0x40000001, both, stops, both));
+    line(rt, 718, access(2, SEGMENT, 0x40000001, both, stops, both))?;
     let table = pages(0x12345012, 0x6789A020);
     let written = pages(0x12345192, 0x6789A1A0);
-    line(719, access(2, 0x400C701C, 0x00000001, table, DONE, written));
+    line(
+        rt,
+        719,
+        access(2, 0x400C701C, 0x00000001, table, DONE, written),
+    )
 }
 
 // Page FFFF of VSID 2 in group 1021, and page 0 of VSID 0C701C in group 28; a page whose word is zero has no entry.
@@ -106,22 +119,28 @@ fn stops(kind: u32, table: [u8; 65536], word: u32, address: u32) -> bool {
 }
 
 // The address after FFFFFFFF is 00000000.
-pub fn last_address() {
+pub fn last_address(rt: &impl Print) -> io::Result<()> {
     let table = around_zero(0x12345012, 0x6789A022);
     let read = around_zero(0x12345112, 0x6789A122);
     let written = around_zero(0x12345192, 0x6789A1A2);
     let four = [0, 0x12345FFE, 2, 0xFFFFFFFE, 0x6789A000, 4, 2, 2];
     let longest = [0, 0x12345FFF, 2, 0xFFFFFFFF, 0x6789A000, 4, 1, 127];
     // Over FFFFFFFF by pages: the second page is page 0 of segment 0; its faults are at 00000000, the first's at the operand's own address; and 127 bytes from 00000000 on. Source: rules 5, parts.
-    line(720, over_last(1, 0xFFFFFFFE, 4, table, four, read));
-    line(721, stops(1, around_zero(0x12345012, 0), 0x40000000, 0));
+    line(rt, 720, over_last(1, 0xFFFFFFFE, 4, table, four, read))?;
+    line(rt, 721, stops(1, around_zero(0x12345012, 0), 0x40000000, 0))?;
     line(
+        rt,
         722,
         stops(2, around_zero(0x12345012, 0x6789A023), 0x0A000000, 0),
-    );
+    )?;
     line(
+        rt,
         723,
         stops(2, around_zero(0, 0x6789A022), 0x42000000, 0xFFFFFFFE),
-    );
-    line(724, over_last(2, 0xFFFFFFFF, 128, table, longest, written));
+    )?;
+    line(
+        rt,
+        724,
+        over_last(2, 0xFFFFFFFF, 128, table, longest, written),
+    )
 }

@@ -7,19 +7,21 @@ mod emulated_970;
 mod recorded;
 mod text;
 
-fn main() {
-    emulated_970::lines_1_1();
-    emulated_970::lines_1_2();
-    emulated_970::lines_17_1();
-    emulated_970::lines_17_2();
-    emulated_970::lines_33_1();
-    emulated_970::lines_33_2();
-    emulated_970::lines_49_1();
-    emulated_970::lines_49_2();
-    emulated_750::lines_6();
-    emulated_750::lines_25();
-    emulated_750::lines_119();
-    emulated_750::lines_213();
-    emulated_750::lines_319();
-    emulated_750::lines_380();
+use std::io;
+
+fn main(rt: HostRuntime) -> io::Result<()> {
+    emulated_970::lines_1_1(&rt)?;
+    emulated_970::lines_1_2(&rt)?;
+    emulated_970::lines_17_1(&rt)?;
+    emulated_970::lines_17_2(&rt)?;
+    emulated_970::lines_33_1(&rt)?;
+    emulated_970::lines_33_2(&rt)?;
+    emulated_970::lines_49_1(&rt)?;
+    emulated_970::lines_49_2(&rt)?;
+    emulated_750::lines_6(&rt)?;
+    emulated_750::lines_25(&rt)?;
+    emulated_750::lines_119(&rt)?;
+    emulated_750::lines_213(&rt)?;
+    emulated_750::lines_319(&rt)?;
+    emulated_750::lines_380(&rt)
 }

@@ -7,15 +7,14 @@ pub mod called;
 pub mod lent;
 pub mod refused;
 
-use libc::STDOUT_FILENO;
+use std::io;
 
 // Writes a case's number, a space and `ok` or `bad`.
-pub fn line(number: u64, good: bool) {
-    io::print_decimal(STDOUT_FILENO, number);
+pub fn line(rt: &impl Print, number: u64, good: bool) -> io::Result<()> {
     if good {
-        io::write_all(STDOUT_FILENO, b" ok\n");
+        println!(rt; "{number} ok")
     } else {
-        io::write_all(STDOUT_FILENO, b" bad\n");
+        println!(rt; "{number} bad")
     }
 }
 

@@ -4,9 +4,9 @@ use super::lent::{Scene, access_refused, kept, table_of};
 // The lengths that an access is lent: of the register page, the answer and the table.
 #[derive(Clone, Copy)]
 pub struct Lengths {
-    pub page: isize,
-    pub answer: isize,
-    pub table: isize,
+    pub page: usize,
+    pub answer: usize,
+    pub table: usize,
 }
 
 pub const RIGHT: Lengths = Lengths {
@@ -67,9 +67,9 @@ fn access_part(
     table: &mut [u8],
     answer: &mut [u8],
 ) -> u32 {
-    let k = io::count(lengths.page, page);
-    let m = io::count(lengths.answer, answer);
-    let n = io::count(lengths.table, table);
+    let k = lengths.page.min(page.len());
+    let m = lengths.answer.min(answer.len());
+    let n = lengths.table.min(table.len());
     mmu::mmu_access(
         &page[..k],
         mode,

@@ -7,23 +7,25 @@ mod blocks;
 mod pages;
 mod refused;
 
+use std::io;
+
 // Runs the cases of the module `pages`.
-fn run_pages() {
-    pages::marks();
-    pages::places();
-    pages::protected();
-    pages::fetches();
-    pages::unmatched();
-    pages::edges();
+fn run_pages(rt: &impl Print) -> io::Result<()> {
+    pages::marks(rt)?;
+    pages::places(rt)?;
+    pages::protected(rt)?;
+    pages::fetches(rt)?;
+    pages::unmatched(rt)?;
+    pages::edges(rt)
 }
 
-fn main() {
-    run_pages();
-    blocks::real_mode();
-    blocks::blocks();
-    blocks::contradictions();
-    refused::page_lengths();
-    refused::answer_lengths();
-    refused::alone();
-    refused::in_order();
+fn main(rt: HostRuntime) -> io::Result<()> {
+    run_pages(&rt)?;
+    blocks::real_mode(&rt)?;
+    blocks::blocks(&rt)?;
+    blocks::contradictions(&rt)?;
+    refused::page_lengths(&rt)?;
+    refused::answer_lengths(&rt)?;
+    refused::alone(&rt)?;
+    refused::in_order(&rt)
 }

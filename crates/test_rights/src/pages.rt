@@ -2,6 +2,7 @@
 use super::asked::{
     ADDRESS, FIRST, FIRST_SECONDARY, Told, done, no_data, no_fetch, tells, tells_at,
 };
+use std::io;
 use test_report::lent::{NONE, Other, SDR1, SEGMENT, page_with, with_two};
 use test_report::line;
 
@@ -23,16 +24,16 @@ fn marked(second: u32, read: u32, written: u32) -> bool {
 }
 
 // R is 100 and C is 080; what is set already is not told.
-pub fn marks() {
+pub fn marks(rt: &impl Print) -> io::Result<()> {
     // Neither is set; R is; C is; both are. Source: rules 5, step 7.
-    line(1180, marked(0x12345012, 0x100, 0x180));
-    line(1181, marked(0x12345112, 0, 0x080));
-    line(1182, marked(0x12345092, 0x100, 0x100));
-    line(1183, marked(0x12345192, 0, 0));
+    line(rt, 1180, marked(0x12345012, 0x100, 0x180))?;
+    line(rt, 1181, marked(0x12345112, 0, 0x080))?;
+    line(rt, 1182, marked(0x12345092, 0x100, 0x100))?;
+    line(rt, 1183, marked(0x12345192, 0, 0))
 }
 
 // The marks are those of the entry that the record names.
-pub fn places() {
+pub fn places(rt: &impl Print) -> io::Result<()> {
     // In the secondary group, where the same entry of the primary is another page's with both marks. Source: rules 4 and 5, steps 4 and 7.
     let other = Other {
         group: 998,
@@ -43,9 +44,10 @@ pub fn places() {
     let reads = done(2, 2, 25, 5, 0x100);
     let table = with_two(25, 5, FIRST_SECONDARY, 0x12345012, other);
     line(
+        rt,
         1184,
         tells(SEGMENT, table, reads, reads, done(2, 2, 25, 5, 0x180)),
-    );
+    )?;
     // The first of two matches that agree, where the second has both marks. Source: rules 5, step 7.
     let again = Other {
         group: 998,
@@ -56,25 +58,28 @@ pub fn places() {
     let first = done(2, 2, 998, 3, 0x100);
     let twice = with_two(998, 3, FIRST, 0x12345012, again);
     line(
+        rt,
         1185,
         tells(SEGMENT, twice, first, first, done(2, 2, 998, 3, 0x180)),
-    );
+    )
 }
 
 // What PP and key do not allow faults, and a fault has no marks.
-pub fn protected() {
+pub fn protected(rt: &impl Print) -> io::Result<()> {
     // PP 3 with key 0: a store alone. Source: rules 5, step 6.
     let reads = done(2, 3, 998, 0, 0x100);
     let store = no_data(0x0A000000, [5, 3, 998, 0]);
     line(
+        rt,
         1186,
         tells(SEGMENT, first_entry(0x12345013), reads, reads, store),
-    );
+    )?;
     // PP 1 with key 1, which is Kp for the user: a store alone. Source: rules 5, step 6.
     let page = page_with(SDR1, 1, 0x200C701C);
     let with_key = done(2, 5, 998, 0, 0);
     let kept = no_data(0x0A000000, [5, 5, 998, 0]);
     line(
+        rt,
         1187,
         tells_at(
             page,
@@ -85,10 +90,11 @@ pub fn protected() {
             with_key,
             kept,
         ),
-    );
+    )?;
     // PP 0 with key 1: all three. Source: rules 5, step 6.
     let record = [5, 4, 998, 0];
     line(
+        rt,
         1188,
         tells_at(
             page,
@@ -99,15 +105,16 @@ pub fn protected() {
             no_data(0x08000000, record),
             no_data(0x0A000000, record),
         ),
-    );
+    )
 }
 
 // What a fetch alone meets.
-pub fn fetches() {
+pub fn fetches(rt: &impl Print) -> io::Result<()> {
     let load = done(2, 2, 998, 0, 0x100);
     let store = done(2, 2, 998, 0, 0x180);
     // A segment with N. Source: rules 5, step 3.
     line(
+        rt,
         1189,
         tells(
             0x100C701C,
@@ -116,9 +123,10 @@ pub fn fetches() {
             load,
             store,
         ),
-    );
+    )?;
     // A guarded page. Source: rules 5, step 5.
     line(
+        rt,
         1190,
         tells(
             SEGMENT,
@@ -127,23 +135,23 @@ pub fn fetches() {
             done(3, 2, 998, 0, 0x100),
             done(3, 2, 998, 0, 0x180),
         ),
-    );
+    )
 }
 
 // No entry matches.
-pub fn unmatched() {
+pub fn unmatched(rt: &impl Print) -> io::Result<()> {
     let record = [3, 0, 0, 0];
     // An empty table; an entry of the page with V 0. Source: rules 5, step 4.
     let fetch = no_fetch(0x40000000, record);
     let load = no_data(0x40000000, record);
     let store = no_data(0x42000000, record);
-    line(1191, tells(SEGMENT, [0u8; 65536], fetch, load, store));
+    line(rt, 1191, tells(SEGMENT, [0u8; 65536], fetch, load, store))?;
     let free = with_two(998, 0, 0x06380E03, 0x12345012, NONE);
-    line(1192, tells(SEGMENT, free, fetch, load, store));
+    line(rt, 1192, tells(SEGMENT, free, fetch, load, store))
 }
 
 // One byte never has a second part.
-pub fn edges() {
+pub fn edges(rt: &impl Print) -> io::Result<()> {
     // The page's last byte. Source: rules 5, parts.
     let last = Told {
         result: 0,
@@ -154,6 +162,7 @@ pub fn edges() {
     };
     let page = page_with(SDR1, 1, SEGMENT);
     line(
+        rt,
         1193,
         tells_at(
             page,
@@ -164,10 +173,11 @@ pub fn edges() {
             last,
             last,
         ),
-    );
+    )?;
     // The last byte of all, which has no match. Source: rules 5, parts.
     let record = [3, 0, 0, 0];
     line(
+        rt,
         1194,
         tells_at(
             page,
@@ -178,5 +188,5 @@ pub fn edges() {
             no_data(0x40000000, record),
             no_data(0x42000000, record),
         ),
-    );
+    )
 }

@@ -1,5 +1,6 @@
 // Refusals: a length leaves the answer, and any other is told three times, its number and zero words, with no marks.
 use super::asked::{ADDRESS, FIRST};
+use std::io;
 use test_report::lent::{
     BAD_BLOCK, BAD_SDR1, BAD_SEGMENT, NONE, OFF, SDR1, SEGMENT, SHARED, page_of, with_two,
 };
@@ -23,28 +24,28 @@ fn refuses_length(registers: &[u8], length: usize, mode: u32) -> bool {
 }
 
 // Lengths of the register page.
-pub fn page_lengths() {
+pub fn page_lengths(rt: &impl Print) -> io::Result<()> {
     let page = page_of(SDR1, SEGMENT, OFF, OFF);
     let whole = &page[..];
     let long = [0u8; 200];
     let other = &long[..];
     // Register pages of 131, 133 and 195 bytes. Source: rules 2 and 7.
-    line(1204, refuses_length(&whole[0..131], 156, 3));
-    line(1205, refuses_length(&whole[0..133], 156, 3));
-    line(1206, refuses_length(&other[0..195], 156, 3));
+    line(rt, 1204, refuses_length(&whole[0..131], 156, 3))?;
+    line(rt, 1205, refuses_length(&whole[0..133], 156, 3))?;
+    line(rt, 1206, refuses_length(&other[0..195], 156, 3))
 }
 
 // Lengths of the answer.
-pub fn answer_lengths() {
+pub fn answer_lengths(rt: &impl Print) -> io::Result<()> {
     let page = page_of(SDR1, SEGMENT, OFF, OFF);
     let whole = &page[..];
     // Answers of 155, 157, 48 and no bytes. Source: rules 2 and 7.
-    line(1207, refuses_length(&whole[0..132], 155, 3));
-    line(1208, refuses_length(&whole[0..132], 157, 3));
-    line(1209, refuses_length(&whole[0..132], 48, 3));
-    line(1210, refuses_length(&whole[0..132], 0, 3));
+    line(rt, 1207, refuses_length(&whole[0..132], 155, 3))?;
+    line(rt, 1208, refuses_length(&whole[0..132], 157, 3))?;
+    line(rt, 1209, refuses_length(&whole[0..132], 48, 3))?;
+    line(rt, 1210, refuses_length(&whole[0..132], 0, 3))?;
     // 11 before 6. Source: rules 7.
-    line(1211, refuses_length(&whole[0..132], 155, 8));
+    line(rt, 1211, refuses_length(&whole[0..132], 155, 8))
 }
 
 // Writes a refusal's number and eleven zero words three times, and three zero words.
@@ -85,24 +86,36 @@ fn refuses(
 }
 
 // Each refusal alone, translated and in real mode.
-pub fn alone() {
+pub fn alone(rt: &impl Print) -> io::Result<()> {
     // 6: mode 8 and FFFFFFFF. Source: rules 7.
-    line(1212, refuses(8, SDR1, SEGMENT, OFF, OFF, 65536, 6));
-    line(1213, refuses(0xFFFFFFFF, SDR1, SEGMENT, OFF, OFF, 65536, 6));
+    line(rt, 1212, refuses(8, SDR1, SEGMENT, OFF, OFF, 65536, 6))?;
+    line(
+        rt,
+        1213,
+        refuses(0xFFFFFFFF, SDR1, SEGMENT, OFF, OFF, 65536, 6),
+    )?;
     // 2, 3, 4 and 5. Source: rules 7.
-    line(1214, refuses(3, BAD_SDR1, SEGMENT, OFF, OFF, 65536, 2));
-    line(1215, refuses(3, SDR1, SEGMENT, BAD_BLOCK, OFF, 65536, 3));
-    line(1216, refuses(3, SDR1, SEGMENT, OFF, SHARED, 65536, 4));
-    line(1217, refuses(0, SDR1, BAD_SEGMENT, OFF, OFF, 65536, 5));
+    line(rt, 1214, refuses(3, BAD_SDR1, SEGMENT, OFF, OFF, 65536, 2))?;
+    line(
+        rt,
+        1215,
+        refuses(3, SDR1, SEGMENT, BAD_BLOCK, OFF, 65536, 3),
+    )?;
+    line(rt, 1216, refuses(3, SDR1, SEGMENT, OFF, SHARED, 65536, 4))?;
+    line(rt, 1217, refuses(0, SDR1, BAD_SEGMENT, OFF, OFF, 65536, 5))?;
     // 1: tables of 65,535 and of 131,072 bytes, in real mode too. Source: rules 7.
-    line(1218, refuses(3, SDR1, SEGMENT, OFF, OFF, 65535, 1));
-    line(1219, refuses(0, SDR1, SEGMENT, OFF, OFF, 131072, 1));
+    line(rt, 1218, refuses(3, SDR1, SEGMENT, OFF, OFF, 65535, 1))?;
+    line(rt, 1219, refuses(0, SDR1, SEGMENT, OFF, OFF, 131072, 1))
 }
 
 // The first broken rule is told.
-pub fn in_order() {
+pub fn in_order(rt: &impl Print) -> io::Result<()> {
     // 6 before 2 and 1; 2 before 3; 5 before 1. Source: rules 7.
-    line(1220, refuses(8, BAD_SDR1, SEGMENT, OFF, OFF, 0, 6));
-    line(1221, refuses(3, BAD_SDR1, SEGMENT, BAD_BLOCK, OFF, 0, 2));
-    line(1222, refuses(3, SDR1, BAD_SEGMENT, OFF, OFF, 0, 5));
+    line(rt, 1220, refuses(8, BAD_SDR1, SEGMENT, OFF, OFF, 0, 6))?;
+    line(
+        rt,
+        1221,
+        refuses(3, BAD_SDR1, SEGMENT, BAD_BLOCK, OFF, 0, 2),
+    )?;
+    line(rt, 1222, refuses(3, SDR1, BAD_SEGMENT, OFF, OFF, 0, 5))
 }

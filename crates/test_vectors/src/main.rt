@@ -7,66 +7,68 @@ mod manual;
 mod packing;
 mod protection;
 
+use std::io;
+
 // Runs the cases of the module `manual`.
-fn run_manual() {
-    manual::group_addresses_1();
-    manual::group_addresses_2();
-    manual::sizes_1();
-    manual::sizes_2();
-    manual::sizes_3();
-    manual::shapes_1();
-    manual::shapes_2();
-    manual::shapes_3();
-    manual::segments();
+fn run_manual(rt: &impl Print) -> io::Result<()> {
+    manual::group_addresses_1(rt)?;
+    manual::group_addresses_2(rt)?;
+    manual::sizes_1(rt)?;
+    manual::sizes_2(rt)?;
+    manual::sizes_3(rt)?;
+    manual::shapes_1(rt)?;
+    manual::shapes_2(rt)?;
+    manual::shapes_3(rt)?;
+    manual::segments(rt)
 }
 
 // Runs the cases of the module `blocks`.
-fn run_blocks() {
-    blocks::lengths_1();
-    blocks::lengths_2();
-    blocks::attributes();
-    blocks::protection_1();
-    blocks::protection_2();
-    blocks::summary_1();
-    blocks::summary_2();
-    blocks::reserved_1();
-    blocks::reserved_2();
-    blocks::shapes_1();
-    blocks::shapes_2();
-    blocks::shapes_3();
-    blocks::shared_1();
-    blocks::shared_2();
+fn run_blocks(rt: &impl Print) -> io::Result<()> {
+    blocks::lengths_1(rt)?;
+    blocks::lengths_2(rt)?;
+    blocks::attributes(rt)?;
+    blocks::protection_1(rt)?;
+    blocks::protection_2(rt)?;
+    blocks::summary_1(rt)?;
+    blocks::summary_2(rt)?;
+    blocks::reserved_1(rt)?;
+    blocks::reserved_2(rt)?;
+    blocks::shapes_1(rt)?;
+    blocks::shapes_2(rt)?;
+    blocks::shapes_3(rt)?;
+    blocks::shared_1(rt)?;
+    blocks::shared_2(rt)
 }
 
 // Runs the cases of the module `protection`.
-fn run_protection() {
-    protection::key_0_1();
-    protection::key_0_2();
-    protection::key_1_1();
-    protection::key_1_2();
-    protection::user_and_supervisor_1();
-    protection::user_and_supervisor_2();
-    protection::keys_exchanged_1();
-    protection::keys_exchanged_2();
-    protection::marks_1();
-    protection::marks_2();
-    protection::exceptions_1();
-    protection::exceptions_2();
+fn run_protection(rt: &impl Print) -> io::Result<()> {
+    protection::key_0_1(rt)?;
+    protection::key_0_2(rt)?;
+    protection::key_1_1(rt)?;
+    protection::key_1_2(rt)?;
+    protection::user_and_supervisor_1(rt)?;
+    protection::user_and_supervisor_2(rt)?;
+    protection::keys_exchanged_1(rt)?;
+    protection::keys_exchanged_2(rt)?;
+    protection::marks_1(rt)?;
+    protection::marks_2(rt)?;
+    protection::exceptions_1(rt)?;
+    protection::exceptions_2(rt)
 }
 
 // Runs the cases of the module `packing`.
-fn run_packing() {
-    packing::packed_1();
-    packing::packed_2();
-    packing::refused_1();
-    packing::refused_2();
-    packing::unpacked_1();
-    packing::unpacked_2();
+fn run_packing(rt: &impl Print) -> io::Result<()> {
+    packing::packed_1(rt)?;
+    packing::packed_2(rt)?;
+    packing::refused_1(rt)?;
+    packing::refused_2(rt)?;
+    packing::unpacked_1(rt)?;
+    packing::unpacked_2(rt)
 }
 
-fn main() {
-    run_manual();
-    run_blocks();
-    run_protection();
-    run_packing();
+fn main(rt: HostRuntime) -> io::Result<()> {
+    run_manual(&rt)?;
+    run_blocks(&rt)?;
+    run_protection(&rt)?;
+    run_packing(&rt)
 }

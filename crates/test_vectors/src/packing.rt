@@ -1,4 +1,5 @@
 // Packing and unpacking of an entry.
+use std::io;
 use test_report::lent::kept;
 use test_report::line;
 
@@ -27,22 +28,59 @@ fn unpacks(first: u32, second: u32, fields: [u32; 9]) -> bool {
 }
 
 // One field at a time, and all.
-pub fn packed_1() {
+pub fn packed_1(rt: &impl Print) -> io::Result<()> {
     // Pack: each field alone, 1 (V, VSID, H, API, RPN, R, C, WIMG, PP), and all at their largest. Source: rules 4.
-    line(242, packs([1, 0, 0, 0, 0, 0, 0, 0, 0], 0, 0x80000000, 0));
-    line(243, packs([0, 1, 0, 0, 0, 0, 0, 0, 0], 0, 0x00000080, 0));
-    line(244, packs([0, 0, 1, 0, 0, 0, 0, 0, 0], 0, 0x00000040, 0));
-    line(245, packs([0, 0, 0, 1, 0, 0, 0, 0, 0], 0, 0x00000001, 0));
-    line(246, packs([0, 0, 0, 0, 1, 0, 0, 0, 0], 0, 0, 0x00001000));
-    line(247, packs([0, 0, 0, 0, 0, 1, 0, 0, 0], 0, 0, 0x00000100));
-    line(248, packs([0, 0, 0, 0, 0, 0, 1, 0, 0], 0, 0, 0x00000080));
-    line(249, packs([0, 0, 0, 0, 0, 0, 0, 1, 0], 0, 0, 0x00000008));
+    line(
+        rt,
+        242,
+        packs([1, 0, 0, 0, 0, 0, 0, 0, 0], 0, 0x80000000, 0),
+    )?;
+    line(
+        rt,
+        243,
+        packs([0, 1, 0, 0, 0, 0, 0, 0, 0], 0, 0x00000080, 0),
+    )?;
+    line(
+        rt,
+        244,
+        packs([0, 0, 1, 0, 0, 0, 0, 0, 0], 0, 0x00000040, 0),
+    )?;
+    line(
+        rt,
+        245,
+        packs([0, 0, 0, 1, 0, 0, 0, 0, 0], 0, 0x00000001, 0),
+    )?;
+    line(
+        rt,
+        246,
+        packs([0, 0, 0, 0, 1, 0, 0, 0, 0], 0, 0, 0x00001000),
+    )?;
+    line(
+        rt,
+        247,
+        packs([0, 0, 0, 0, 0, 1, 0, 0, 0], 0, 0, 0x00000100),
+    )?;
+    line(
+        rt,
+        248,
+        packs([0, 0, 0, 0, 0, 0, 1, 0, 0], 0, 0, 0x00000080),
+    )?;
+    line(
+        rt,
+        249,
+        packs([0, 0, 0, 0, 0, 0, 0, 1, 0], 0, 0, 0x00000008),
+    )
 }
 
 // Continues `packed_1`.
-pub fn packed_2() {
-    line(250, packs([0, 0, 0, 0, 0, 0, 0, 0, 1], 0, 0, 0x00000001));
+pub fn packed_2(rt: &impl Print) -> io::Result<()> {
     line(
+        rt,
+        250,
+        packs([0, 0, 0, 0, 0, 0, 0, 0, 1], 0, 0, 0x00000001),
+    )?;
+    line(
+        rt,
         251,
         packs(
             [1, 0xFFFFFF, 1, 63, 0xFFFFF, 1, 1, 15, 3],
@@ -50,9 +88,10 @@ pub fn packed_2() {
             0xFFFFFFFF,
             0xFFFFF1FB,
         ),
-    );
+    )?;
     // Pack: W and I may both be one. Source: rules 4.
     line(
+        rt,
         252,
         packs(
             [1, 0x0C701C, 0, 3, 0x12345, 0, 0, 12, 2],
@@ -60,83 +99,85 @@ pub fn packed_2() {
             0x86380E03,
             0x12345062,
         ),
-    );
+    )
 }
 
 // Fields past their widths.
-pub fn refused_1() {
+pub fn refused_1(rt: &impl Print) -> io::Result<()> {
     // Pack: 6 and zero words by each field one past its width (V, VSID, H, API, RPN, R, C, WIMG, PP). Source: rules 4.
-    line(253, packs([2, 0, 0, 0, 0, 0, 0, 0, 0], 6, 0, 0));
-    line(254, packs([1, 0x1000000, 0, 0, 0, 0, 0, 0, 0], 6, 0, 0));
-    line(255, packs([1, 0, 2, 0, 0, 0, 0, 0, 0], 6, 0, 0));
-    line(256, packs([1, 0, 0, 64, 0, 0, 0, 0, 0], 6, 0, 0));
-    line(257, packs([1, 0, 0, 0, 0x100000, 0, 0, 0, 0], 6, 0, 0));
-    line(258, packs([1, 0, 0, 0, 0, 2, 0, 0, 0], 6, 0, 0));
-    line(259, packs([1, 0, 0, 0, 0, 0, 2, 0, 0], 6, 0, 0));
-    line(260, packs([1, 0, 0, 0, 0, 0, 0, 16, 0], 6, 0, 0));
+    line(rt, 253, packs([2, 0, 0, 0, 0, 0, 0, 0, 0], 6, 0, 0))?;
+    line(rt, 254, packs([1, 0x1000000, 0, 0, 0, 0, 0, 0, 0], 6, 0, 0))?;
+    line(rt, 255, packs([1, 0, 2, 0, 0, 0, 0, 0, 0], 6, 0, 0))?;
+    line(rt, 256, packs([1, 0, 0, 64, 0, 0, 0, 0, 0], 6, 0, 0))?;
+    line(rt, 257, packs([1, 0, 0, 0, 0x100000, 0, 0, 0, 0], 6, 0, 0))?;
+    line(rt, 258, packs([1, 0, 0, 0, 0, 2, 0, 0, 0], 6, 0, 0))?;
+    line(rt, 259, packs([1, 0, 0, 0, 0, 0, 2, 0, 0], 6, 0, 0))?;
+    line(rt, 260, packs([1, 0, 0, 0, 0, 0, 0, 16, 0], 6, 0, 0))
 }
 
 // Continues `refused_1`.
-pub fn refused_2() {
-    line(261, packs([1, 0, 0, 0, 0, 0, 0, 0, 4], 6, 0, 0));
+pub fn refused_2(rt: &impl Print) -> io::Result<()> {
+    line(rt, 261, packs([1, 0, 0, 0, 0, 0, 0, 0, 4], 6, 0, 0))
 }
 
 // The number of a pack of V alone lent so many bytes, which 11 leaves.
-fn pack_part(v: u32, length: isize) -> u32 {
+fn pack_part(v: u32, length: usize) -> u32 {
     let mut entry = [0xAAu8; 12];
     let result = pack_some(v, &mut entry, length);
     kept(result, check::same(&entry, &[0xAA; 12]))
 }
 
 // A pack of V alone lent so many bytes of an entry.
-fn pack_some(v: u32, entry: &mut [u8], length: isize) -> u32 {
-    let n = io::count(length, entry);
+fn pack_some(v: u32, entry: &mut [u8], length: usize) -> u32 {
+    let n = length.min(entry.len());
     mmu::mmu_pack(v, 0, 0, 0, 0, 0, 0, 0, 0, &mut entry[..n])
 }
 
 // The number of an unpack lent so many bytes, which 11 leaves.
-fn unpack_part(length: isize) -> u32 {
+fn unpack_part(length: usize) -> u32 {
     let mut fields = [0xAAu8; 40];
     let result = unpack_some(&mut fields, length);
     kept(result, check::same(&fields, &[0xAA; 40]))
 }
 
 // An unpack lent so many bytes of fields.
-fn unpack_some(fields: &mut [u8], length: isize) -> u32 {
-    let n = io::count(length, fields);
+fn unpack_some(fields: &mut [u8], length: usize) -> u32 {
+    let n = length.min(fields.len());
     mmu::mmu_unpack(0x86380E03, 0x12345012, &mut fields[..n])
 }
 
 // Unpacking, and wrong lengths.
-pub fn unpacked_1() {
+pub fn unpacked_1(rt: &impl Print) -> io::Result<()> {
     // Unpack: words of ones; an entry's words with every ignored bit set; zero words. Source: rules 4.
     line(
+        rt,
         262,
         unpacks(
             0xFFFFFFFF,
             0xFFFFFFFF,
             [1, 0xFFFFFF, 1, 63, 0xFFFFF, 1, 1, 15, 3],
         ),
-    );
+    )?;
     line(
+        rt,
         263,
         unpacks(
             0x86380E43,
             0x12345E16,
             [1, 0x0C701C, 1, 3, 0x12345, 0, 0, 2, 2],
         ),
-    );
-    line(264, unpacks(0, 0, [0, 0, 0, 0, 0, 0, 0, 0, 0]));
+    )?;
+    line(rt, 264, unpacks(0, 0, [0, 0, 0, 0, 0, 0, 0, 0, 0]))?;
     // Pack and unpack: 11 at another length (pack 7, 9, 0; unpack 35, 37, 0), and pack's 11 before 6; the bytes are left. Source: rules 7.
-    line(265, pack_part(1, 7) == 11);
-    line(266, pack_part(1, 9) == 11);
-    line(267, pack_part(1, 0) == 11);
-    line(268, unpack_part(35) == 11);
-    line(269, unpack_part(37) == 11);
+    line(rt, 265, pack_part(1, 7) == 11)?;
+    line(rt, 266, pack_part(1, 9) == 11)?;
+    line(rt, 267, pack_part(1, 0) == 11)?;
+    line(rt, 268, unpack_part(35) == 11)?;
+    line(rt, 269, unpack_part(37) == 11)
 }
 
 // Continues `unpacked_1`.
-pub fn unpacked_2() {
-    line(270, unpack_part(0) == 11);
-    line(271, pack_part(2, 7) == 11);
+pub fn unpacked_2(rt: &impl Print) -> io::Result<()> {
+    line(rt, 270, unpack_part(0) == 11)?;
+    line(rt, 271, pack_part(2, 7) == 11)
 }

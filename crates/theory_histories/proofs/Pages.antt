@@ -15,7 +15,7 @@ use Rattle.groups.specs.Page.{Page, same_page}
 use Rattle.groups.proofs.Hash.{same_page_refl, same_page_eq}
 use Rattle.protection.specs.Fault.{protection}
 use Rattle.theory_calls.specs.Made.{fed_answered}
-use Rattle.theory_calls.specs.Request.{MapCall, Request, clear, map_page, unmap, fed, sdr1_in}
+use Rattle.theory_calls.specs.Request.{MapCall, Request, clear, map_page, unmap, protect, look, access, fed, sdr1_in}
 use Rattle.theory_calls.specs.Rules.{refusal}
 use Rattle.theory_calls.specs.Answers.{word_answer}
 use Rattle.theory_calls.specs.OnBytes.{Ended, ended, by_option}
@@ -107,12 +107,21 @@ module _ (page : Page) (request : Request ℕ) (m : Map) (d : Ended Map) where
 -- what the finite map is fed asks the same
 pub maps_fed : (page : Page) (request : Request (List ℕ)) → Maps page (fed request) → Maps page request
 unfolding fed
+maps_fed page (clear c) m = elim m [ ]
 maps_fed page (map_page c) (by_map d is) = by_map d is
+maps_fed page (unmap c) m = elim m [ ]
+maps_fed page (protect c) m = elim m [ ]
+maps_fed page (look c) m = elim m [ ]
+maps_fed page (access c) m = elim m [ ]
 
 pub takes_fed : (page : Page) (request : Request (List ℕ)) → TakesOut page (fed request) → TakesOut page request
 unfolding fed
 takes_fed page (clear c) (by_clear d) = by_clear c
+takes_fed page (map_page c) m = elim m [ ]
 takes_fed page (unmap c) (by_unmap d is) = by_unmap c is
+takes_fed page (protect c) m = elim m [ ]
+takes_fed page (look c) m = elim m [ ]
+takes_fed page (access c) m = elim m [ ]
 
 pub fed_takes : (page : Page) (request : Request (List ℕ)) → TakesOut page request → TakesOut page (fed request)
 unfolding fed

@@ -13,15 +13,7 @@ use Rattle.matches.proofs.Merged.{marks_append}
 use Rattle.match_edits.specs.Edit.{edit_matches}
 use Rattle.match_edits.specs.declared.Edit.{Edit}
 use Rattle.match_edits.proofs.Edits.{length_edit_matches}
-use borrow.Author.Rules.{rules}
 use Rattle.match_edits.proofs.edit_both.Goals as goal
-
--- the edit of the first group, and the start
-abbrev edited-first : goal.After-secondary_word-wanted → goal.After-edit_group-word
-edited-first c = c
-
-abbrev begin : goal.After-edit_group-word → goal.Start
-begin c = c
 
 -- the edit of one group leaves another
 other-stays : (edit : Edit) (vsid api : ℕ) (t : List ℕ) (p s : ℕ) → 64 * p + 64 ≤ length t → (p ≡ s → ⊥)
@@ -33,20 +25,18 @@ other-stays edit vsid api t p s inside apart =
 pub returns : goal.returns
 unfolding pair_matches
 returns c vsid api wants =
-    let one = edited-first c in
-    let start = begin one in
-    let a = start.args in
+    let a = c.args in
     let t = a.table.now in
     let p = a.page.primary in
     let s = a.page.secondary in
-    let own = one.edit-group.ensures false vsid api wants in
+    let own = c.edit_group-word.ensures false vsid api wants in
     let further = c.edit_group.ensures true vsid api (wants.0, wants.1, c.secondary_word-wanted.ensures vsid api wants.0 wants.1 wants.2) in
     let first = back_on t p (edit_matches a.edit false vsid api) _ own.0 in
     let matching : Bool → List ℕ → List Match = λ b group. group_matches b vsid api group in (
       back_on _ s (edit_matches a.edit true vsid api) _ further.0 ∙ ap (λ (u : List ℕ). on_group u s (edit_matches a.edit true vsid api)) first,
       further.1
           ∙ ap₂ marks_of
-          (ap (matching true) (lent_group _ s ∙ ap (λ (u : List ℕ). group_of u s) first ∙ other-stays a.edit vsid api t p s start.requires.1 start.requires.3))
+          (ap (matching true) (lent_group _ s ∙ ap (λ (u : List ℕ). group_of u s) first ∙ other-stays a.edit vsid api t p s c.requires.1 c.requires.3))
           (own.1 ∙ ap (λ (group : List ℕ). marks_of (matching false group) a.second) (lent_group t p))
           ∙ sym (marks_append (matching false (group_of t p)) (matching true (group_of t s)) a.second),
     )

@@ -1,9 +1,11 @@
 -- `edits::edit_group` meets its contract. The loop's invariant: the matches among the first i entries, as the group was at the start, are edited, and the
 -- word has their marks.
-use Prim.Native.Nat.{ℕ, ◌-◌, ◌≤◌}
+use Prim.Native.Nat.{ℕ, ◌*◌, ◌^◌, ◌<◌}
+use lib.Dec.{eqb}
+use Rattle.words.specs.Words.{swapped, word_at}
+use Rattle.match_edits.specs.declared.Edit.{Edit}
 use mathlib.Core.Path.{◌≡◌, refl, sym, ap, ap₂, ◌∙◌}
 use mathlib.Core.Bool.{Bool}
-use mathlib.Core.Logic.{⊎_elim}
 use mathlib.Core.List.{List}
 use native.Mathlib.Omega.{arith}
 use lib.ListN.{length}
@@ -17,80 +19,62 @@ use Rattle.matches.proofs.Merged.{marks_none, marks_more}
 use Rattle.match_edits.specs.Edit.{edited_words, edited, edit_each, edit_matches}
 use Rattle.match_edits.proofs.Edits.{edit_more, edit_later}
 use Rattle.match_edits.proofs.edit_group.Goals as goal
+use Rattle.match_edits.proofs.edit_group.Goals.{then-is_word, else-is_word}
 
 pub loop-i-init : goal.loop-i-init
 unfolding edit_each matches_below
 loop-i-init c = (omega arith, c.requires.1, λ secondary vsid api wants. (refl, sym (marks_none _)))
 
--- the loop and the start, of a turn whose entry was tested
-abbrev at-loop : goal.After-is_word → goal.At-loop-i
-at-loop c = c
-
-abbrev begin : goal.After-is_word → goal.Start
-begin c = (at-loop c)
-
-abbrev tested_at : goal.After-read_word-second → goal.After-is_word
-tested_at c = c
-
-pub edited_words-made-requires : goal.edited_words-made-requires
-edited_words-made-requires c = (begin (tested_at c)).requires.0
-
-pub write_entry-requires : goal.write_entry-requires
-write_entry-requires c = (omega arith, (at-loop (tested_at c)).loop-i.invariant.1)
-
-module _ (c : goal.Joined-is_word (secondary : Bool) (vsid api : ℕ) (wants : WantedWord secondary vsid api (begin c).args.wanted) where
-  abbrev loop : goal.At-loop-i
-  loop = at-loop c
-
-  abbrev start : List ℕ
-  start = (begin c).args.group.now
-
+-- a turn of the loop, by its values
+module _ (edit : Edit) (start : List ℕ) (wanted i : ℕ) (group : List ℕ) (test : Bool) (secondary : Bool) (vsid api : ℕ) (wants : WantedWord secondary vsid api wanted)
+    (so_far : group ≡ edit_each edit (matches_to secondary vsid api start i) start) where
   -- the words that are read are the entry's at the start: no edit has reached it
-  kept : (first_at loop.loop.group loop.loop.i ≡ first_at start loop.loop.i) × (second_at loop.loop.group loop.loop.i ≡ second_at start loop.loop.i)
-  kept = edit_later (begin c).args.edit secondary vsid api start loop.loop.i loop.loop.group (loop.loop.invariant.2 secondary vsid api wants).0
+  kept : (first_at group i ≡ first_at start i) × (second_at group i ≡ second_at start i)
+  kept = edit_later edit secondary vsid api start i group so_far
 
   -- the test is whether entry i matches
-  tested : c.is_IsWord.result ≡ matches vsid (hOf secondary) api (first_at start loop.loop.i)
+  tested : (word_at group (8 * i) < 2 ^ 32) × ((w : ℕ) → w < 2 ^ 32 → wanted ≡ swapped w → test ≡ eqb (word_at group (8 * i)) w)
+      → test ≡ matches vsid (hOf secondary) api (first_at start i)
   unfolding first_at
-  tested = wanted_matches secondary vsid api _ _ _ wants c.is_IsWord.ensures ∙ ap (matches vsid (hOf secondary) api) kept.0
+  tested is = wanted_matches secondary vsid api _ _ _ wants is ∙ ap (matches vsid (hOf secondary) api) kept.0
 
 pub loop-i-preserved : goal.loop-i-preserved
 unfolding first_at second_at edited
 loop-i-preserved c =
-    let l = at-loop c in
-    let a = (begin c).args in
+    let a = c.args in
     let g = a.group.now in
-    let i = l.loop.i in
-    ⊎_elim
-    (λ w. (
-      omega arith,
-      ap length (w.13 ∙ w.7.ensures) ∙ length_entry _ _ _ _ ∙ l.loop.invariant.1,
-      λ secondary vsid api wants.
-          let so_far = l.loop.invariant.2 secondary vsid api wants in
-          let x = entry_at secondary g i in
-          let own = kept c secondary vsid api wants in
-          let first : w.2.result ≡ first_at g i = w.2.ensures ∙ own.0 in
-          let second : w.4.result ≡ second_at g i = w.4.ensures ∙ own.1 in
-          let words : (w.5.result.first, w.5.result.second) ≡ edited a.edit x = w.5.ensures ∙ ap₂ (edited_words a.edit) first second in
-          let more = matches_more secondary vsid api g i (sym (tested c secondary vsid api wants) ∙ w.0.true) in (
-            w.13 ∙ w.7.ensures ∙ ap₂ (λ (b : List ℕ) (uv : ℕ × ℕ). put_entry b i uv.0 uv.1) so_far.0 words
-                ∙ sym (ap (λ (ms : List Match). edit_each a.edit ms g) more ∙ edit_more _ _ _ _),
-            w.14 ∙ w.12.ensures
-                ∙ marks_more (matches_to secondary vsid api g i) x a.word _ _ _ _ so_far.1 second w.10.ensures w.11.ensures
-                ∙ sym (ap (λ (ms : List Match). marks_of ms a.word) more),
-          ),
-    ))
-    (λ w. (
-      omega arith,
-      ap length w.1 ∙ l.loop.invariant.1,
-      λ secondary vsid api wants.
-          let so_far = l.loop.invariant.2 secondary vsid api wants in
-          let same = matches_same secondary vsid api g i (sym (tested c secondary vsid api wants) ∙ w.0.left) in (
-            w.1 ∙ so_far.0 ∙ sym (ap (λ (ms : List Match). edit_each a.edit ms g) same),
-            w.2 ∙ so_far.1 ∙ sym (ap (λ (ms : List Match). marks_of ms a.word) same),
-          ),
-    ))
-    c.if-is_word.branch
+    let i = c.loop-i.i in
+    elim c.if-is_word.branch [
+      | then-is_word w ↦ (
+        omega arith,
+        ap length (w.group-is ∙ w.write_entry.ensures) ∙ length_entry _ _ _ _ ∙ c.loop-i.invariant.1,
+        λ secondary vsid api wants.
+            let so_far = c.loop-i.invariant.2 secondary vsid api wants in
+            let x = entry_at secondary g i in
+            let own = kept a.edit g a.wanted i _ c.is_word.result secondary vsid api wants so_far.0 in
+            let first : w.read_word-first.result ≡ first_at g i = w.read_word-first.ensures ∙ own.0 in
+            let second : w.read_word-second.result ≡ second_at g i = w.read_word-second.ensures ∙ own.1 in
+            let words : (w.edited_words-made.result.first, w.edited_words-made.result.second) ≡ edited a.edit x =
+            w.edited_words-made.ensures ∙ ap₂ (edited_words a.edit) first second in
+            let more = matches_more secondary vsid api g i (sym (tested a.edit g a.wanted i _ c.is_word.result secondary vsid api wants so_far.0 c.is_word.ensures) ∙ w.if-is_word.true) in (
+              w.group-is ∙ w.write_entry.ensures ∙ ap₂ (λ (b : List ℕ) (uv : ℕ × ℕ). put_entry b i uv.0 uv.1) so_far.0 words
+                  ∙ sym (ap (λ (ms : List Match). edit_each a.edit ms g) more ∙ edit_more _ _ _ _),
+              w.merged-is ∙ w.with_marks-merged.ensures
+                  ∙ marks_more (matches_to secondary vsid api g i) x a.word _ _ _ _ so_far.1 second w.is_referenced-r.ensures w.is_changed-c.ensures
+                  ∙ sym (ap (λ (ms : List Match). marks_of ms a.word) more),
+            ),
+      )
+      | else-is_word w ↦ (
+        omega arith,
+        ap length w.group-is ∙ c.loop-i.invariant.1,
+        λ secondary vsid api wants.
+            let so_far = c.loop-i.invariant.2 secondary vsid api wants in
+            let same = matches_same secondary vsid api g i (sym (tested a.edit g a.wanted i _ c.is_word.result secondary vsid api wants so_far.0 c.is_word.ensures) ∙ w.if-is_word.false) in (
+              w.group-is ∙ so_far.0 ∙ sym (ap (λ (ms : List Match). edit_each a.edit ms g) same),
+              w.merged-is ∙ so_far.1 ∙ sym (ap (λ (ms : List Match). marks_of ms a.word) same),
+            ),
+      )
+    ]
 
 pub returns : goal.returns
 unfolding edit_matches group_matches

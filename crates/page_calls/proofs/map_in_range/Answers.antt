@@ -6,7 +6,6 @@ use native.Mathlib.Omega.{arith}
 use lib.Dec.{ltb}
 use borrow.Author.Tests.{ltb-true, ltb-false, eq-eqb, ne_eqb}
 use Rattle.theory_calls.specs.Rules.{page_in_range, write_through_inhibited}
-use borrow.Author.Rules.{rules}
 use Rattle.page_calls.proofs.map_in_range.Goals as goal
 
 and_true : (b : Bool) → b && true ≡ b

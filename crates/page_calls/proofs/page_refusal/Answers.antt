@@ -1,6 +1,5 @@
 -- `page_calls::page_refusal` meets its contract: the rules are tried in the order of the definition.
 use borrow.Author.Tests.{eq-eqb, ne_eqb}
-use borrow.Author.Rules.{rules}
 use Rattle.page_calls.proofs.page_refusal.Goals as goal
 
 pub returns-then-not-sdr1_shape : goal.returns-then-not-sdr1_shape

@@ -1,5 +1,4 @@
 -- `page_calls::word_refusal` meets its contract: the refusal by the page's range, SDR1 and the table's length.
-use borrow.Author.Rules.{rules}
 use Rattle.page_calls.proofs.word_refusal.Goals as goal
 
 pub returns : goal.returns

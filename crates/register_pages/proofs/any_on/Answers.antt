@@ -1,9 +1,8 @@
 -- `register_pages::any_on` meets its contract. The invariant: each pair that was passed is off.
-use borrow.Author.Rules.{rules}
 use native.Mathlib.Omega.{arith}
 use mathlib.Core.Bool.{true, true≢false}
 use mathlib.Core.Path.{◌≡◌, refl, ap, ◌∙◌}
-use Prim.Native.Nat.{ℕ, ◌-◌, ◌*◌, ◌/◌, ◌%◌, ◌≤◌}
+use Prim.Native.Nat.{ℕ, ◌*◌, ◌/◌}
 use lib.ListN.{length}
 use Rattle.words.specs.Below.{every_below}
 use Rattle.words.specs.Words.{word_at}

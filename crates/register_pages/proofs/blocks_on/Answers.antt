@@ -12,7 +12,6 @@ use Rattle.register_words.specs.Block.{off}
 use Rattle.registers.specs.Set.{is_long, block_pairs}
 use Rattle.register_pages.proofs.Page.{page_least}
 use Rattle.register_pages.proofs.Sides.{part_off, off_kept}
-use borrow.Author.Rules.{rules}
 use Rattle.register_pages.proofs.blocks_on.Goals as goal
 use Rattle.register_pages.proofs.blocks_on.Goals.{Else-any_on}
 
@@ -40,6 +39,3 @@ returns c = λ e.
     let page = c.args.page.now in
     let all : 2 * block_pairs (is_long (length page)) ≡ 8 = ap (λ (t : Bool). 2 * block_pairs t) (ne_eqb (length page) 196 c.if-page-eq-REGISTERS_SIZE_LONG.false) in
     off_kept page (λ i l. front (goal.at.returns c).Else-any_on i (omega arith))
-
--- LEFT no goal today for slice-bounds-any-on-end:
--- LEFT      omega (arith, page_least (length c.args.page.now) c.requires)

@@ -1,36 +1,32 @@
 -- `register_pages::check` meets its contract: SDR1, then the blocks, then the segments, in the order of the rules; where no block is on, none breaks one.
-use borrow.Author.Tests.{not-true, not-false}
-use native.Mathlib.Omega.{arith}
 use mathlib.Core.Bool.{Bool, true, cond}
-use mathlib.Core.Logic.{⊎_elim}
 use mathlib.Core.Path.{◌≡◌, sym, ap, ◌∙◌}
 use lib.ListN.{length}
 use Rattle.words.specs.Words.{word_at}
 use Rattle.register_words.specs.Sdr1.{sdr1_shape}
 use Rattle.registers.specs.Set.{is_long, register_words}
 use Rattle.register_pages.specs.Side.{blocks_refusal}
-use Rattle.register_pages.proofs.Page.{page_least}
 use Rattle.register_pages.proofs.Sides.{sdr1_broken, blocks_broken, blocks_kept}
-use borrow.Author.Rules.{rules}
 use Rattle.register_pages.proofs.check.Goals as goal
-use Rattle.register_pages.proofs.check.Goals.{After-sdr1_shape, Else-not-sdr1_shape, Joined-blocks_on}
-
-pub read_word-requires : goal.read_word-requires
-read_word-requires c = omega (arith, page_least (length c.args.whole.now) c.requires)
+use Rattle.register_pages.proofs.check.Goals.{After-sdr1_shape, Else-not-sdr1_shape, Joined-blocks_on, then-blocks_on+else-refused-ne-DONE, else-blocks_on}
 
 -- what the test of SDR1 told
 sdr1-told : (c : After-sdr1_shape) → c.sdr1_shape.result ≡ sdr1_shape (word_at c.args.whole.now 0)
 sdr1-told c = c.sdr1_shape.ensures ∙ ap sdr1_shape c.read_word.ensures
 
 sdr1-kept : (c : Else-not-sdr1_shape) → sdr1_shape (word_at c.args.whole.now 0) ≡ true
-sdr1-kept c = sym (sdr1-told c) ∙ not-false _ c.if-not-sdr1_shape.false
+sdr1-kept c = sym (c.sdr1_shape.ensures ∙ ap sdr1_shape c.read_word.ensures) ∙ c.if-not-sdr1_shape.false
 
 -- past the blocks none of their rules is broken
 none-broken : (c : Joined-blocks_on) → let page = c.args.whole.now in blocks_refusal (is_long (length page)) (register_words page) ≡ 0
-none-broken c = ⊎_elim (λ w. sym w.1.ensures ∙ w.2.left) (λ w. c.blocks_on.ensures w.left) c.if-blocks_on.branch
+none-broken c = elim c.if-blocks_on.branch [
+  | then-blocks_on+else-refused-ne-DONE w ↦ sym w.blocks_refusal-refused.ensures ∙ w.if-refused-ne-DONE.false
+  | else-blocks_on w ↦ c.blocks_on.ensures w.if-blocks_on.false
+]
 
 pub returns-then-not-sdr1_shape : goal.returns-then-not-sdr1_shape
-returns-then-not-sdr1_shape c = sdr1_broken c.args.whole.now (sym (sdr1-told (goal.at.returns-then-not-sdr1_shape c).After-sdr1_shape) ∙ not-true _ c.if-not-sdr1_shape.true)
+returns-then-not-sdr1_shape c =
+    sdr1_broken c.args.whole.now (sym (sdr1-told (goal.at.returns-then-not-sdr1_shape c).After-sdr1_shape) ∙ c.if-not-sdr1_shape.true)
 
 pub returns-then-refused-ne-DONE : goal.returns-then-refused-ne-DONE
 returns-then-refused-ne-DONE c =

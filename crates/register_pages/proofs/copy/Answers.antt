@@ -1,10 +1,8 @@
 -- `register_pages::copy` meets its contract. The invariant: the bytes that were passed are those of the other slice.
-use borrow.Author.Rules.{rules}
 use borrow.Author.Count.{below_none, below_more}
 use native.Mathlib.Omega.{arith}
 use mathlib.Core.Path.{◌≡◌, ◌∙◌}
-use Prim.Native.Nat.{ℕ, ◌-◌, ◌≤◌, ◌<◌}
-use lib.ListN.{length, get_or, set, length-set}
+use lib.ListN.{get_or, set, length-set}
 use lib.Seq.{ext_get_or, get_or-set_same, get_or-set_other}
 use Rattle.register_pages.proofs.copy.Goals as goal
 

@@ -1,19 +1,15 @@
 -- `register_pages::covering_pair` meets its contract. The invariant of both loops: no pair that was passed covers the address; behind the page's own pairs
 -- the set's are zero, so they are off and cover nothing.
-use borrow.Author.Rules.{rules}
-use borrow.Author.Count.{below_none, below_more}
-use mathlib.Core.Path.{◌≡◌, refl, sym, ap, subst, ◌∙◌}
+use mathlib.Core.Path.{◌≡◌}
 use mathlib.Core.Bool.{Bool, false}
-use Prim.Native.Nat.{ℕ, ◌+◌, ◌*◌, ◌/◌, ◌%◌, ◌≤◌, ◌<◌, ◌-◌}
-use native.Mathlib.Omega.{arith}
-use lib.ListN.{length}
+use Prim.Native.Nat.{ℕ, ◌+◌, ◌%◌, ◌≤◌, ◌<◌, ◌-◌}
 use mathlib.Core.List.{List}
-use Rattle.words.specs.Words.{word_at}
-use Rattle.words.proofs.Below.{first_found}
-use Rattle.register_words.specs.Block.{covers}
-use Rattle.registers.specs.Set.{is_long, block_pairs, set_words, pair_covers, covering_pair}
-use Rattle.register_pages.proofs.Page.{PageSize, short_size, long_size, own_pairs, page_size_law, page_least, pairs_most, pair_fits, upper_at_law, none_covers}
+use Rattle.registers.specs.Set.{set_words, pair_covers}
 use Rattle.register_pages.proofs.covering_pair.Given as goal
+
+-- no pair of a side before a number covers the address
+abbrev pub NoneBefore : List ℕ → Bool → Bool → ℕ → ℕ → Type 0
+NoneBefore page side user address n = (k : ℕ) → k < n → pair_covers 8 15 (set_words page) side user address k ≡ false
 
 abbrev pub invariant-loop-i : goal.invariant-loop-i
 invariant-loop-i l = (l.i ≤ l.first + 4) × NoneBefore l.page l.side l.user l.address l.i

@@ -1,5 +1,4 @@
 -- `register_pages::lower` meets its contract: the word at the pair's byte is the set's.
-use borrow.Author.Rules.{rules}
 use mathlib.Core.Path.{sym, ap, ◌∙◌}
 use Prim.Native.Nat.{ℕ, ◌+◌}
 use native.Mathlib.Omega.{arith}

@@ -1,5 +1,4 @@
 -- `register_pages::pair_at` meets its contract: the bytes of a side's pairs lie on the page.
-use borrow.Author.Rules.{rules}
 use Prim.Native.Nat.{◌+◌, ◌*◌, ◌≤◌}
 use native.Mathlib.Omega.{arith}
 use Rattle.register_pages.proofs.Page.{pair_fits}

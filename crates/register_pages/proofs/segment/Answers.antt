@@ -1,5 +1,4 @@
 -- `register_pages::segment` meets its contract: the word at that byte is the set's.
-use borrow.Author.Rules.{rules}
 use mathlib.Core.Path.{sym, ◌∙◌}
 use native.Mathlib.Omega.{arith}
 use lib.ListN.{length}

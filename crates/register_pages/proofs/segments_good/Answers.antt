@@ -1,6 +1,5 @@
 -- `register_pages::segments_good` meets its contract. The invariant: the mask leaves nothing of the number exactly where each segment register that was
 -- passed has its shape; read from the low end, the first byte of each word is the lowest of its half.
-use borrow.Author.Rules.{rules}
 use mathlib.Core.Path.{◌≡◌, refl, sym, ap, ap₂, ◌∙◌}
 use mathlib.Core.Bool.{Bool, ◌&&◌, and_comm, and_assoc}
 use mathlib.Core.List.{List}
@@ -22,10 +21,7 @@ use Rattle.register_words.specs.Segment.{segment_shape}
 use Rattle.registers.specs.Set.{segments_shape}
 use Rattle.register_pages.proofs.Page.{page_least, own_segment}
 use Rattle.register_pages.proofs.segments_good.Goals as goal
-
--- segment register i has its shape
-abbrev good : List ℕ → ℕ → Bool
-good page i = segment_shape (word_at page (4 + 4 * i))
+use Rattle.register_pages.proofs.segments_good.Invariants.{good}
 
 pub loop-at-init : goal.loop-at-init
 unfolding every_below

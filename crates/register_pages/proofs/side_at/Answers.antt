@@ -1,5 +1,4 @@
 -- `register_pages::side_at` meets its contract: a page's data pairs begin at half of its length and 34 bytes, by either length.
-use borrow.Author.Rules.{rules}
 use mathlib.Core.Path.{◌≡◌, refl}
 use mathlib.Core.Bool.{Bool, true}
 use Prim.Native.Nat.{ℕ, ◌+◌, ◌/◌}

@@ -1,21 +1,8 @@
 -- `register_pages::side_of` meets its contract. The invariant of both loops: what the laws of Pass say of the pairs that were passed.
-use borrow.Author.Rules.{rules}
-use native.Mathlib.Omega.{arith}
-use mathlib.Core.Path.{◌≡◌, refl, sym, ap, ap₂, subst, ◌∙◌}
-use mathlib.Core.Logic.{⊎_elim}
-use Prim.Native.Nat.{ℕ, ◌+◌, ◌-◌, ◌*◌, ◌/◌, ◌%◌, ◌^◌, ◌≤◌, ◌<◌}
-use mathlib.Core.Bool.{Bool, true, false}
-use lib.Dec.{eqb, leb, lit≤}
+use mathlib.Core.Path.{◌≡◌}
+use Prim.Native.Nat.{◌+◌, ◌-◌, ◌/◌, ◌%◌, ◌≤◌}
 use lib.ListN.{length}
-use borrow.Author.Tests.{leb-false}
-use mir.Val.{bool_byte}
-use Rattle.words.proofs.Tests.{by_test}
-use mathlib.Core.List.{List}
-use lib.Bits.{bit_and, bit_or}
-use Rattle.register_words.specs.Asked.{bl_place, side_sum, zero_bits}
-use Rattle.register_words.specs.Block.{bl_width, off, block_shape}
-use Rattle.words.specs.Words.{word_at}
-use Rattle.register_pages.proofs.Pass.{Seen, end_of, seen_none, seen_same, seen_off, seen_on, seen_apart, off_byte, on_byte}
+use Rattle.register_pages.proofs.Pass.{Seen}
 use Rattle.register_pages.proofs.side_of.Given as goal
 
 abbrev pub invariant-loop-i : goal.invariant-loop-i

@@ -1,5 +1,4 @@
 -- `register_pages::upper` meets its contract: the word at the pair's byte is the set's.
-use borrow.Author.Rules.{rules}
 use mathlib.Core.Path.{sym, ap, ◌∙◌}
 use native.Mathlib.Omega.{arith}
 use Rattle.words.specs.Words.{word_at}

@@ -30,7 +30,7 @@ returns-then-not-is_relocated c k t is =
     let a = c.args in
     c.real_part.ensures a.kind
     ∙ sym (ap (part_by a.kind a.address (table_found k t))
-    (before_real 8 15 (set_words a.registers.now) a.mode a.kind a.address (sym c.is_relocated.ensures ∙ c.if-not-is_relocated.true))
+    (before_real 8 15 (set_words a.registers.now) a.mode a.kind a.address (sym c.is_relocated.ensures ∙ c.if-not-is_relocated.true)))
 
 -- the pair is that of the kind's side
 pair_is : (c : Joined-is_fetch) →

@@ -57,20 +57,20 @@ in_secondary-told-requires c =
 
 -- what the search told of the page
 told_of : (c : After-in_secondary-told) →
-    let a = (begin c).args in
+    let a = c.args in
     SearchTold (sdr1_of (set_words a.registers.now)) a.table.now c.wanted_of-wanted.result c.locate-page.result c.in_secondary-told.result
 told_of c =
-    let start = begin c in
+    let start = c in
     search_told _ start.args.table.now c.wanted_of-wanted.result _ _ _ start.requires.1 (in_range_law c) c.locate-page.ensures c.in_primary-primary.ensures c.in_secondary-told.ensures
 
 pub found_in-requires : goal.found_in-requires
 found_in-requires c =
-    let a = (begin c).args in
+    let a = c.args in
     (sdr1_of (set_words a.registers.now), (a.table.now, (c.wanted_of-wanted.result, told_of (goal.at.found_in-requires c).After-in_secondary-told)))
 
 pub returns : goal.returns
 returns c =
-    let a = (begin c).args in
+    let a = c.args in
     let words = set_words a.registers.now in
     let k = mask_ones (sdr1_of words) in
     let pair : Bool → Bool → ℕ = λ side user. covering_pair 8 15 words side user a.address in

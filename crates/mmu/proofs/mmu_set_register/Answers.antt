@@ -12,7 +12,7 @@ use Rattle.mmu.proofs.mmu_set_register.Goals.{Else-not-is_page}
 
 pub returns-then-not-is_page : goal.returns-then-not-is_page
 unfolding set_register_call
-returns-then-not-is_page c = rw (sym c.is_page.ensures ∙ c.if-not-is_page.true
+returns-then-not-is_page c = rw (sym c.is_page.ensures ∙ c.if-not-is_page.true)
 
 -- past the refusal of the length the page has one of the two
 page : (c : Else-not-is_page) → is_page (length c.args.registers.now) ≡ true

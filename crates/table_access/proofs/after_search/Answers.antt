@@ -35,12 +35,12 @@ told c outcome is x e d f =
 pub returns-then-not-found : goal.returns-then-not-found
 unfolding answer_of decision_of
 returns-then-not-found c =
-    told (goal.at.returns-then-not-found c).Start _ (outcome_none c.args.kind c.args.key c.args.found (c.if-not-found.true) _ c.fault_answer.ensures _ c.decided.ensures
+    told (goal.at.returns-then-not-found c).Start _ (outcome_none c.args.kind c.args.key c.args.found (not-true _ c.if-not-found.true)) _ c.fault_answer.ensures _ c.decided.ensures
 
 pub returns-then-found : goal.returns-then-found
 unfolding answer_of decision_of
 returns-then-found c =
-    told (goal.at.returns-then-found c).Start _ (outcome_differs c.args.kind c.args.key c.args.found (c.if-not-found.false c.if-found.true)
+    told (goal.at.returns-then-found c).Start _ (outcome_differs c.args.kind c.args.key c.args.found (not-false _ c.if-not-found.false) c.if-found.true)
     _ c.refused_answer.ensures _ c.decided-then-found.ensures
 
 -- past the first two tests the entry decides
@@ -49,7 +49,7 @@ at_entry : (c : Else-found) →
     after_search a.kind a.key (searched_of a.found) ≡ page_outcome a.kind a.key a.found.second
 at_entry c =
     let a = c.args in
-    outcome_at a.kind a.key a.found (c.if-not-found.false c.if-found.false
+    outcome_at a.kind a.key a.found (not-false _ c.if-not-found.false) c.if-found.false
 
 -- the test of the code is that of a fetch from guarded storage
 test : (c : After-is_guarded) →
@@ -78,7 +78,7 @@ unfolding answer_of decision_of
 returns-then-not-page_allows c =
     let a = c.args in
     told (goal.at.returns-then-not-page_allows c).Start _
-    (at_entry (goal.at.returns-then-not-page_allows c).Else-found ∙ page_protected a.kind a.key a.found.second (test (goal.at.returns-then-not-page_allows c).After-is_guarded ∙ c.if-is_fetch-is_guarded.false) (allowed (goal.at.returns-then-not-page_allows c).After-page_allows ∙ c.if-not-page_allows.true)
+    (at_entry (goal.at.returns-then-not-page_allows c).Else-found ∙ page_protected a.kind a.key a.found.second (test (goal.at.returns-then-not-page_allows c).After-is_guarded ∙ c.if-is_fetch-is_guarded.false) (allowed (goal.at.returns-then-not-page_allows c).After-page_allows ∙ c.if-not-page_allows.true))
     _ c.fault_answer-then-not-page_allows.ensures _ (c.by_entry-then-not-page_allows.ensures ∙ ap (λ (n : ℕ). by_entry 5 n (used (goal.at.returns-then-not-page_allows c).Start)) c.key_and_pp-detail.ensures)
 
 pub returns : goal.returns
@@ -86,6 +86,6 @@ unfolding answer_of decision_of
 returns c =
     let a = c.args in
     told (goal.at.returns c).Start _
-    (at_entry (goal.at.returns c).Else-found ∙ page_done a.kind a.key a.found.second (test (goal.at.returns c).After-is_guarded ∙ c.if-is_fetch-is_guarded.false) (allowed (goal.at.returns c).After-page_allows ∙ c.if-not-page_allows.false)
+    (at_entry (goal.at.returns c).Else-found ∙ page_done a.kind a.key a.found.second (test (goal.at.returns c).After-is_guarded ∙ c.if-is_fetch-is_guarded.false) (allowed (goal.at.returns c).After-page_allows ∙ c.if-not-page_allows.false))
     _ (c.done_answer.ensures ∙ ap₂ (λ (p w : ℕ). done_answer p w a.address) c.physical_address-physical.ensures c.wimg_of-wimg.ensures)
     _ (c.by_entry-2.ensures ∙ ap (λ (n : ℕ). by_entry 6 n (used (goal.at.returns c).Start)) c.key_and_pp-detail.ensures)

@@ -3,7 +3,7 @@ use borrow.Author.Rules.{rules}
 use borrow.Author.Tests.{lt-ltb, le-ltb}
 use mathlib.Core.Path.{◌≡◌, sym, ap, ap₂, subst, ◌∙◌}
 use mathlib.Core.Bool.{Bool, true, false, ◌&&◌}
-use Prim.Native.Nat.{ℕ}
+use Prim.Native.Nat.{ℕ, ◌≤◌}
 use lib.Dec.{ltb}
 use lib.ListN.{length}
 use lib.Pow.{shr_mod}
@@ -18,11 +18,7 @@ use Rattle.translation.proofs.Steps.{before_block, before_no_execute, before_sea
 use Rattle.table_access.specs.Part.{without_page, by_outcome, begun_by}
 use Rattle.table_access.specs.declared.Begun.TheVariants.{Told, Wants}
 use Rattle.table_access.proofs.before_search.Goals as goal
-use Rattle.table_access.proofs.before_search.Goals.{After-no_execute, After-segment-segment, Else-pair-lt-BLOCK_PAIRS, Start}
-
--- the pair is the first that covers the address
-abbrev covering : Start → ℕ
-covering c = covering_pair 8 15 (set_words c.args.registers.now) (side_of c.args.kind) (user_mode c.args.mode) c.args.address
+use Rattle.table_access.proofs.before_search.Goals.{After-no_execute, After-segment-segment, Start}
 
 -- what the steps come to
 abbrev early : Start → Early
@@ -42,25 +38,26 @@ returns-then-pair-lt-BLOCK_PAIRS c =
     (ap Told (c.by_block.ensures ∙ ap (λ (pair : ℕ). by_outcome a.kind a.address (block_outcome 8 15 words a.kind a.address pair)) c.requires.2))
 
 -- past the first test no block covers the address
-bare : (c : Else-pair-lt-BLOCK_PAIRS) → ltb (covering c) 8 ≡ false
-bare c = sym (ap (λ (pair : ℕ). ltb pair 8) c.requires.2) ∙ le-ltb _ _ c.if-pair-lt-BLOCK_PAIRS.false
+bare : (pair covering : ℕ) → pair ≡ covering → 8 ≤ pair → ltb covering 8 ≡ false
+bare pair covering is past = sym (ap (λ (pair : ℕ). ltb pair 8) is) ∙ le-ltb _ _ past
 
-segment-is : (c : After-segment-segment) → let a = c.args in c.segment-segment.result ≡ segment_at (set_words a.registers.now) a.address
-segment-is c =
+segment_is : (c : After-segment-segment) → let a = c.args in c.segment-segment.result ≡ segment_at (set_words a.registers.now) a.address
+segment_is c =
     c.segment-segment.ensures ∙ ap (segment_of (set_words c.args.registers.now)) (sym (shr_mod 4 28 c.ranges.address.fits))
 
 -- the test of the code is that of a fetch with N = 1
 test : (c : After-no_execute) →
     let a = c.args in
+    c.segment-segment.result ≡ segment_at (set_words a.registers.now) a.address →
     fetching a.kind && no_execute (segment_at (set_words a.registers.now) a.address) ≡ (c.is_fetch.result && c.no_execute.result)
-test c =
-    sym (ap₂ (λ (f n : Bool). f && n) c.is_fetch.ensures (c.no_execute.ensures ∙ ap no_execute (segment-is c)))
+test c is =
+    sym (ap₂ (λ (f n : Bool). f && n) c.is_fetch.ensures (c.no_execute.ensures ∙ ap no_execute is))
 
 pub returns-then-is_fetch-no_execute : goal.returns-then-is_fetch-no_execute
 unfolding begun_by answer_of decision_of
 returns-then-is_fetch-no_execute c =
     let a = c.args in
-    rw (before_no_execute 8 15 (set_words a.registers.now) a.mode a.kind a.address c.requires.1 (bare (goal.at.returns-then-is_fetch-no_execute c).Else-pair-lt-BLOCK_PAIRS) (test (goal.at.returns-then-is_fetch-no_execute c).After-no_execute ∙ c.if-is_fetch-no_execute.true))
+    rw (before_no_execute 8 15 (set_words a.registers.now) a.mode a.kind a.address c.requires.1 (bare _ _ c.requires.2 c.if-pair-lt-BLOCK_PAIRS.false) (test (goal.at.returns-then-is_fetch-no_execute c).After-no_execute (segment_is (goal.at.returns-then-is_fetch-no_execute c).After-segment-segment) ∙ c.if-is_fetch-no_execute.true))
     (ap Told (c.without_page.ensures
     ∙ ap (without_page 2 0) c.fault_answer-fault.ensures))
 
@@ -68,5 +65,5 @@ pub returns : goal.returns
 unfolding begun_by
 returns c =
     let a = c.args in
-    rw (before_search_law 8 15 (set_words a.registers.now) a.mode a.kind a.address c.requires.1 (bare (goal.at.returns c).Else-pair-lt-BLOCK_PAIRS) (test (goal.at.returns c).After-no_execute ∙ c.if-is_fetch-no_execute.false))
-    (ap Wants (c.wanted_of.ensures ∙ ap₂ (λ (user : Bool) (segment : ℕ). wanted_of user segment a.address) c.user_mode-user.ensures (segment-is (goal.at.returns c).After-segment-segment)))
+    rw (before_search_law 8 15 (set_words a.registers.now) a.mode a.kind a.address c.requires.1 (bare _ _ c.requires.2 c.if-pair-lt-BLOCK_PAIRS.false) (test (goal.at.returns c).After-no_execute (segment_is (goal.at.returns c).After-segment-segment) ∙ c.if-is_fetch-no_execute.false))
+    (ap Wants (c.wanted_of.ensures ∙ ap₂ (λ (user : Bool) (segment : ℕ). wanted_of user segment a.address) c.user_mode-user.ensures (segment_is (goal.at.returns c).After-segment-segment)))

@@ -30,10 +30,11 @@ lower_is c =
 -- what the code asks of PP is the test of step 2
 allowed : (c : After-block_allows) →
     let a = c.args in
+    c.lower-lower.result ≡ lower_of 8 (set_words a.registers.now) (side_of a.kind) a.pair →
     block_allows (block_pp (lower_of 8 (set_words a.registers.now) (side_of a.kind) a.pair)) a.kind ≡ c.block_allows.result
-allowed c =
+allowed c is =
     let kind = c.args.kind in
-    sym (c.block_allows.ensures ∙ ap (λ (pp : ℕ). block_allows pp kind) (c.block_pp.ensures ∙ ap block_pp (lower_is c)))
+    sym (c.block_allows.ensures ∙ ap (λ (pp : ℕ). block_allows pp kind) (c.block_pp.ensures ∙ ap block_pp is))
 
 pub overflow_cast-pair : goal.overflow_cast-pair
 overflow_cast-pair c =
@@ -43,7 +44,7 @@ pub returns-then-not-block_allows : goal.returns-then-not-block_allows
 unfolding answer_of decision_of
 returns-then-not-block_allows c =
     let a = c.args in
-    rw (block_fault 8 15 (set_words a.registers.now) a.kind a.address a.pair (allowed (goal.at.returns-then-not-block_allows c).After-block_allows ∙ c.if-not-block_allows.true)
+    rw (block_fault 8 15 (set_words a.registers.now) a.kind a.address a.pair (allowed (goal.at.returns-then-not-block_allows c).After-block_allows (lower_is (goal.at.returns-then-not-block_allows c).After-lower-lower) ∙ c.if-not-block_allows.true))
     (c.without_page.ensures ∙ ap (without_page 1 a.pair) c.fault_answer-fault.ensures)
 
 pub overflow_cast-pair-2 : goal.overflow_cast-pair-2
@@ -54,7 +55,7 @@ pub returns : goal.returns
 unfolding answer_of decision_of
 returns c =
     let a = c.args in
-    rw (block_done 8 15 (set_words a.registers.now) a.kind a.address a.pair (allowed (goal.at.returns c).After-block_allows ∙ c.if-not-block_allows.false)
+    rw (block_done 8 15 (set_words a.registers.now) a.kind a.address a.pair (allowed (goal.at.returns c).After-block_allows (lower_is (goal.at.returns c).After-lower-lower) ∙ c.if-not-block_allows.false))
     (c.without_page-2.ensures
     ∙ ap (without_page 1 a.pair)
     (c.done_answer-done.ensures

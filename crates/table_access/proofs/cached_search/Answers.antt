@@ -20,8 +20,10 @@ use Rattle.page_calls.proofs.Searched.{locatable, primary_asked, secondary_asked
 use Rattle.table_access.specs.Part.{SearchTold}
 use Rattle.table_access.specs.declared.Found.{Found}
 use Rattle.table_access.proofs.Finds.{search_told, found_hit, found_table}
+use Rattle.groups.specs.Page.{Page}
+use Rattle.cache.specs.declared.Hit.{Hit}
 use Rattle.table_access.proofs.cached_search.Goals as goal
-use Rattle.table_access.proofs.cached_search.Goals.{After-find-hit, After-in_secondary-told, After-locate-page, Joined-cache-eq-SIZE}
+use Rattle.table_access.proofs.cached_search.Goals.{After-in_secondary-told, After-locate-page, Joined-cache-eq-SIZE, then-cache-eq-SIZE+else-hit, else-cache-eq-SIZE}
 
 pub locate-page-requires : goal.locate-page-requires
 locate-page-requires c = locatable _ (wanted_page c.args.wanted) c.requires.0 c.requires.1
@@ -32,36 +34,32 @@ at : (c : After-locate-page) (sdr1 : ℕ) → TableOf sdr1 (length c.args.table.
 at c sdr1 of = at_groups sdr1 _ _ _ of c.requires.1 c.locate-page.ensures
 
 -- what the cache has of the page, by what it told
-of-hit : (c : After-find-hit) (b : Bool) → c.find-hit.result.found ≡ b →
-    let a = (begin c).args in
-    let h = c.find-hit.result in
-    hit (storing a.kind) a.cache.now (wanted_page a.wanted) ≡ cond b (some (h.first, h.second)) none
-of-hit c b e =
-    let a = (begin c).args in
-    let h = c.find-hit.result in
-    sym (c.find-hit.ensures ∙ ap (λ (store : Bool). hit store a.cache.now (wanted_page a.wanted)) c.is_IsStore.ensures)
+of_hit : (kind : ℕ) (cache : List ℕ) (page : Page) (store : Bool) (h : Hit) → store ≡ storing kind
+    → cond h.found (some (h.first, h.second)) none ≡ hit store cache page → (b : Bool) → h.found ≡ b
+    → hit (storing kind) cache page ≡ cond b (some (h.first, h.second)) none
+of_hit kind cache page store h stores told b e =
+    sym (told ∙ ap (λ (store : Bool). hit store cache page) stores)
     ∙ ap (λ (f : Bool). cond f (some (h.first, h.second)) none) e
 
 pub overflow_cast-result : goal.overflow_cast-result
 unfolding table_length
 overflow_cast-result c =
-    let at-locate = located-by c in
-    let start = begin at-locate in
-    let (sdr1, of) = start.requires.0 in
+    let at_locate = (goal.at.overflow_cast-result c).After-locate-page in
+    let (sdr1, of) = c.requires.0 in
     let right = of.right in
-    let inside = group_inside sdr1 _ _ _ (at at-locate sdr1 of) c.is_secondary.result _ c.group.ensures in
+    let inside = group_inside sdr1 _ _ _ (at at_locate sdr1 of) c.is_secondary.result _ c.group.ensures in
     record { fits = omega arith }
 
 pub returns-then-hit : goal.returns-then-hit
 returns-then-hit c sdr1 of =
-    let a = (begin c).args in
+    let a = c.args in
     let h = c.find-hit.result in
     let group : c.group.result ≡ group_number (10 + mask_ones sdr1) (eqb (bits 25 25 h.first) 1) (wanted_page a.wanted)
     = group_is_law sdr1 _ _ _ (at (goal.at.returns-then-hit c).After-locate-page sdr1 of) _ _ c.group.ensures
     ∙ ap (λ (b : Bool). group_number (10 + mask_ones sdr1) b (wanted_page a.wanted)) c.is_secondary.ensures in
     let shown : ℕ → Found = λ g. record { any = true; differs = false; second = h.second; group = g; entry = 8 } in
     ap shown group
-    ∙ sym (found_hit (mask_ones sdr1) a.kind a.table.now a.cache.now a.wanted h.first h.second (of-hit (goal.at.returns-then-hit c).After-find-hit true c.if-hit.true))
+    ∙ sym (found_hit (mask_ones sdr1) a.kind a.table.now a.cache.now a.wanted h.first h.second (of_hit a.kind a.cache.now (wanted_page a.wanted) _ h c.is_store-store.ensures c.find-hit.ensures true c.if-hit.true))
 
 pub in_primary-primary-requires : goal.in_primary-primary-requires
 in_primary-primary-requires c = primary_asked _ c.args.table.now _ c.requires.0 c.requires.1 c.locate-page.ensures
@@ -87,9 +85,10 @@ missing : (c : Joined-cache-eq-SIZE) →
     hit (storing a.kind) a.cache.now (wanted_page a.wanted) ≡ none
 missing c =
     let a = c.args in
-    ⊎_elim
-    (λ w. of-hit (record { before = record { before = record { before = c; if1 = w.0 }; is_IsStore = w.1 }; find = w.2 }) false w.3.left)
-    (λ w. ap (λ (d : List ℕ). hit (storing a.kind) d (wanted_page a.wanted)) (no_bytes _ (c.requires.2 w.left)) ∙ never_hit _ _) c.if-cache-eq-SIZE.branch
+    elim c.if-cache-eq-SIZE.branch [
+      then-cache-eq-SIZE+else-hit w ↦ of_hit a.kind a.cache.now (wanted_page a.wanted) _ w.find-hit.result w.is_store-store.ensures w.find-hit.ensures false w.if-hit.false
+    | else-cache-eq-SIZE w ↦ ap (λ (d : List ℕ). hit (storing a.kind) d (wanted_page a.wanted)) (no_bytes _ (c.requires.2 w.if-cache-eq-SIZE.false)) ∙ never_hit _ _
+    ]
 
 pub returns : goal.returns
 returns c sdr1 of =

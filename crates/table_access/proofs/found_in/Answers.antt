@@ -59,7 +59,7 @@ pub returns-then-not-any : goal.returns-then-not-any
 returns-then-not-any c sdr1 t wanted is =
     let a = c.args in
     c.nothing.ensures
-    ∙ sym (in_none (mask_ones sdr1) t wanted (none-are a.page a.told sdr1 t wanted is c.any.result c.any.ensures (c.if-not-any.true))
+    ∙ sym (in_none (mask_ones sdr1) t wanted (none-are a.page a.told sdr1 t wanted is c.any.result c.any.ensures (c.if-not-any.true)))
 
 pub overflow_cast-result : goal.overflow_cast-result
 unfolding table_length
@@ -78,7 +78,7 @@ overflow_cast-result-2 c =
     let (t, further) = rest in
     let (wanted, is) = further in
     let a = c.args in
-    by_first a.page a.told sdr1 t wanted is _ c.any.result c.any.ensures (c.if-not-any.false
+    by_first a.page a.told sdr1 t wanted is _ c.any.result c.any.ensures (c.if-not-any.false)
     (λ x xs e. let own = c.entry.ensures x xs is.2.0 (tells a.page a.told sdr1 t wanted is x xs e) in record { fits = omega arith })
 
 pub returns : goal.returns
@@ -88,7 +88,7 @@ returns c sdr1 t wanted is =
     let k = mask_ones sdr1 in
     let free = is.2.0 in
     let shown : Bool → ℕ → ℕ → ℕ → Found = λ d w g i. record { any = true; differs = d; second = w; group = g; entry = i } in
-    by_first a.page a.told sdr1 t wanted is _ c.any.result c.any.ensures (c.if-not-any.false
+    by_first a.page a.told sdr1 t wanted is _ c.any.result c.any.ensures (c.if-not-any.false)
     (λ x xs e.
     let own = tells a.page a.told sdr1 t wanted is x xs e in
     let number = c.entry.ensures x xs free own in

@@ -35,21 +35,21 @@ early c = before_search 8 15 (set_words c.args.registers.now) c.args.mode c.args
 pub cached_search-found-requires : goal.cached_search-found-requires
 cached_search-found-requires c =
     let a = c.args in
-    let wanted = c.wanted-1.given.0.0 in
-    let e = begun_wants a.kind a.address (early (goal.at.cached_search-found-requires c).Start) wanted (sym c.before_search.ensures ∙ c.wanted-1.given.1) in
+    let wanted = c.in-Wants.wanted in
+    let e = begun_wants a.kind a.address (early (goal.at.cached_search-found-requires c).Start) wanted (sym c.before_search.ensures ∙ c.in-Wants.is) in
     ((sdr1_of (set_words a.registers.now), c.requires.0.1), part_valid 8 15 (set_words a.registers.now) a.mode a.kind a.address wanted e, c.requires.1)
 
 pub returns-in-Told : goal.returns-in-Told
 returns-in-Told c =
     let a = c.args in
-    begun_told a.kind a.address _ (early (goal.at.returns-in-Told c).Start) c.part-1.given.0.0 (sym c.before_search.ensures ∙ c.part-1.given.1)
+    begun_told a.kind a.address _ (early (goal.at.returns-in-Told c).Start) c.in-Told.part (sym c.before_search.ensures ∙ c.in-Told.is)
 
 pub returns-in-Wants : goal.returns-in-Wants
 returns-in-Wants c =
     let a = c.args in
-    let wanted = c.wanted-1.given.0.0 in
+    let wanted = c.in-Wants.wanted in
     let sdr1 = sdr1_of (set_words a.registers.now) in
-    let e = begun_wants a.kind a.address (early (goal.at.returns-in-Wants c).Start) wanted (sym c.before_search.ensures ∙ c.wanted-1.given.1) in
+    let e = begun_wants a.kind a.address (early (goal.at.returns-in-Wants c).Start) wanted (sym c.before_search.ensures ∙ c.in-Wants.is) in
     rw e
     (c.after_search.ensures
     ∙ ap (by_found a.kind a.address wanted.key) (c.cached_search-found.ensures sdr1 c.requires.0.1)

@@ -16,7 +16,7 @@ lengths : (c : Else-not-is_page-answer) →
     let a = c.args in
     (is_page (length a.registers.now) ≡ true) × (length a.answer.now ≡ 48)
 lengths c =
-    let right = both _ _ (c.if-not-is_page-answer.false in
+    let right = both _ _ (c.if-not-is_page-answer.false) in
     (sym c.is_page.ensures ∙ right.0, eqb-true _ 48 right.1)
 
 pub returns-then-not-is_page-answer : goal.returns-then-not-is_page-answer
@@ -24,7 +24,7 @@ returns-then-not-is_page-answer c =
     let a = c.args in
     sym
     (access_wrong_length (record { registers = a.registers.now; mode = a.mode; kind = a.kind; address = a.address; length = a.length; answer = a.answer.now }) a.table.now
-    (ap (λ (b : Bool). b && eqb (length a.answer.now) 48) (sym c.is_page.ensures) ∙ c.if-not-is_page-answer.true)
+    (ap (λ (b : Bool). b && eqb (length a.answer.now) 48) (sym c.is_page.ensures) ∙ c.if-not-is_page-answer.true))
 
 pub translate-requires : goal.translate-requires
 translate-requires c = let (page, answer) = lengths (goal.at.translate-requires c).Else-not-is_page-answer in (page, λ other. refl, answer)

@@ -21,7 +21,7 @@ lengths : (c : Else-not-lent-cache) →
     let a = c.args in
     (is_page (length a.registers.now) ≡ true) × (length a.answer.now ≡ 48) × (length a.cache.now ≡ 2048)
 lengths c =
-    let right = both _ _ (c.if-not-lent-cache.false in
+    let right = both _ _ (c.if-not-lent-cache.false) in
     let lent = both _ _ right.0 in
     (sym c.is_page.ensures ∙ lent.0, eqb-true _ 48 lent.1, eqb-true _ 2048 right.1)
 
@@ -41,7 +41,7 @@ returns-then-not-lent-cache c =
     let a = c.args in
     sym
     (one-wrong (record { registers = a.registers.now; mode = a.mode; kind = a.kind; address = a.address; length = a.length; answer = a.answer.now }) (a.table.now, a.cache.now)
-    (ap (λ (b : Bool). (b && eqb (length a.answer.now) 48) && eqb (length a.cache.now) 2048) (sym c.is_page.ensures) ∙ c.if-not-lent-cache.true)
+    (ap (λ (b : Bool). (b && eqb (length a.answer.now) 48) && eqb (length a.cache.now) 2048) (sym c.is_page.ensures) ∙ c.if-not-lent-cache.true))
 
 pub translate-requires : goal.translate-requires
 translate-requires c = let (page, answer, cache) = lengths (goal.at.translate-requires c).Else-not-lent-cache in (page, λ other. absurd (other cache), answer)

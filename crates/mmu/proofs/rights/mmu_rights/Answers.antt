@@ -22,7 +22,7 @@ call c = record { registers = c.args.registers.now; mode = c.args.mode; address 
 lengths : (c : Else-not-is_page-answer) →
     (is_page (length c.args.registers.now) ≡ true) × (length c.args.answer.now ≡ 156)
 lengths c =
-    let right = both _ _ (c.if-not-is_page-answer.false in
+    let right = both _ _ (c.if-not-is_page-answer.false) in
     (sym c.is_page.ensures ∙ right.0, eqb-true _ 156 right.1)
 
 pub returns-then-not-is_page-answer : goal.returns-then-not-is_page-answer
@@ -30,7 +30,7 @@ returns-then-not-is_page-answer c =
     let answer = c.args.answer.now in
     sym
     (wrong_length (call (goal.at.returns-then-not-is_page-answer c).Start) answer c.args.table.now
-    (ap (λ (b : Bool). b && eqb (length answer) 156) (sym c.is_page.ensures) ∙ c.if-not-is_page-answer.true)
+    (ap (λ (b : Bool). b && eqb (length answer) 156) (sym c.is_page.ensures) ∙ c.if-not-is_page-answer.true))
 
 pub tell-told-requires : goal.tell-told-requires
 tell-told-requires c = (lengths (goal.at.tell-told-requires c).Else-not-is_page-answer).0

@@ -38,7 +38,7 @@ use Rattle.theory_calls.specs.Answers.{word_answer}
 use Rattle.theory_calls.specs.OnBytes.{layout, Ended, ended, by_matches, by_option, entry_word, start_of, early_of, part_answer, part_decision, wanted_page, searched, search_in, first_place_in, marked_by, bytes_do, on_bytes}
 use Rattle.theory_calls.specs.FirstClear.{sdr1_with}
 use Rattle.theory_calls.proofs.OnBytes.{taken}
-use Rattle.theory_histories.specs.Calls.{Slices, State, on_lent, calling}
+use Rattle.theory_histories.specs.Calls.{State, on_lent, calling}
 use Rattle.theory_histories.specs.Fed.{bytes_step}
 use Rattle.test_case_rows.specs.Cases.{OnTable, clear_then, stored, Holds}
 

@@ -12,7 +12,7 @@ use Rattle.theory_calls.specs.Request.{Request}
 use Rattle.theory_calls.specs.Made.{to_clear, to_map, to_unmap, to_look, to_access}
 use Rattle.theory_calls.specs.WithoutTable.{check_call}
 use Rattle.theory_calls.specs.OnBytes.{on_bytes}
-use Rattle.theory_histories.specs.Calls.{Slices, State, Call, plain}
+use Rattle.theory_histories.specs.Calls.{State, Call, plain}
 use Rattle.theory_histories.specs.Fed.{bytes_step}
 use Rattle.theory_histories.specs.Histories.{own_call}
 

@@ -1,7 +1,7 @@
 -- Lists of calls with a cache beside the same lists without, by their result numbers: where an invalidate is missing, they differ (P7). Each closes by computation.
 use Rattle.std.specs.Prelude.{[], ◌∷◌, replicate}
 use Rattle.words.specs.Rows.{Hold}
-use Rattle.theory_histories.specs.Calls.{Slices, slices}
+use Rattle.theory_histories.specs.Calls.{slices}
 use Rattle.theory_histories.specs.Invisible.{zero_cache}
 use Rattle.theory_histories.specs.Rows.{clear_all, map_it, unmap_it, protect_it, load_it, store_it, invalidate_set_of, unmapped, stored, numbers}
 

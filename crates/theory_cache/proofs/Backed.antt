@@ -5,33 +5,24 @@
 --   backed_marked: a mark of any page keeps them backed
 --   contradict_marks: marks of the first match do not count where matches are compared
 --   marks_idle: marks that a word has already change nothing
-use Prim.Native.Nat.{ℕ, ◌+◌, ◌^◌, ◌<◌}
-use mathlib.Core.Path.{◌≡◌, refl, sym, ap, ap₂, ◌∙◌, subst}
-use mathlib.Core.Bool.{Bool, true, false, not, cond, ◌||◌}
+use Prim.Native.Nat.{ℕ}
+use mathlib.Core.Path.{◌≡◌, refl, sym, ap, ap₂, ◌∙◌}
+use mathlib.Core.Bool.{Bool, true, false, not, ◌||◌}
 use mathlib.Core.List.{List, [], ◌∷◌}
 use lib.Dec.{eqb, lit<, lit≤}
-use borrow.Author.Tests.{eqb-true, eqb-false, eq-eqb}
-use Rattle.words.specs.Bits.{bits}
-use Rattle.words.proofs.Tests.{both, by_test}
-use Rattle.entry.specs.Entry.{api_of, rpn_of, wimg_of, pp_of, referenced, changed, with_marks}
-use Rattle.entry.proofs.Addresses.{api_lt}
-use Rattle.entry.proofs.Marks.{marks_above, marks_below, marks_lt, marks_own, marks_again, marks_referenced, marks_changed}
-use Rattle.entry.proofs.Matches.{matched}
+use borrow.Author.Tests.{eqb-true, eqb-false}
+use Rattle.entry.specs.Entry.{referenced, changed, with_marks}
+use Rattle.entry.proofs.Marks.{marks_above, marks_below, marks_own, marks_again, marks_referenced, marks_changed}
 use Rattle.groups.specs.Page.{Page, InRange, same_page}
-use Rattle.groups.specs.Hash.{group_number}
 use Rattle.groups.proofs.Hash.{same_page_eq}
-use Rattle.groups.proofs.Stored.{words_fit, stored_own}
-use Rattle.matches.specs.Search.{hOf, agree, contradict}
-use Rattle.matches.proofs.Agreement.{agree_alike}
+use Rattle.matches.specs.Search.{agree, contradict}
 use Rattle.theory_tables.specs.Matches.{Match}
-use Rattle.theory_tables.specs.Layout.{matches_of, overwrite}
-use Rattle.theory_tables.proofs.Groups.{MatchOf}
+use Rattle.theory_tables.specs.Layout.{matches_of}
 use Rattle.theory_tables.proofs.Overwrites.{with_words, overwrite_first}
 use Rattle.protection.specs.Access.{storing}
 use Rattle.translation.specs.declared.Early.TheVariants.{Search}
-use Rattle.translation.specs.declared.Searched.TheVariants.{At}
 use Rattle.translation.specs.declared.Wanted.{Wanted}
-use Rattle.theory_calls.specs.OnBytes.{layout, wanted_page, searched, search_in, first_place_in, marked_by}
+use Rattle.theory_calls.specs.OnBytes.{layout, wanted_page, marked_by}
 use Rattle.theory_calls.specs.Represents.{GoodTable}
 use Rattle.theory_calls.proofs.TableLaws.{layout_laws}
 use Rattle.theory_calls.proofs.Access.{unmarked}

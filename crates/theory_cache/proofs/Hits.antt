@@ -1,41 +1,32 @@
 -- A part of an operand by a backed hit answers as by the search: the entry agrees in RPN, WIMG and PP, which is all that steps 5 to 7 and the record
 -- read of it, and stands in the group that its H names. Only the entry number is another.
 use Prim.Native.Nat.{ℕ, ◌+◌}
-use mathlib.Core.Path.{◌≡◌, refl, sym, ap, ap₂, ◌∙◌, subst}
-use mathlib.Core.Bool.{Bool, true, false, not, cond, ◌&&◌}
-use mathlib.Core.List.{List, [], ◌∷◌}
-use mathlib.Core.Option.{Option, none, some}
+use mathlib.Core.Path.{◌≡◌, refl, sym, ap, ap₂, ◌∙◌}
+use mathlib.Core.Bool.{Bool, true, false, ◌&&◌}
+use mathlib.Core.List.{List}
 use lib.Dec.{eqb}
 use borrow.Author.Tests.{eqb-true, eqb-false}
 use Rattle.words.specs.Bits.{bits}
-use Rattle.words.specs.Words.{word_bytes, with_word, bytes_of}
 use Rattle.words.proofs.Tests.{both, by_test}
 use Rattle.entry.specs.Entry.{api_of, rpn_of, wimg_of, pp_of, changed, with_marks, physical_address}
 use Rattle.entry.proofs.Addresses.{api_lt}
 use Rattle.entry.proofs.Matches.{matched}
-use Rattle.groups.specs.Page.{Page, InRange}
+use Rattle.groups.specs.Page.{InRange}
 use Rattle.groups.specs.Hash.{group_number}
 use Rattle.groups.specs.Group.{first_of, second_of, put_at}
 use Rattle.groups.proofs.Stored.{stored_own}
-use Rattle.matches.specs.Search.{hOf, agree, contradict}
+use Rattle.matches.specs.Search.{hOf, agree}
 use Rattle.theory_tables.specs.Layout.{overwrite}
 use Rattle.theory_tables.specs.Matches.{Match}
 use Rattle.protection.specs.Access.{fetching, storing}
 use Rattle.protection.specs.Protection.{page_allows, guarded}
-use Rattle.translation.specs.Steps.{page_outcome, after_search, outcome_of, answer_of}
+use Rattle.translation.specs.Steps.{page_outcome, after_search, answer_of}
 use Rattle.translation.specs.Decision.{key_and_pp, decision_of}
-use Rattle.translation.specs.Operand.{over_edge, stopped, within, across_edge, first_bytes, operand_answer}
-use Rattle.translation.specs.declared.Answer.{Answer}
-use Rattle.translation.specs.declared.Early.{Early}
-use Rattle.translation.specs.declared.Early.TheVariants.{Decided, Search}
-use Rattle.translation.specs.declared.Outcome.{Outcome}
+use Rattle.translation.specs.declared.Early.TheVariants.{Search}
 use Rattle.translation.specs.declared.Searched.TheVariants.{At}
 use Rattle.translation.specs.declared.Wanted.{Wanted}
-use Rattle.translation.specs.declared.decision.Decision.{Decision}
 use Rattle.translation.specs.declared.decision.Used.{Used}
-use Rattle.translation.specs.declared.operand.OperandAnswer.{OperandAnswer}
-use Rattle.theory_calls.specs.Answers.{access_answer}
-use Rattle.theory_calls.specs.OnBytes.{layout, by_option, wanted_page, searched, search_in, first_place_in, marked_by}
+use Rattle.theory_calls.specs.OnBytes.{wanted_page, searched, search_in, first_place_in, marked_by}
 use Rattle.theory_calls.specs.Represents.{GoodTable}
 use Rattle.theory_calls.proofs.Fields.{one_if_lt}
 use Rattle.theory_calls.proofs.Access.{unmarked}

@@ -1,7 +1,7 @@
 -- The answer of an operand of which a part was hit: where every part answers alike and shows the same but for a hit's entry number, the bytes of the
 -- answers are the same but for the last word, which is 8 where the part that answers was hit.
 use Prim.Native.Nat.{ℕ}
-use mathlib.Core.Path.{◌≡◌, refl, sym, ap, ◌∙◌}
+use mathlib.Core.Path.{◌≡◌, refl, ap, ◌∙◌}
 use mathlib.Core.Bool.{Bool, true, false, not, cond, ◌&&◌}
 use mathlib.Core.List.{List}
 use lib.Dec.{eqb}

@@ -1,5 +1,5 @@
 -- What an access with a cache does to any table and any cache, whoever wrote them (request 7), and that a refusal leaves what was lent (demand 1).
-use Rattle.std.specs.Prelude.{ℕ, ◌+◌, ◌/◌, ◌^◌, ◌<◌, Bool, true, false, List, ◌∷◌, ◌↔◌, ◌≡◌, eqb, length, get_or, replicate}
+use Rattle.std.specs.Prelude.{ℕ, ◌+◌, ◌/◌, ◌^◌, ◌<◌, Bool, false, List, ◌∷◌, ◌↔◌, ◌≡◌, eqb, length, get_or, replicate}
 use Rattle.std.proofs.Math.Option.{none, some}
 use Rattle.numbers.specs.Numbers.{done, data_storage_fault, instruction_storage_fault, refused_lent_length}
 use Rattle.words.specs.Bits.{bits}

@@ -14,7 +14,6 @@ use Rattle.translation.specs.declared.Early.TheVariants.{Decided, Search}
 use Rattle.translation.specs.declared.Searched.{Searched}
 use Rattle.translation.specs.declared.Searched.TheVariants.{At}
 use Rattle.translation.specs.declared.Wanted.{Wanted}
-use Rattle.translation.specs.declared.operand.OperandAnswer.{OperandAnswer}
 use Rattle.cache.specs.Cache.{cache_size, hit, loaded, set_zeroed}
 use Rattle.theory_calls.specs.Request.{AccessCall, access, sdr1_in, fed}
 use Rattle.theory_calls.specs.Rules.{rules}

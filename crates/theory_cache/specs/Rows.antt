@@ -7,7 +7,7 @@ use Rattle.numbers.specs.Numbers.{done, data_storage_fault, instruction_storage_
 use Rattle.numbers.specs.Numbers.{refused_contradiction, refused_lent_length, refused_operand_length}
 use Rattle.words.specs.Rows.{Hold}
 use Rattle.words.specs.Words.{with_word, bytes_of}
-use Rattle.theory_calls.specs.Request.{AccessCall, access}
+use Rattle.theory_calls.specs.Request.{AccessCall}
 use Rattle.theory_calls.specs.OnBytes.{Ended, ended}
 use Rattle.theory_calls.specs.PageRows.{zero_registers, rule, no_rule, stop, one_byte}
 use Rattle.theory_calls.specs.OperandRows.{in_two, two_segments}

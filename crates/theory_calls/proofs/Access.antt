@@ -13,7 +13,7 @@
 use mathlib.Core.Path.{◌≡◌, refl, sym, ap, ◌∙◌}
 use mathlib.Core.Bool.{Bool, true, false, cond, not, ◌&&◌, true≢false}
 use mathlib.Core.List.{List, [], ◌∷◌, ◌++◌}
-use Prim.Native.Nat.{ℕ, ◌+◌}
+use Prim.Native.Nat.{ℕ}
 use native.Mathlib.Omega.{arith}
 use lib.Dec.{eqb, ltb}
 use lib.ListN.{length}
@@ -26,7 +26,7 @@ use Rattle.registers.proofs.Set.{checked}
 use Rattle.groups.specs.Page.{InRange}
 use Rattle.protection.specs.Access.{fetching}
 use Rattle.protection.specs.Fault.{no_match, no_fetch, protection, fault_of}
-use Rattle.translation.specs.Steps.{before_search, after_search, outcome_of, answer_of, refused_answer}
+use Rattle.translation.specs.Steps.{before_search, after_search, answer_of, refused_answer}
 use Rattle.translation.specs.Decision.{decided, decision_of}
 use Rattle.translation.specs.Operand.{over_edge, stopped}
 use Rattle.translation.specs.declared.Early.{Early}

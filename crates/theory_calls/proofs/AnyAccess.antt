@@ -1,13 +1,13 @@
 -- What an access does to any table of bytes: each part answers by the list of its page's matches on the table as lent, and a done operand marks the
 -- first match of each part.
-use Prim.Native.Nat.{ℕ, ◌+◌, ◌-◌, ◌%◌, ◌^◌, ◌≤◌, ◌<◌}
-use mathlib.Core.Path.{◌≡◌, refl, sym, ap, ap₂, ◌∙◌, subst}
+use Prim.Native.Nat.{ℕ, ◌+◌, ◌%◌, ◌^◌, ◌<◌}
+use mathlib.Core.Path.{◌≡◌, refl, sym, ap, ◌∙◌, subst}
 use mathlib.Core.Bool.{Bool, true, false, cond, true≢false}
 use mathlib.Core.Logic.{◌↔◌}
-use mathlib.Core.List.{List, [], ◌∷◌, ◌++◌}
+use mathlib.Core.List.{List, [], ◌∷◌}
 use native.Mathlib.Omega.{arith}
 use lib.Dec.{eqb, lit<, lit≤}
-use lib.ListN.{length, take}
+use lib.ListN.{take}
 use borrow.Author.Tests.{eqb-true, eqb-false, eq-eqb, ne_eqb}
 use Rattle.words.proofs.Tests.{by_test}
 use Rattle.register_words.specs.Block.{bl_width}
@@ -30,7 +30,6 @@ use Rattle.translation.specs.Operand.{first_bytes, over_edge, stopped, within, a
 use Rattle.translation.specs.declared.Answer.{Answer}
 use Rattle.translation.specs.declared.decision.Decision.{Decision}
 use Rattle.translation.specs.declared.operand.OperandAnswer.{OperandAnswer}
-use Rattle.translation.specs.declared.Early.{Early}
 use Rattle.translation.specs.declared.Early.TheVariants.{Decided, Search}
 use Rattle.translation.specs.declared.Outcome.{Outcome}
 use Rattle.translation.specs.declared.Outcome.TheVariants.{NoMatch}
@@ -43,8 +42,8 @@ use Rattle.theory_calls.specs.Request.{AccessCall, access, sdr1_in}
 use Rattle.theory_calls.specs.Answers.{part_words, access_answer}
 use Rattle.theory_calls.specs.OnBytes.{ended, start_of, early_of, whole_answer, each_part, wanted_page, searched, search_in, first_place_in, marked_by, bytes_do, on_bytes}
 use Rattle.theory_calls.specs.Represents.{GoodTable}
-use Rattle.theory_calls.specs.AnyTable.{SameEntry, group_at, first_here, second_here, Matching, SomeMatch, Disagreeing, FirstMatch, Marked, Taken}
-use Rattle.theory_calls.specs.AnyTable.{HasPart, answered, left_by, decided_by, SearchOnAny, FirstOfPart, AccessOnAny}
+use Rattle.theory_calls.specs.AnyTable.{SameEntry, group_at, first_here, second_here, SomeMatch, Disagreeing, FirstMatch, Marked, Taken}
+use Rattle.theory_calls.specs.AnyTable.{HasPart, answered, decided_by, FirstOfPart, AccessOnAny}
 use Rattle.theory_calls.proofs.TakenCalls.{good_table, does, number_of, state_of, answer_of_law, bit_set, r_is, c_is}
 use Rattle.theory_calls.proofs.Access.{by_early, wanted_valid, parts_unmarked, unmarked_decided}
 use Rattle.theory_calls.proofs.AnyRule.{rule_stated, undecided}

@@ -1,17 +1,17 @@
 -- The rule that decided a part of an access, on any table: each case of the steps is the first whose condition holds, and shows what it went by.
 use Prim.Native.Nat.{ℕ, ◌+◌, ◌*◌, ◌≤◌, ◌<◌}
-use mathlib.Core.Path.{◌≡◌, refl, sym, ap, ap₂, ◌∙◌, subst}
+use mathlib.Core.Path.{◌≡◌, refl, sym, ap, ◌∙◌, subst}
 use mathlib.Core.Bool.{Bool, true, false, cond, ◌&&◌, true≢false}
 use mathlib.Core.Logic.{◌↔◌, ⊎_elim}
 use mathlib.Core.List.{List, [], ◌∷◌}
 use native.Mathlib.Omega.{arith}
-use lib.Dec.{eqb, ltb, lit<}
+use lib.Dec.{ltb}
 use borrow.Author.Tests.{ltb-true, ltb-false, eq-eqb}
 use Rattle.register_words.specs.Block.{bl_width}
 use Rattle.theory_calls.specs.Rules.{on_long_page}
 use Rattle.words.proofs.Below.{first_passes, first_before}
 use Rattle.words.proofs.Tests.{three, both, by_test}
-use Rattle.entry.specs.Entry.{wimg_of, pp_of, page_index}
+use Rattle.entry.specs.Entry.{wimg_of, pp_of}
 use Rattle.register_words.specs.Segment.{no_execute}
 use Rattle.registers.specs.Set.{block_pairs, register_words, covering_pair, pair_covers}
 use Rattle.groups.specs.Page.{Page}
@@ -20,21 +20,21 @@ use Rattle.matches.specs.Search.{contradict}
 use Rattle.theory_tables.specs.Matches.{Match}
 use Rattle.protection.specs.Access.{user_mode, fetching, relocated, side_of}
 use Rattle.protection.specs.Protection.{page_allows, guarded}
-use Rattle.translation.specs.Steps.{segment_at, wanted_of, before_search, block_outcome, page_outcome, after_search, outcome_of, answer_of}
-use Rattle.translation.specs.Decision.{decided, by_entry, key_and_pp, decision_of}
+use Rattle.translation.specs.Steps.{wanted_of, block_outcome, page_outcome, after_search, outcome_of, answer_of}
+use Rattle.translation.specs.Decision.{decided, key_and_pp, decision_of}
 use Rattle.translation.specs.Operand.{part_start}
 use Rattle.translation.specs.declared.Early.{Early}
 use Rattle.translation.specs.declared.Early.TheVariants.{Decided, Search}
 use Rattle.translation.specs.declared.Outcome.{Outcome}
-use Rattle.translation.specs.declared.Outcome.TheVariants.{Real, NoExecute, NoMatch, Guarded, Protection, Done, Refused}
+use Rattle.translation.specs.declared.Outcome.TheVariants.{Real, NoExecute, Guarded, Protection, Done}
 use Rattle.translation.specs.declared.Searched.{Searched}
-use Rattle.translation.specs.declared.Searched.TheVariants.{Nothing, At, Contradicting}
+use Rattle.translation.specs.declared.Searched.TheVariants.{At, Contradicting}
 use Rattle.translation.specs.declared.Wanted.{Wanted}
 use Rattle.translation.specs.declared.decision.Decision.{Decision}
 use Rattle.translation.specs.declared.decision.Used.{Used}
 use Rattle.translation.proofs.Steps.{fetch_is, block_by, before_real, before_block, before_no_execute, before_search_law, page_by}
 use Rattle.theory_calls.specs.Request.{AccessCall}
-use Rattle.theory_calls.specs.OnBytes.{by_matches, early_of, used_by, wanted_page, searched, search_in, first_place_in}
+use Rattle.theory_calls.specs.OnBytes.{by_matches, early_of, used_by, searched, search_in, first_place_in}
 use Rattle.theory_calls.specs.AnyTable.{group_at, second_here, SomeMatch, FirstMatch, answered, decided_by, segment_here, page_here, key_here, Covered, Condition, RuleStated}
 use Rattle.theory_calls.specs.AnyTable.{untranslated, by_block, not_executable, unmatched, guarded_fetch, forbidden, allowed}
 use Rattle.theory_calls.proofs.Access.{refused_words}

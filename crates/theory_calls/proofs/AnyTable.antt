@@ -1,51 +1,36 @@
 -- What each call does to any table of bytes: by the list of the page's matches, whose members are the entries that match and whose head is the first.
 use Prim.Native.Nat.{ℕ, ◌+◌, ◌*◌, ◌/◌, ◌^◌, ◌<◌}
-use mathlib.Core.Path.{◌≡◌, refl, sym, ap, ap₂, ◌∙◌, subst}
-use mathlib.Core.Bool.{Bool, true, false, cond, true≢false, ◌||◌}
+use mathlib.Core.Path.{◌≡◌, refl, sym, ap, ap₂, ◌∙◌}
+use mathlib.Core.Bool.{Bool, true, false, true≢false}
 use mathlib.Core.Logic.{◌↔◌}
-use mathlib.Core.List.{List, [], ◌∷◌, Memᴰ}
+use mathlib.Core.List.{List, [], ◌∷◌}
 use mathlib.Core.Option.{Option, none, some}
 use native.Mathlib.Omega.{arith}
 use lib.Dec.{eqb, lit<, lit≤}
 use lib.ListN.{length}
-use borrow.Author.Tests.{eqb-true, eqb-false, eq-eqb, ne_eqb}
 use Rattle.words.specs.Bits.{bits}
-use Rattle.entry.specs.Entry.{second_word, referenced, changed, with_marks, with_pp}
-use Rattle.entry.proofs.Marks.{marks_lt, marks_above, marks_below, marks_referenced, marks_changed}
+use Rattle.entry.specs.Entry.{second_word, referenced, changed, with_pp}
+use Rattle.entry.proofs.Marks.{marks_above, marks_below}
 use Rattle.entry.proofs.Packing.{second_lt}
 use Rattle.register_words.specs.Sdr1.{mask_ones}
-use Rattle.register_words.proofs.Sdr1.{length_is}
-use Rattle.groups.specs.Page.{Page, InRange}
+use Rattle.groups.specs.Page.{Page}
 use Rattle.groups.proofs.Stored.{words_fit}
 use Rattle.matches.specs.Search.{any_match, contradict, merged}
 use Rattle.matches.proofs.Agreement.{any_true, any_member}
 use Rattle.matches.proofs.Merged.{merged_referenced, merged_changed}
 use Rattle.theory_tables.specs.Matches.{Match}
-use Rattle.theory_tables.specs.Layout.{matches_of, free_place, overwrite, overwrite_each}
+use Rattle.theory_tables.specs.Layout.{free_place, overwrite_each}
 use Rattle.theory_tables.proofs.Groups.{MatchOf}
-use Rattle.protection.specs.Access.{fetching, storing}
-use Rattle.protection.specs.Fault.{no_match, no_fetch, protection, fault_of}
-use Rattle.translation.specs.Steps.{page_outcome, after_search, outcome_of, answer_of}
-use Rattle.translation.specs.declared.Early.{Early}
-use Rattle.translation.specs.declared.Early.TheVariants.{Decided, Search}
-use Rattle.translation.specs.declared.Outcome.{Outcome}
-use Rattle.translation.specs.declared.Outcome.TheVariants.{NoMatch}
-use Rattle.translation.specs.declared.Searched.{Searched}
-use Rattle.translation.specs.declared.Searched.TheVariants.{Nothing, At, Contradicting}
-use Rattle.translation.specs.declared.Wanted.{Wanted}
 use Rattle.translation.proofs.Stated.{access_as_stated}
-use Rattle.translation.proofs.Steps.{page_by, after_nothing, after_at, outcome_searched}
-use Rattle.theory_calls.specs.Made.{fed_answered}
-use Rattle.theory_calls.specs.Request.{ClearCall, MapCall, ProtectCall, AnsweredCall, AccessCall, Request, clear, map_page, unmap, protect, look, access, sdr1_in, fed}
-use Rattle.theory_calls.specs.Answers.{word_answer, access_answer}
-use Rattle.theory_calls.specs.OnBytes.{layout, Ended, ended, by_matches, entry_word, early_of, wanted_page, searched, marked_by, bytes_do, on_bytes}
+use Rattle.theory_calls.specs.Request.{ClearCall, MapCall, ProtectCall, AnsweredCall, clear, map_page, unmap, protect, look, sdr1_in, fed}
+use Rattle.theory_calls.specs.Answers.{word_answer}
+use Rattle.theory_calls.specs.OnBytes.{layout, ended, entry_word, bytes_do, on_bytes}
 use Rattle.theory_calls.specs.Represents.{GoodTable}
-use Rattle.theory_calls.specs.AnyTable.{group_at, first_here, second_here, Matching, SomeMatch, SomeMatchHas, Disagreeing, FirstMatch, Free, FirstFree, Marked, Taken}
-use Rattle.theory_calls.specs.AnyTable.{ClearOnAny, MapOnAny, UnmapOnAny, ProtectOnAny, LookOnAny, SearchOnAny, AccessOnAny, CallsOnAnyTable, AccessStated}
+use Rattle.theory_calls.specs.AnyTable.{group_at, second_here, SomeMatch, SomeMatchHas, FirstMatch, FirstFree, Taken}
+use Rattle.theory_calls.specs.AnyTable.{ClearOnAny, MapOnAny, UnmapOnAny, ProtectOnAny, LookOnAny, CallsOnAnyTable, AccessStated}
 use Rattle.theory_calls.proofs.TakenCalls.{good_table, does, number_of, state_of, answer_of_law, bit_set, r_is, c_is}
-use Rattle.theory_calls.proofs.Rules.{fitting, map_kept, unmap_kept, look_kept, protect_kept}
-use Rattle.theory_calls.proofs.Histories.{sdr1_fed}
-use Rattle.theory_calls.proofs.TableLaws.{Word, layout_laws}
+use Rattle.theory_calls.proofs.Rules.{map_kept, protect_kept}
+use Rattle.theory_calls.proofs.TableLaws.{Word}
 use Rattle.theory_calls.proofs.Step.{own_fits}
 use Rattle.theory_calls.proofs.AnyAccess.{access_on_any}
 use Rattle.theory_calls.proofs.AnyEntries.{by_matches_law, own, member_matching, member_second, as_match, matching_member, some_match, no_match_law, head_is}

@@ -1,21 +1,21 @@
 -- Each call gets past its rules exactly where what it brings is good: no rule of its list is broken, and each rule's test is read as arithmetic.
-use Prim.Native.Nat.{ℕ, ◌+◌, ◌-◌, ◌*◌, ◌/◌, ◌^◌, ◌≤◌, ◌<◌}
+use Prim.Native.Nat.{ℕ, ◌*◌, ◌/◌, ◌^◌, ◌<◌}
 use mathlib.Core.Bool.{Bool, true, false, cond, not, ◌&&◌, true≢false}
-use mathlib.Core.List.{List, [], ◌∷◌, ◌++◌}
+use mathlib.Core.List.{List, [], ◌∷◌}
 use mathlib.Core.Logic.{◌↔◌}
 use mathlib.Core.Path.{◌≡◌, refl, sym, ap, ◌∙◌, subst}
 use native.Mathlib.Omega.{arith}
 use lib.Dec.{eqb, ltb, leb, lit≤}
 use lib.ListN.{length, set}
-use borrow.Author.Tests.{not-false, eqb-true, eqb-false, eq-eqb, ne_eqb, ltb-true, lt-ltb, leb-true, le-leb}
+use borrow.Author.Tests.{not-false, eqb-true, eqb-false, eq-eqb, ltb-true, lt-ltb, leb-true, le-leb}
 use Rattle.words.specs.Words.{word_at, words_at}
 use Rattle.words.proofs.Tests.{both, by_test}
 use Rattle.words.proofs.Words.{get_or_words_at}
-use Rattle.entry.specs.Entry.{first_word, second_word, within_widths, packed}
+use Rattle.entry.specs.Entry.{within_widths, packed}
 use Rattle.entry.specs.declared.Fields.{Fields}
 use Rattle.entry.specs.RoundTrip.{Within}
 use Rattle.entry.proofs.Widths.{within, widths}
-use Rattle.register_words.specs.Sdr1.{sdr1_shape, table_length, mask_ones}
+use Rattle.register_words.specs.Sdr1.{table_length, mask_ones}
 use Rattle.register_words.specs.Block.{bl_width}
 use Rattle.register_words.proofs.Sdr1.{made_length}
 use Rattle.registers.specs.Rules.{first_broken}
@@ -25,12 +25,12 @@ use Rattle.registers.proofs.Set.{short_page}
 use Rattle.registers.proofs.Check.{shape_good, good_shape, check_decides, at_most_15, replacing_decides}
 use Rattle.theory_tables.specs.Runs.{Each}
 use Rattle.theory_calls.specs.Lent.{of_length}
-use Rattle.theory_calls.specs.Request.{ClearCall, MapCall, ProtectCall, AnsweredCall, AccessCall, Request, clear, map_page, unmap, protect, look, access, sdr1_in, fed}
+use Rattle.theory_calls.specs.Request.{MapCall, ProtectCall, AnsweredCall, AccessCall, Request, clear, map_page, unmap, protect, look, access, sdr1_in, fed}
 use Rattle.theory_calls.specs.Made.{fed_answered, fed_access}
-use Rattle.theory_calls.specs.Rules.{on_long_page, page_in_range, write_through_inhibited, map_in_range, operand_in_range, table_rules, rules, refusal}
+use Rattle.theory_calls.specs.Rules.{on_long_page, page_in_range, write_through_inhibited, rules, refusal}
 use Rattle.theory_calls.specs.WithoutTable.{check_call, set_register_call, pack_call, unpack_call}
-use Rattle.theory_calls.specs.OnBytes.{Ended, on_bytes}
-use Rattle.theory_calls.specs.Arguments.{PastRules, TableGood, RegistersGood, MapGood, ProtectGood, AnsweredGood, Translates, AccessGood, ArgumentsDecide}
+use Rattle.theory_calls.specs.OnBytes.{on_bytes}
+use Rattle.theory_calls.specs.Arguments.{PastRules, TableGood, RegistersGood, MapGood, ProtectGood, AnsweredGood, AccessGood, ArgumentsDecide}
 use Rattle.theory_calls.proofs.OnBytes.{taken, refused}
 use Rattle.theory_calls.proofs.Rules.{Fitting, fitting, map_taken, unmap_taken, protect_taken, map_kept, unmap_kept, protect_kept}
 use Rattle.theory_calls.proofs.FirstClear.{clear_is, done_fits}

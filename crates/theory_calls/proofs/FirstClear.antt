@@ -1,5 +1,5 @@
 -- A clear that was done: its SDR1 has its shape and the lent slice the SDR1's length; an SDR1 of 32 bits is then an origin and some ones.
-use Prim.Native.Nat.{ℕ, ◌+◌, ◌-◌, ◌*◌, ◌/◌, ◌%◌, ◌^◌, ◌≤◌, ◌<◌}
+use Prim.Native.Nat.{ℕ, ◌/◌, ◌%◌, ◌^◌, ◌<◌}
 use mathlib.Core.Path.{◌≡◌, refl, sym, ap, ◌∙◌, subst}
 use mathlib.Core.Bool.{Bool, true, false, ◌&&◌}
 use mathlib.Core.List.{List, []}
@@ -10,11 +10,11 @@ use lib.ListN.{length, replicate}
 use borrow.Author.Tests.{eqb-true, eqb-false}
 use Rattle.words.specs.Ones.{low_ones}
 use Rattle.words.proofs.Tests.{both}
-use Rattle.register_words.specs.Sdr1.{origin_of, mask_of, sdr1_shape, table_length, mask_ones}
+use Rattle.register_words.specs.Sdr1.{origin_of, mask_of, sdr1_shape, mask_ones}
 use Rattle.register_words.proofs.Sdr1.{mask_is, ones_at_most_9, length_is, made_shape, made_length}
 use Rattle.theory_calls.specs.Request.{clear, fed, sdr1_in}
 use Rattle.theory_calls.specs.Rules.{refusal}
-use Rattle.theory_calls.specs.OnBytes.{Ended, ended, bytes_do, on_bytes}
+use Rattle.theory_calls.specs.OnBytes.{Ended, ended, bytes_do}
 use Rattle.theory_calls.specs.Represents.{TableRepresents}
 use Rattle.theory_calls.specs.FirstClear.{clearing, sdr1_with, Start}
 use Rattle.theory_calls.proofs.OnBytes.{taken, refused}

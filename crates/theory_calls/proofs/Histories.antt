@@ -12,7 +12,7 @@ use Rattle.register_words.proofs.Sdr1.{length_is}
 use Rattle.theory_calls.specs.Request.{Request, clear, map_page, unmap, protect, look, access, fed, sdr1_in}
 use Rattle.theory_calls.specs.Rules.{refusal}
 use Rattle.theory_calls.specs.Answers.{refused_bytes, answer_refused, without_place, seen_of, compared}
-use Rattle.theory_calls.specs.OnBytes.{Ended, ended, bytes_do, on_bytes}
+use Rattle.theory_calls.specs.OnBytes.{ended, bytes_do, on_bytes}
 use Rattle.theory_calls.specs.OnMap.{Map, map_does, on_map}
 use Rattle.theory_calls.specs.Represents.{TableRepresents}
 use Rattle.theory_calls.proofs.OnBytes.{taken, refused}

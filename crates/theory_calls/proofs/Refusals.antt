@@ -8,7 +8,7 @@ use mathlib.Core.Option.{Option, none, some}
 use native.Mathlib.Omega.{arith}
 use lib.Dec.{eqb, lit≤}
 use lib.ListN.{length, replicate}
-use borrow.Author.Tests.{eqb-true, eqb-false, eq-eqb, ne_eqb}
+use borrow.Author.Tests.{eqb-true, eqb-false, ne_eqb}
 use Rattle.words.specs.Words.{with_word, bytes_of}
 use Rattle.entry.specs.Entry.{first_word, second_word, within_widths, packed}
 use Rattle.entry.specs.declared.Fields.{Fields}
@@ -19,7 +19,7 @@ use Rattle.theory_tables.specs.Layout.{matches_of, free_place}
 use Rattle.matches.specs.Search.{contradict}
 use Rattle.protection.specs.Access.{fetching}
 use Rattle.protection.specs.Fault.{no_match, no_fetch, protection, fault_of}
-use Rattle.translation.specs.Steps.{page_outcome, after_search, outcome_of, answer_of}
+use Rattle.translation.specs.Steps.{after_search, outcome_of, answer_of}
 use Rattle.translation.specs.Operand.{stopped}
 use Rattle.translation.specs.Stated.{early_outcome}
 use Rattle.translation.specs.declared.Answer.{Answer}
@@ -35,11 +35,11 @@ use Rattle.translation.specs.declared.Searched.TheVariants.{Nothing, At, Contrad
 use Rattle.translation.proofs.Stated.{access_as_stated}
 use Rattle.translation.proofs.Parts.{result_of, not_done_stops}
 use Rattle.translation.proofs.Steps.{page_by}
-use Rattle.theory_calls.specs.Request.{ClearCall, MapCall, ProtectCall, AnsweredCall, AccessCall, Request, clear, map_page, unmap, protect, look, access, sdr1_in, fed}
+use Rattle.theory_calls.specs.Request.{AnsweredCall, AccessCall, Request, clear, map_page, unmap, protect, look, access, sdr1_in, fed}
 use Rattle.theory_calls.specs.Rules.{on_long_page, refusal}
 use Rattle.theory_calls.specs.Answers.{word_answer, access_answer, refused_bytes, answer_refused}
 use Rattle.theory_calls.specs.WithoutTable.{set_register_call, pack_call, unpack_call}
-use Rattle.theory_calls.specs.OnBytes.{layout, Ended, ended, by_matches, by_option, early_of, bytes_do, on_bytes, start_of, part_answer, used_by, part_decision, whole_answer, search_in, first_place_in}
+use Rattle.theory_calls.specs.OnBytes.{layout, Ended, by_matches, by_option, early_of, bytes_do, on_bytes, start_of, part_answer, used_by, part_decision, whole_answer, search_in, first_place_in}
 use Rattle.theory_calls.specs.Refusals.{RefusalsLeave}
 use Rattle.theory_calls.specs.Arguments.{PastRules}
 use Rattle.theory_calls.proofs.Lent.{right_length, wrong_length}

@@ -9,10 +9,9 @@ use lib.ListN.{length}
 use Rattle.words.proofs.Tests.{by_test}
 use Rattle.theory_placement.specs.FiniteMap.{fields_at, take_out, revise, mapped_pages}
 use Rattle.theory_placement.proofs.FiniteMap.{revise_unmapped}
-use Rattle.registers.specs.Set.{register_words}
 use Rattle.groups.proofs.Hash.{same_page_refl, same_page_eq}
 use Rattle.matches.proofs.Merged.{merged_one}
-use Rattle.entry.specs.Entry.{api_of, referenced, changed, with_marks, with_pp}
+use Rattle.entry.specs.Entry.{api_of, with_marks, with_pp}
 use Rattle.entry.proofs.Addresses.{api_lt}
 use Rattle.entry.proofs.Matches.{match_own, free_zero}
 use Rattle.entry.proofs.Packing.{first_lt}
@@ -28,11 +27,9 @@ use Rattle.translation.specs.declared.Answer.{Answer}
 use Rattle.translation.specs.declared.decision.Decision.{Decision}
 use Rattle.translation.specs.declared.Early.{Early}
 use Rattle.translation.specs.declared.Early.TheVariants.{Decided, Search}
-use Rattle.translation.specs.declared.Outcome.{Outcome}
 use Rattle.translation.specs.declared.Searched.{Searched}
 use Rattle.translation.specs.declared.Searched.TheVariants.{At}
 use Rattle.translation.specs.declared.Wanted.{Wanted}
-use Rattle.translation.proofs.Steps.{wanted_in_range}
 use Rattle.translation.proofs.Parts.{SameButPlace, operand_same, operand_related, decisions_agree}
 use Rattle.theory_calls.specs.Made.{fed_answered, fed_access}
 use Rattle.theory_calls.specs.Request.{ClearCall, MapCall, ProtectCall, AnsweredCall, AccessCall, Request, clear, map_page, unmap, protect, look, access, fed}

@@ -33,7 +33,7 @@ use Rattle.protection.specs.Access.{storing}
 use Rattle.translation.specs.Steps.{before_search}
 use Rattle.translation.specs.Operand.{over_edge, part_start}
 use Rattle.translation.specs.declared.Early.{Early}
-use Rattle.translation.specs.declared.Early.TheVariants.{Decided, Search}
+use Rattle.translation.specs.declared.Early.TheVariants.{Search}
 use Rattle.translation.specs.declared.Wanted.{Wanted}
 use Rattle.translation.proofs.Steps.{searches}
 use Rattle.translation.proofs.Parts.{next_page}

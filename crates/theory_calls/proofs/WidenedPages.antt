@@ -6,26 +6,25 @@ use mathlib.Core.List.{List, [], ◌∷◌, ◌++◌}
 use Prim.Native.Nat.{ℕ, suc, ◌+◌, ◌-◌, ◌*◌, ◌<◌, ◌≤◌}
 use native.Mathlib.Nat.{add-zero, suc-add}
 use native.Mathlib.Omega.{arith}
-use lib.Dec.{eqb, ltb, leb}
+use lib.Dec.{eqb, ltb}
 use lib.ListN.{length, get_or, set, length-set}
-use lib.Seq.{ext_get_or, sets, length-sets}
-use borrow.Author.Tests.{ltb-true, ltb-false, lt-ltb, le-ltb, eqb-true, eqb-false, not-true}
-use Rattle.words.specs.Bits.{bits}
+use lib.Seq.{sets}
+use borrow.Author.Tests.{ltb-true, ltb-false, lt-ltb, le-ltb}
 use Rattle.words.specs.Words.{word_at, words_at, with_word, word_bytes}
 use Rattle.words.proofs.Words.{length_words_at, get_or_words_at}
-use Rattle.words.proofs.Below.{every_at, every_not}
+use Rattle.words.proofs.Below.{every_not}
 use Rattle.register_words.specs.Sdr1.{sdr1_shape, table_length, mask_ones}
-use Rattle.register_words.specs.Block.{bl_width, narrow, block_shape}
+use Rattle.register_words.specs.Block.{narrow, block_shape}
 use Rattle.register_words.proofs.Blocks.{shape_narrow}
-use Rattle.registers.specs.Set.{is_page, is_long, block_pairs, register_count, sdr1_of, upper_of, lower_of, side_shape, check_words, register_rules, register_words, replacing, spread, widened, place_in_set}
+use Rattle.registers.specs.Set.{sdr1_of, upper_of, lower_of, side_shape, check_words, register_rules, register_words, replacing, spread, widened, place_in_set}
 use Rattle.registers.proofs.Set.{words_long, words_short}
 use Rattle.registers.proofs.Placed.{Read, widened_is}
 use Rattle.registers.proofs.Wide.{Narrow, check_same, side_shape_same, side_apart_same}
-use Rattle.registers.proofs.Widened.{zero_off, widened_length, at_front, at_gap, at_data, at_end, upper_first, upper_last, sdr1_widened, check_widened, set_widened}
+use Rattle.registers.proofs.Widened.{upper_first, upper_last, sdr1_widened, check_widened, set_widened}
 use Rattle.registers.proofs.Spread.{spread_length, spread_front, spread_gap, spread_back, spread_end, spread_set}
 use Rattle.translation.specs.Steps.{before_search}
 use Rattle.translation.proofs.Widened.{before_same, before_widened}
-use Rattle.theory_calls.specs.Widened.{widened_page, NoHighBit, with_page, PageWidened, PagesWiden}
+use Rattle.theory_calls.specs.Widened.{widened_page, NoHighBit, with_page, PagesWiden}
 use Rattle.theory_calls.specs.WithoutTable.{check_call, set_register_call}
 use Rattle.theory_calls.proofs.Pages.{rules_widened, told_by, left_by, each_part}
 use Rattle.registers.specs.Rules.{first_broken}

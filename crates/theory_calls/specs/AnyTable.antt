@@ -1,6 +1,6 @@
 -- What each call does to any table of bytes, whoever wrote it (rules 4 to 6). An entry is named by its group and its number, and a match is an
 -- entry that matches: nothing here goes by the list of matches that the calls go by.
-use Rattle.std.specs.Prelude.{ℕ, ◌+◌, ◌*◌, ◌/◌, ◌%◌, ◌^◌, ◌≤◌, ◌<◌, Bool, true, false, cond, List, [], ◌∷◌, ◌++◌, ◌↔◌, ◌≡◌, length, get_or, take, replicate}
+use Rattle.std.specs.Prelude.{ℕ, ◌+◌, ◌*◌, ◌/◌, ◌%◌, ◌^◌, ◌≤◌, ◌<◌, Bool, true, false, cond, List, ◌∷◌, ◌++◌, ◌↔◌, ◌≡◌, length, get_or, take, replicate}
 use Rattle.numbers.specs.Numbers.{done, refused_mapped, refused_no_match, refused_full, refused_contradiction, fetch, store, group_entries, answer_size, page_size}
 use Rattle.numbers.specs.Numbers.{rule_real, rule_block, rule_no_execute, rule_no_match, rule_guarded, rule_protection, rule_done}
 use Rattle.words.specs.Bits.{bits}

@@ -7,7 +7,7 @@ use Rattle.entry.specs.RoundTrip.{Within}
 use Rattle.register_words.specs.Block.{bl_width}
 use Rattle.registers.specs.Set.{block_pairs, register_count}
 use Rattle.registers.specs.Check.{Sdr1Good, SetGood}
-use Rattle.groups.specs.Page.{Page, InRange}
+use Rattle.groups.specs.Page.{InRange}
 use Rattle.theory_calls.specs.Request.{ClearCall, MapCall, ProtectCall, AnsweredCall, AccessCall, clear, map_page, unmap, protect, look, access}
 use Rattle.theory_calls.specs.WithoutTable.{check_call, set_register_call, pack_call, unpack_call}
 use Rattle.theory_calls.specs.OnBytes.{on_bytes}

@@ -2,20 +2,18 @@
 -- has it done.
 use Prim.Native.Nat.{ℕ}
 use mathlib.Core.Path.{◌≡◌, refl, sym, ap, ◌∙◌, subst}
-use mathlib.Core.Bool.{Bool, true, false, true≢false}
+use mathlib.Core.Bool.{true, false, true≢false}
 use mathlib.Core.List.{List, [], ◌∷◌, ◌++◌, map}
-use mathlib.Core.Logic.{ite, if_pos, if_neg}
+use mathlib.Core.Logic.{ite, if_pos}
 use mathlib.Core.Option.{none}
 use native.Mathlib.Omega.{arith}
 use lib.Dec.{lit≤, lit<}
 use lib.ListN.{replicate}
 use Rattle.theory_placement.specs.FiniteMap.{fields_at, mapped_pages}
 use Rattle.theory_placement.proofs.Decision.{arrangement?}
-use Rattle.register_words.specs.Sdr1.{mask_ones}
 use Rattle.theory_tables.specs.Runs.{after, Each}
-use Rattle.groups.specs.Page.{Page, same_page}
-use Rattle.theory_calls.specs.Request.{AnsweredCall, Request, map_page, unmap}
-use Rattle.theory_calls.specs.OnBytes.{Ended}
+use Rattle.groups.specs.Page.{same_page}
+use Rattle.theory_calls.specs.Request.{AnsweredCall, Request, unmap}
 use Rattle.theory_calls.specs.OnMap.{Map, Arranged, arranged?}
 use Rattle.theory_calls.proofs.FirstClear.{start_done}
 use Rattle.theory_cache.specs.Rows.{load}

@@ -13,7 +13,6 @@ use Rattle.theory_placement.specs.FiniteMap.{fields_at, put_in, take_out, revise
 use Rattle.theory_placement.proofs.FiniteMap.{fields_at_put_in_same, fields_at_put_in_other, fields_at_take_out_same, fields_at_take_out_other, fields_at_revise}
 use Rattle.groups.specs.Page.{Page, same_page}
 use Rattle.groups.proofs.Hash.{same_page_refl, same_page_eq}
-use Rattle.protection.specs.Fault.{protection}
 use Rattle.theory_calls.specs.Made.{fed_answered}
 use Rattle.theory_calls.specs.Request.{MapCall, Request, clear, map_page, unmap, protect, look, access, fed, sdr1_in}
 use Rattle.theory_calls.specs.Rules.{refusal}
@@ -21,7 +20,7 @@ use Rattle.theory_calls.specs.Answers.{word_answer}
 use Rattle.theory_calls.specs.OnBytes.{Ended, ended, by_option}
 use Rattle.theory_calls.specs.OnMap.{PageFields, Map, fields_word, Arranged, arranged?, map_does, on_map}
 use Rattle.theory_histories.specs.Theorem.{Maps, by_map, TakesOut, by_clear, by_unmap}
-use Rattle.theory_histories.proofs.Changes.{Revisions, kept, revising, Changed, left, emptied, put, took, revised, changed}
+use Rattle.theory_histories.proofs.Changes.{Revisions, kept, revising, Changed, left, emptied, put, took, revised}
 use Rattle.theory_calls.proofs.Histories.{map_taken, map_refused}
 
 -- a page's fields have this frame and these attributes

@@ -1,22 +1,20 @@
 -- That a list of calls is under an SDR1, and that it keeps the cache's discipline, follow from tests: the numbers that the discipline goes by are those of
 -- the finite map, so no table is computed. Where more sets are taken to wait than do, the test is the stricter.
-use Prim.Native.Nat.{ℕ, ◌<◌}
+use Prim.Native.Nat.{ℕ}
 use mathlib.Core.Path.{◌≡◌, refl, sym, ap, ap₂, ◌∙◌, subst}
 use mathlib.Core.Bool.{Bool, true, false, not, ◌&&◌, ◌||◌, true≢false}
 use mathlib.Core.List.{List, [], ◌∷◌}
 use mathlib.Core.Logic.{inl, inr}
-use mathlib.Core.Option.{Option, none, some, some-ne-none}
-use native.Mathlib.Omega.{arith}
+use mathlib.Core.Option.{Option, none, some}
 use lib.Dec.{eqb}
 use lib.ListN.{length}
-use borrow.Author.Tests.{eqb-true, eqb-false, eq-eqb}
+use borrow.Author.Tests.{eqb-true, eq-eqb}
 use Rattle.words.specs.Below.{every_below}
 use Rattle.words.proofs.Below.{every_at}
 use Rattle.words.proofs.Tests.{both, by_test}
 use Rattle.register_words.specs.Sdr1.{sdr1_shape, table_length}
 use Rattle.theory_tables.specs.Runs.{Each}
-use Rattle.theory_calls.specs.Request.{AccessCall}
-use Rattle.theory_calls.specs.OnBytes.{Ended, by_option}
+use Rattle.theory_calls.specs.OnBytes.{by_option}
 use Rattle.theory_calls.specs.OnMap.{Map}
 use Rattle.theory_calls.proofs.Histories.{size_is}
 use Rattle.theory_histories.specs.Calls.{Asked, plain, cached, invalidate, rights, Slices, slices, Call, State, calling, lengths_of, lent_lengths, refusal_of, brought_in, Under}

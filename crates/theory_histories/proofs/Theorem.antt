@@ -22,7 +22,7 @@ use Rattle.theory_calls.proofs.Rules.{Fitting}
 use Rattle.theory_calls.proofs.FirstClear.{start_done, done_fits, cleared_represents, done_made, done_starts}
 use Rattle.theory_calls.proofs.Histories.{done_plain}
 use Rattle.theory_cache.proofs.Found.{by_cases}
-use Rattle.theory_histories.specs.Calls.{Slices, Call, rights, on_lent, calling, brought_in}
+use Rattle.theory_histories.specs.Calls.{Call, rights, on_lent, calling, brought_in}
 use Rattle.theory_histories.specs.Discipline.{Disciplined, filled}
 use Rattle.theory_histories.specs.Histories.{own_call, History, own, begun, state_after, map_after, CacheKept}
 use Rattle.theory_histories.specs.Theorem.{next_number, mapped_to, ArrangedWith, MapInRange, MappedAnswers, TableRefinesMap, RightsFollowHistory}

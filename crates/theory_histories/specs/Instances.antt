@@ -1,6 +1,6 @@
 -- Instances of what the statements assume, over every table of 65,536 bytes and every cache of 2,048: where a definition that they are made of cannot be met,
 -- no row here holds.
-use Rattle.std.specs.Prelude.{ℕ, zero, suc, ◌*◌, false, List, [], ◌∷◌, ◌++◌, map, ◌≡◌, replicate}
+use Rattle.std.specs.Prelude.{ℕ, zero, suc, ◌*◌, false, List, [], ◌∷◌, ◌++◌, ◌≡◌, replicate}
 use Rattle.std.proofs.Math.Option.{none, some}
 use Rattle.words.specs.Words.{with_word}
 use Rattle.groups.specs.Page.{Page}
@@ -8,7 +8,7 @@ use Rattle.theory_calls.specs.Request.{MapCall, Request, map_page}
 use Rattle.theory_calls.specs.Made.{to_map, to_unmap}
 use Rattle.theory_calls.specs.PageRows.{page_of}
 use Rattle.theory_cache.specs.Rows.{registers, to_cached, load, store}
-use Rattle.theory_histories.specs.Calls.{plain, cached, Slices, slices, State, Call, lengths_of}
+use Rattle.theory_histories.specs.Calls.{plain, cached, slices, State, Call, lengths_of}
 use Rattle.theory_histories.specs.Histories.{own_call, History, CacheKept}
 use Rattle.theory_histories.specs.Theorem.{mapped_to, ArrangedWith, MapInRange, Maps, TakesOut, DoneSince, Reaches}
 use Rattle.theory_histories.specs.Rows.{on, clear_all, invalidate_set_of, lent}

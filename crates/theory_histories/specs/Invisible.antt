@@ -8,7 +8,7 @@ use Rattle.theory_calls.specs.OnBytes.{by_option}
 use Rattle.theory_calls.specs.Represents.{GoodTable}
 use Rattle.theory_cache.specs.Cached.{hit_entry}
 use Rattle.theory_cache.specs.Shown.{answered_by_hit}
-use Rattle.theory_histories.specs.Calls.{Asked, plain, cached, invalidate, rights, Slices, slices, State, Call, calling, lent_to}
+use Rattle.theory_histories.specs.Calls.{Asked, plain, cached, invalidate, rights, slices, State, Call, calling, lent_to}
 use Rattle.theory_histories.specs.Fed.{bytes_step, map_step}
 use Rattle.theory_histories.specs.Discipline.{Disciplined, filled}
 use Rattle.theory_histories.specs.Histories.{History, begun, fed_calls}

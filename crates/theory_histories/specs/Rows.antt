@@ -11,7 +11,7 @@ use Rattle.theory_calls.specs.Made.{to_clear, to_map, to_unmap, to_protect, to_l
 use Rattle.theory_calls.specs.OnBytes.{Ended}
 use Rattle.theory_calls.specs.PageRows.{page_of}
 use Rattle.theory_cache.specs.Rows.{load, store, place}
-use Rattle.theory_histories.specs.Calls.{Asked, plain, cached, invalidate, Slices, slices, Call, State, calling, lengths_of, lent_lengths}
+use Rattle.theory_histories.specs.Calls.{Asked, plain, cached, invalidate, slices, Call, State, calling, lengths_of, lent_lengths}
 use Rattle.theory_histories.specs.Histories.{own_call}
 use Rattle.theory_histories.specs.Discipline.{waiting_after, Invalidated, filled}
 use Rattle.theory_histories.specs.Invisible.{without_cache, zero_cache, none_waits}

@@ -22,7 +22,7 @@ use Rattle.theory_calls.specs.OnBytes.{start_of, early_of, part_answer, wanted_p
 use Rattle.theory_calls.specs.OnMap.{PageFields, Arranged}
 use Rattle.theory_calls.specs.FirstClear.{clearing, sdr1_with, Start}
 use Rattle.access_rights.specs.Rights.{RightsCall, asking}
-use Rattle.theory_histories.specs.Calls.{Asked, plain, cached, rights, Slices, State, Call, calling, refusal_of}
+use Rattle.theory_histories.specs.Calls.{Asked, plain, cached, rights, State, Call, calling, refusal_of}
 use Rattle.theory_histories.specs.Fed.{fed_of, bytes_step, map_step}
 use Rattle.theory_histories.specs.Discipline.{Disciplined, filled}
 use Rattle.theory_histories.specs.Histories.{own_call, History, own, begun, state_after, fed_calls, map_after, CacheKept, next}

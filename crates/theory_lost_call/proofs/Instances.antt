@@ -9,7 +9,7 @@ use Rattle.theory_calls.specs.Request.{Request}
 use Rattle.theory_histories.specs.Calls.{plain, Slices, State, Call, lengths_of}
 use Rattle.theory_histories.proofs.Computes.{histories_compute}
 use Rattle.theory_histories.proofs.Instances.{sizes, TestedUnder, map_behind, history_of}
-use Rattle.theory_lost_call.specs.Lost.{MapOrUnmap, a_map, an_unmap, LostCall}
+use Rattle.theory_lost_call.specs.Lost.{MapOrUnmap, a_map, an_unmap}
 use Rattle.theory_lost_call.specs.Rows.{page_number, map_to, unmap_it}
 use Rattle.theory_lost_call.specs.Instances.{Lost, OnlyInFirst, LostInstances}
 

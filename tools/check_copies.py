@@ -6,7 +6,8 @@
     check_copies.py --self-test
 
 Imports, comments, blank lines and lone brackets do not count, and a function's name in its head does not tell it from
-another. Tests, whose crates begin with `test_`, are left out. A source file that is a link is a copy too, and fails.
+another. Tests, whose crates begin with `test_`, are left out, and so is a static library: it repeats the contracts of the
+crate below it word for word, to which tools/check_header.py holds it. A source file that is a link is a copy too, and fails.
 """
 import collections
 import re
@@ -17,6 +18,7 @@ from pathlib import Path
 ROOT = Path(__file__).resolve().parent.parent
 RUN = 8
 PASSED_OVER = re.compile(r"//|--|(pub )?use |ghost use |(pub )?mod ")
+PARTS = ("src", "specs", "proofs")
 BRACKETS = "{}();]),"
 HEAD = re.compile(r"^(pub )?fn \w+")
 
@@ -49,8 +51,10 @@ def copies(paths):
 def library(root):
     """The Rattle files of the crates that are no tests."""
     lines = [line.split("#")[0] for line in (root / "crates.txt").read_text(encoding="utf-8").splitlines()]
-    crates = [line.split(":")[0].strip() for line in lines if ":" in line]
-    return sorted(path for crate in crates if not crate.startswith("test_") for path in (root / "crates" / crate).rglob("*") if path.suffix in (".rt", ".antt"))
+    crates = [line.split(":")[0].split() for line in lines if ":" in line]
+    crates = [names[0] for names in crates if "staticlib" not in names and not names[0].startswith("test_")]
+    folders = [root / "crates" / crate / part for crate in crates for part in PARTS]
+    return sorted(path for folder in folders for path in folder.rglob("*") if path.suffix in (".rt", ".antt"))
 
 
 def counted(root):
@@ -76,10 +80,10 @@ def self_test():
     with tempfile.TemporaryDirectory() as folder:
         root = Path(folder)
         body = "".join(f"    step({number});\n" for number in range(RUN - 1))
-        for name, text in {"low": f"pub fn one() {{\n{body}}}\n", "high": f"// A remark.\nuse low;\nfn two() {{\n{body}}}\n", "test_other": f"fn two(a: u32) {{\n{body}}}\n"}.items():
+        for name, text in {"low": f"pub fn one() {{\n{body}}}\n", "high": f"// A remark.\nuse low;\nfn two() {{\n{body}}}\n", "test_other": f"fn two(a: u32) {{\n{body}}}\n", "for_c": f"fn two(b: u32) {{\n{body}}}\n"}.items():
             (root / "crates" / name / "src").mkdir(parents=True)
             (root / "crates" / name / "src" / "lib.rt").write_text(text, encoding="utf-8")
-        (root / "crates.txt").write_text("low: # the lowest\nhigh: low\ntest_other: low check io\n", encoding="utf-8")
+        (root / "crates.txt").write_text("low: # the lowest\nhigh: low\ntest_other: low check\nfor_c staticlib: low\n", encoding="utf-8")
         code, whole, pairs, links = counted(root)
         right = (code, whole, len(pairs), links) == (2 * RUN, 2 * RUN, 1, [])
         (root / "crates" / "high" / "src" / "more.rt").symlink_to("lib.rt")
@@ -88,7 +92,7 @@ def self_test():
         (root / "crates" / "high" / "src" / "lib.rt").write_text(f"fn two() {{\n{body.replace('3', '9')}}}\n", encoding="utf-8")
         if not right or counted(root)[0] != 0:
             sys.exit(f"counted wrongly: {code} {whole} {pairs} {links}")
-    print("self test: equal runs of lines count whatever their function's name, a link is told, a test program is left out")
+    print("self test: equal runs of lines count whatever their function's name, a link is told, a test program and a static library are left out")
 
 
 if __name__ == "__main__":

@@ -8,7 +8,9 @@ The version is the Makefile's VERSION: the header's MMU_VERSION_MAJOR and _MINOR
 the find_package of docs/C-GUIDE.md must have it. The comment of a call must name each of its parameters, and the
 refusals that the comparison with the model has for it (NUMBERS of tests/compare/src/tally.rs), no others. Each number of
 the crate `numbers` stands in the header, in the code and in the definitions under one name, with one value. Names of
-earlier versions that programs still use (KEPT) stand in the header for the name that took their place.
+earlier versions that programs still use (KEPT) stand in the header for the name that took their place. The archive is the
+crate `mmu_c`: each of its functions has the parameters and the contract of the function of `mmu` that has its name, word
+for word, and does nothing but call it; and none of the calls that `mmu` offers is left out.
 """
 import re
 import subprocess
@@ -17,7 +19,8 @@ from pathlib import Path
 
 ROOT = Path(__file__).resolve().parent.parent
 HEADER = ROOT / "include" / "mmu.h"
-SOURCES = ROOT / "crates" / "mmu" / "src"
+SOURCES = ROOT / "crates" / "mmu_c" / "src"
+OFFERED = ROOT / "crates" / "mmu" / "src"
 MAKEFILE = ROOT / "Makefile"
 CHANGELOG = ROOT / "CHANGELOG.md"
 GUIDE = ROOT / "docs" / "C-GUIDE.md"
@@ -63,10 +66,33 @@ def exported_functions(source):
     """Name to C signature of every exported function of a Rattle text."""
     text = re.sub(r"//[^\n]*", "", source)
     found = re.findall(r'pub\s+extern\s+"C"\s+fn\s+(\w+)\s*\(([^)]*)\)\s*(?:->\s*(\w+))?', text)
-    if len(found) != text.count('extern "C"') or len(found) != text.count("#[no_mangle]"):
-        raise Unreadable('Rattle source: an extern "C" or a no_mangle is not of the form #[no_mangle] pub extern "C" fn NAME(..) -> TYPE')
+    if len(found) != text.count('extern "C"') or len(found) != text.count("#[unsafe(no_mangle)]"):
+        raise Unreadable('Rattle source: an extern "C" or a no_mangle is not of the form #[unsafe(no_mangle)] pub extern "C" fn NAME(..) -> TYPE')
     return {name: (c_type(result, name)[0] if result else "void", rattle_parameters(parameters, name))
             for name, parameters, result in found}
+
+
+def texts_of(source):
+    """Name to the parameters and contract, and to the body, of every public call mmu_.. of a Rattle text, comments left out."""
+    text = re.sub(r"//[^\n]*\n", "\n", source)
+    found = re.findall(r'^pub (?:extern "C" )?fn (mmu_\w+)(\(.*?)^\{\n(.*?)^\}', text, re.M | re.S)
+    return {name: (" ".join(head.split()), " ".join(body.split())) for name, head, body in found}
+
+
+def thin_differences(source, offered):
+    """A line for each export that is not a function of `mmu` under its name, parameters and contract, and for each that is missing."""
+    exports, functions, lines = texts_of(source), texts_of(offered), []
+    for name in sorted(set(exports) | set(functions)):
+        if name not in exports or name not in functions:
+            lines.append(f"{name}: only in the crate {'mmu_c' if name in exports else 'mmu'}")
+            continue
+        head, body = exports[name]
+        arguments = ", ".join(re.findall(r"[(,] ?(\w+):", head.split(" -> ")[0]))
+        if head != functions[name][0]:
+            lines.append(f"{name}: other parameters or another contract in mmu_c than in mmu")
+        if body != f"mmu::{name}({arguments})":
+            lines.append(f"{name}: in mmu_c it is not mmu::{name}({arguments})")
+    return lines
 
 
 def c_parameter_type(text):
@@ -200,8 +226,7 @@ def number_differences(header, code, definitions):
     defined = {name: int(value, 0) for name, value in re.findall(r"^(\w+) = (0x[0-9A-Fa-f]+|\d+)$", definitions, re.M)}
     lines = []
     for name, value in consts.items():
-        first, *others = name.lower().split("_")
-        other = first + "".join(word.capitalize() for word in others)
+        other = name.lower()
         if macros.get(name) != value:
             lines.append(f"MMU_{name}: {macros.get(name, 'none')} in the header, {value} in the crate numbers")
         if defined.pop(other, None) != value:
@@ -221,7 +246,7 @@ def kept_differences(header):
 
 SAMPLE_CODE = "pub const REFUSED_SDR1: u32 = 2;\n\npub const REFUSED_LENT_LENGTH: u32 = 11;\n"
 
-SAMPLE_DEFINITIONS = "abbrev pub refusedSdr1 : ℕ\nrefusedSdr1 = 2\n\nabbrev pub refusedLentLength : ℕ\nrefusedLentLength = 11\n"
+SAMPLE_DEFINITIONS = "abbrev pub refused_sdr1 : ℕ\nrefused_sdr1 = 2\n\nabbrev pub refused_lent_length : ℕ\nrefused_lent_length = 11\n"
 
 SAMPLE_TALLY = 'const NUMBERS: [(&str, &[u32]); 2] = [\n    ("look", &[0, 11, 2, 8]),\n    ("clear", &[0, 2]),\n];\n'
 
@@ -231,19 +256,63 @@ SAMPLE_CHANGELOG = "# Changes\n\n## 3.14.1\n\n## 3.13.0\n"
 
 SAMPLE_GUIDE = "    find_package(mmu 3.14 CONFIG REQUIRED)\n"
 
-SAMPLE_SOURCE = """
-// mmu_note is only told of here: pub extern fn.
-#[no_mangle]
-pub extern "C" fn mmu_look(sdr1: u32, table: &[u8], answer: &mut [u8]) -> u32
-    ensures { x }
-{ 0 }
-#[no_mangle]
+SAMPLE_SOURCE_END = """#[unsafe(no_mangle)]
 pub extern "C" fn mmu_clear(
     sdr1: u32,
     table: &mut [u8],
 ) -> u32
-{ 0 }
+{
+    mmu::mmu_clear(sdr1, table)
+}
 """
+
+SAMPLE_SOURCE = """
+// mmu_note is only told of here: pub extern fn.
+#[unsafe(no_mangle)]
+pub extern "C" fn mmu_look(sdr1: u32, table: &[u8], answer: &mut [u8]) -> u32
+    ensures { x }
+{
+    mmu::mmu_look(sdr1, table, answer)
+}
+#[unsafe(no_mangle)]
+pub extern "C" fn mmu_clear(
+    sdr1: u32,
+    table: &mut [u8],
+) -> u32
+{
+    mmu::mmu_clear(sdr1, table)
+}
+"""
+
+SAMPLE_OFFERED = """
+// Looks.
+pub fn mmu_look(sdr1: u32, table: &[u8], answer: &mut [u8]) -> u32
+    ensures { x }
+{
+    inner(sdr1)
+}
+fn inner(sdr1: u32) -> u32
+{
+    sdr1
+}
+pub extern "C" fn mmu_clear(
+    sdr1: u32,
+    table: &mut [u8],
+) -> u32
+{
+    0
+}
+"""
+
+WRONG_SOURCES = {
+    "another clause": ("    ensures { x }\n", "    ensures { y }\n"),
+    "a clause that is left out": ("    ensures { x }\n", ""),
+    "parameters of other names": ("table: &mut [u8],", "bytes: &mut [u8],"),
+    "a call of another function": ("mmu::mmu_clear(", "mmu::mmu_look("),
+    "arguments in another order": ("(sdr1, table, answer)", "(sdr1, answer, table)"),
+    "more than a call": ("    mmu::mmu_clear(", "    let sdr1 = 0;\n    mmu::mmu_clear("),
+    "a call that only mmu offers": (SAMPLE_SOURCE_END, ""),
+}
 
 SAMPLE_HEADER = """
 #include <stdint.h>
@@ -309,13 +378,17 @@ def self_test():
         failed.append("not refused: another version in the guide")
     if not number_differences(SAMPLE_HEADER, SAMPLE_CODE, SAMPLE_DEFINITIONS.replace("= 11", "= 12")):
         failed.append("not refused: another number in the definitions")
+    failed += [f"the right source is refused: {line}" for line in thin_differences(SAMPLE_SOURCE, SAMPLE_OFFERED)]
+    for label, (old, new) in WRONG_SOURCES.items():
+        if SAMPLE_SOURCE.count(old) != 1 or not thin_differences(SAMPLE_SOURCE.replace(old, new), SAMPLE_OFFERED):
+            failed.append(f"not refused: {label}")
     for lost in sorted(symbols):
         if not differences(SAMPLE_HEADER, SAMPLE_SOURCE, symbols - {lost}):
             failed.append(f"not refused: {lost} is not in the archive")
     if not differences(SAMPLE_HEADER, SAMPLE_SOURCE, symbols | {"mmu_extra"}):
         failed.append("not refused: mmu_extra is in the archive alone")
     print("\n".join(failed) or f"self test: the right header passes, {len(WRONG_HEADERS)} wrong ones, 3 wrong archives,"
-          " a wrong CHANGELOG.md, a wrong guide and a wrong definition are refused")
+          f" {len(WRONG_SOURCES)} wrong sources, a wrong CHANGELOG.md, a wrong guide and a wrong definition are refused")
     return 1 if failed else 0
 
 
@@ -326,7 +399,8 @@ def main(arguments):
     try:
         source = "\n".join(path.read_text() for path in sorted(SOURCES.rglob("*.rt")))
         symbols = archive_symbols(archive)
-        lines = differences(HEADER.read_text(), source, symbols)
+        offered = "\n".join(path.read_text() for path in sorted(OFFERED.rglob("*.rt")))
+        lines = differences(HEADER.read_text(), source, symbols) + thin_differences(source, offered)
         lines += version_differences(HEADER.read_text(), MAKEFILE.read_text(), CHANGELOG.read_text(), GUIDE.read_text())
         lines += comment_differences(HEADER.read_text(), TALLY.read_text())
         lines += kept_differences(HEADER.read_text())
@@ -337,7 +411,7 @@ def main(arguments):
         print("include/mmu.h and the library differ:")
         print("\n".join("  " + line for line in lines))
         return 1
-    print(f"include/mmu.h: {len(symbols)} calls, as in the archive and in the Rattle source; parameters and refusals are told;"
+    print(f"include/mmu.h: {len(symbols)} calls, as in the archive and in the Rattle source, with mmu's contracts; parameters and refusals are told;"
           " numbers are those of code and definitions; the version is the Makefile's")
     return 0
 

@@ -25,10 +25,10 @@ PAGE = os.path.join(TOP, "docs", "DEFINITIONS.md")
 
 # What the contracts cite, and the statements.
 START = [
-    ("theory_calls", "OnBytes", ["ended", "onBytes"]),
-    ("theory_calls", "WithoutTable", ["checkCall", "setRegisterCall", "packCall", "unpackCall"]),
-    ("access_rights", "Rights", ["rightsCall"]),
-    ("theory_cache", "Cached", ["onCached", "invalidateCall"]),
+    ("theory_calls", "OnBytes", ["ended", "on_bytes"]),
+    ("theory_calls", "WithoutTable", ["check_call", "set_register_call", "pack_call", "unpack_call"]),
+    ("access_rights", "Rights", ["rights_call"]),
+    ("theory_cache", "Cached", ["on_cached", "invalidate_call"]),
     ("theory_histories", "Demands", ["Demands"]),
     ("theory_lost_call", "Lost", ["OneLostCall"]),
 ]
@@ -50,8 +50,8 @@ ORDER = [
 ]
 
 WORD = re.compile(r"[^\s(){},;.]+")
-USE = re.compile(r"use Rattle·(\w+)(?:·specs)?\.(?:specs\.)+(\w+)\.\{([^}]*)\}")
-DECLARED = re.compile(r"use Rattle·(\w+)(?:·specs)?\.(?:specs\.)+declared\.(?:\w+\.)?(\w+?)(?:\.the-variants)?\.\{([^}]*)\}")
+USE = re.compile(r"use Rattle\.(\w+)\.specs\.(\w+)\.\{([^}]*)\}")
+DECLARED = re.compile(r"use Rattle\.(\w+)\.specs\.declared\.(?:\w+\.)?(?!TheVariants)(\w+)(?:\.TheVariants)?\.\{([^}]*)\}")
 HEAD = re.compile(r"(?:(?:abbrev|unfoldable|pub|record|data) )+([^\s(){}:]+)\s*(?:[({:]|$)")
 MARKS = re.compile(r"^(\s*)(?:(?:unfoldable|abbrev|pub) )+(?!mod |use )")
 
@@ -67,11 +67,11 @@ def count(lines):
 
 
 def read_types():
-    """The structs and enums of the code: crate and name to their lines, comments above them included."""
+    """The structs and enums of the code: crate and name to their lines, comments above them included, derives left out."""
     types = {}
     for path in glob.glob(os.path.join(ROOT, "*", "src", "*.rt")):
         text = open(path, encoding="utf-8").read()
-        for comment, kind, name, body in re.findall(r"((?:^//[^\n]*\n)*)^pub (struct|enum) (\w+) (\{.*?^\})", text, re.M | re.S):
+        for comment, kind, name, body in re.findall(r"((?:^//[^\n]*\n)*)(?:^#\[[^\n]*\n)*^pub (struct|enum) (\w+) (\{.*?^\})", text, re.M | re.S):
             types[(path.split(os.sep)[-3], name)] = (comment + f"{kind} {name} {body}".replace("    pub ", "    ")).split("\n")
     return types
 
@@ -204,7 +204,7 @@ def main():
 Written by `tools/definitions.py`, and held current by the gate. Here is every definition that the contracts of the
 exported calls and the statements of demands 1 to 3 cite, in reading order, with its comment, to be read beside
 [the rules](RULES.md): {total} lines, {sums["types"]} of them structs and enums of the code, and then {sums["statements"]} lines of statements. The marks that say who
-may unfold a definition are left out, and so are imports; `lib.`, `mathlib.` and `Prim.` are the kit's libraries.
+may unfold a definition are left out, and so are imports; a word that nothing here defines is the standard library's, `Rattle.std`.
 """
     text = head + "\n".join(body) + "\n"
     if "--list" in words:

@@ -16,7 +16,7 @@ from pathlib import Path
 ROOT = Path(__file__).resolve().parent.parent
 DECLARATION = re.compile(r"^( *)((?:pub |abbrev |unfoldable )*)(record )?([^\s:(){}]+)((?: [({][^:]*:.*?[)}])*) : (.*)$")
 MODULE = re.compile(r"^( *)module\b")
-USE = re.compile(r"^ *(?:pub )?use Rattle·(\w+?)(?:·(?:specs|proofs))?\.(specs|proofs)\.([^\s{]+?)(?:\.\{(.*)\}| as (\S+))?$")
+USE = re.compile(r"^ *(?:pub )?use Rattle\.(\w+)\.(specs|proofs)\.([^\s{]+?)(?:\.\{(.*)\}| as (\S+))?$")
 TOKEN = re.compile(r"[^\s(){}\[\],;]+")
 
 
@@ -121,10 +121,10 @@ class Tree:
 
 SAMPLE = {
     "crates/low/specs/Sum.antt": "pub sum : ℕ → ℕ\nsum n = n\n\npub record SumRows : Type 0 where\n  pub one : sum 1 ≡ 1\n",
-    "crates/low/proofs/Sum.antt": "use Rattle·low·specs.specs.Sum.{sum, SumRows}\n-- unused names law\nmodule _ (n : ℕ) where\n  pub law : sum n ≡ n\n  law = refl\n\n"
-                                  "pub sum-rows : SumRows\nsum-rows = record { one = refl }\n",
+    "crates/low/proofs/Sum.antt": "use Rattle.low.specs.Sum.{sum, SumRows}\n-- unused names law\nmodule _ (n : ℕ) where\n  pub law : sum n ≡ n\n  law = refl\n\n"
+                                  "pub sum_rows : SumRows\nsum_rows = record { one = refl }\n",
     "crates/high/specs/All.antt": "pub record All : Type 0 where\n  pub every : Unit\n",
-    "crates/high/proofs/All.antt": "use Rattle·low.proofs.Sum as low\nuse Rattle·high·specs.specs.All.{All}\n\nstep : ℕ → Unit\nstep n = low.law n\n\npub all : All\nall = record { every = step 0 }\n",
+    "crates/high/proofs/All.antt": "use Rattle.low.proofs.Sum as low\nuse Rattle.high.specs.All.{All}\n\nstep : ℕ → Unit\nstep n = low.law n\n\npub all : All\nall = record { every = step 0 }\n",
 }
 
 
@@ -138,8 +138,8 @@ def self_test():
         tree = Tree(Path(folder))
         wanted = [
             (("low", "proofs", "Sum", "law"), {"All": ("law", "step", "all")}),
-            (("low", "proofs", "Sum", "sum-rows"), {"SumRows": ("sum-rows",)}),
-            (("low", "proofs", "Sum", "no-such-law"), {}),
+            (("low", "proofs", "Sum", "sum_rows"), {"SumRows": ("sum_rows",)}),
+            (("low", "proofs", "Sum", "no_such_law"), {}),
         ]
         for key, statements in wanted:
             if tree.above([key]) != statements:

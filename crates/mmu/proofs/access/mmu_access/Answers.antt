@@ -31,4 +31,4 @@ translate-requires c = let (page, answer) = lengths (goal.at.translate-requires 
 
 pub returns : goal.returns
 returns c =
-    c.translate.ensures.1 refl
+    c.translate.ensures.uncached refl

@@ -27,11 +27,11 @@ lengths c =
 
 -- and where one is wrong the call answers 11
 one-wrong : (c : AccessCall (List ℕ)) (lent : List ℕ × List ℕ)
-    → ((is_page (length c.registers) && eqb (length c.answer-1) 48) && eqb (length lent.1) 2048) ≡ false → on_cached c lent ≡ ended 11 lent c.answer-1
-one-wrong c lent wrong = go (eqb (length lent.1) 2048) refl (is_page (length c.registers) && eqb (length c.answer-1) 48) refl wrong
+    → ((is_page (length c.registers) && eqb (length c.answer) 48) && eqb (length lent.1) 2048) ≡ false → on_cached c lent ≡ ended 11 lent c.answer
+one-wrong c lent wrong = go (eqb (length lent.1) 2048) refl (is_page (length c.registers) && eqb (length c.answer) 48) refl wrong
   where
-    go : (b : Bool) → eqb (length lent.1) 2048 ≡ b → (l : Bool) → (is_page (length c.registers) && eqb (length c.answer-1) 48) ≡ l → (l && b) ≡ false
-        → on_cached c lent ≡ ended 11 lent c.answer-1
+    go : (b : Bool) → eqb (length lent.1) 2048 ≡ b → (l : Bool) → (is_page (length c.registers) && eqb (length c.answer) 48) ≡ l → (l && b) ≡ false
+        → on_cached c lent ≡ ended 11 lent c.answer
     go false e l f w = cache_wrong_length c lent (eqb-false _ 2048 e)
     go true e false f w = wrong_length c lent (eqb-true _ 2048 e) f
     go true e true f w = absurd (true≢false w)
@@ -48,4 +48,4 @@ translate-requires c = let (page, answer, cache) = lengths (goal.at.translate-re
 
 pub returns : goal.returns
 returns c =
-    c.translate.ensures.0 (lengths (goal.at.returns c).Else-not-lent-cache).2
+    c.translate.ensures.cached (lengths (goal.at.returns c).Else-not-lent-cache).2

@@ -13,33 +13,33 @@ use Rattle.theory_calls.proofs.PageCalls.{page_rules, Kept, kept, page_ranges, l
 use Rattle.page_calls.proofs.Searched.{table_of}
 use borrow.Author.Rules.{rules}
 use Rattle.mmu.proofs.pages.mmu_look.Goals as goal
-use Rattle.mmu.proofs.pages.mmu_look.Goals.{After-word_refusal-refused, Start}
+use Rattle.mmu.proofs.pages.mmu_look.Goals.{After-word_refusal-refused}
 
 -- what the call brings
-abbrev called : (c : Start) → AnsweredCall (List ℕ)
-called c = let a = c.args in record { sdr1 = a.sdr1; page = record { vsid = a.vsid; index = a.index }; answer = a.answer.now }
+abbrev called : ℕ → ℕ → ℕ → List ℕ → AnsweredCall (List ℕ)
+called sdr1 vsid index answer = record { sdr1 = sdr1; page = record { vsid = vsid; index = index }; answer = answer }
 
 -- the number that the rules give
 number_is : (c : After-word_refusal-refused) →
-    c.word_refusal-refused.result.result ≡ first_broken (page_rules (page_in_range (called c).page) c.args.sdr1 (length c.args.table.now))
+    c.word_refusal-refused.result.result ≡ first_broken (page_rules (page_in_range (called c.args.sdr1 c.args.vsid c.args.index c.args.answer.now).page) c.args.sdr1 (length c.args.table.now))
 number_is c = ap (λ (r : WordAnswer). r.result) c.word_refusal-refused.ensures
 
 -- what holds where nothing is refused
 rules-kept : (c : After-word_refusal-refused) → c.word_refusal-refused.result.result ≡ 0 →
-    Kept (page_in_range (called c).page) c.args.sdr1 (length c.args.table.now)
+    Kept (page_in_range (called c.args.sdr1 c.args.vsid c.args.index c.args.answer.now).page) c.args.sdr1 (length c.args.table.now)
 rules-kept c z = kept _ _ _ (sym (number_is c) ∙ z)
 
 pub returns-then-answer-ne-ANSWER_SIZE : goal.returns-then-answer-ne-ANSWER_SIZE
-returns-then-answer-ne-ANSWER_SIZE c = sym (look_11 (called (goal.at.returns-then-answer-ne-ANSWER_SIZE c).Start) _ c.if-answer-ne-ANSWER_SIZE.true)
+returns-then-answer-ne-ANSWER_SIZE c = sym (look_11 (called c.args.sdr1 c.args.vsid c.args.index c.args.answer.now) _ c.if-answer-ne-ANSWER_SIZE.true)
 
 pub returns-then-refused-ne-DONE : goal.returns-then-refused-ne-DONE
 returns-then-refused-ne-DONE c =
     ap (ended _ _) (c.write_answer.ensures ∙ ap (word_answer _) (ap (λ (x : WordAnswer). x.word) c.word_refusal-refused.ensures))
-    ∙ sym (look_refused (called (goal.at.returns-then-refused-ne-DONE c).Start) _ _ (number_is (goal.at.returns-then-refused-ne-DONE c).After-word_refusal-refused) c.if-answer-ne-ANSWER_SIZE.false c.if-refused-ne-DONE.true)
+    ∙ sym (look_refused (called c.args.sdr1 c.args.vsid c.args.index c.args.answer.now) _ _ (number_is (goal.at.returns-then-refused-ne-DONE c).After-word_refusal-refused) c.if-answer-ne-ANSWER_SIZE.false c.if-refused-ne-DONE.true)
 
 pub look_page-told-requires : goal.look_page-told-requires
 look_page-told-requires c =
-    let page = (called (goal.at.look_page-told-requires c).Start).page in
+    let page = (called c.args.sdr1 c.args.vsid c.args.index c.args.answer.now).page in
     let k = rules-kept (goal.at.look_page-told-requires c).After-word_refusal-refused c.if-refused-ne-DONE.false in
     let (vsid, index) = page_ranges page (page_in_range page) refl k.in_range_law in
     ((_, table_of _ _ _ k), record { vsid_lt = vsid; index_lt = index })
@@ -47,5 +47,5 @@ look_page-told-requires c =
 pub returns : goal.returns
 returns c =
     ap (ended _ _) c.write_answer-2.ensures
-    ∙ look_taken (called (goal.at.returns c).Start) _ _ (number_is (goal.at.returns c).After-word_refusal-refused) c.if-answer-ne-ANSWER_SIZE.false c.if-refused-ne-DONE.false _
+    ∙ look_taken (called c.args.sdr1 c.args.vsid c.args.index c.args.answer.now) _ _ (number_is (goal.at.returns c).After-word_refusal-refused) c.if-answer-ne-ANSWER_SIZE.false c.if-refused-ne-DONE.false _
     (c.look_page-told.ensures _ (table_of _ _ _ (rules-kept (goal.at.returns c).After-word_refusal-refused c.if-refused-ne-DONE.false)))

@@ -1,9 +1,7 @@
 -- `access_rights::part_at` meets its contract: real mode by itself, else the steps before the search by the pair of the kind's side, and those after it
 -- by what was found once for all kinds.
 use borrow.Author.Rules.{rules}
-use borrow.Author.Tests.{not-true, not-false}
 use mathlib.Core.Path.{◌≡◌, refl, sym, ap, ◌∙◌}
-use mathlib.Core.Logic.{⊎_elim}
 use mathlib.Core.Bool.{Bool, true, false, not}
 use mathlib.Core.List.{List}
 use Prim.Native.Nat.{ℕ}
@@ -18,11 +16,7 @@ use Rattle.table_access.specs.declared.Found.{Found}
 use Rattle.table_access.proofs.Parts.{begun_told, begun_wants, part_searched}
 use Rattle.access_rights.specs.declared.Standing.{Standing}
 use Rattle.access_rights.proofs.part_at.Goals as goal
-use Rattle.access_rights.proofs.part_at.Goals.{Joined-is_fetch, Start}
-
--- what the steps before the search come to
-abbrev early : Start → Early
-early c = before_search 8 15 (set_words c.args.registers.now) c.args.mode c.args.kind c.args.address
+use Rattle.access_rights.proofs.part_at.Goals.{then-is_fetch, else-is_fetch}
 
 pub returns-then-not-is_relocated : goal.returns-then-not-is_relocated
 unfolding part_by
@@ -33,32 +27,30 @@ returns-then-not-is_relocated c k t is =
     (before_real 8 15 (set_words a.registers.now) a.mode a.kind a.address (sym c.is_relocated.ensures ∙ c.if-not-is_relocated.true)))
 
 -- the pair is that of the kind's side
-pair_is : (c : Joined-is_fetch) →
-    let a = c.args in
-    c.if-is_fetch.pair ≡ covering_pair 8 15 (set_words a.registers.now) (side_of a.kind) (user_mode a.mode) a.address
+pub before_search-requires : goal.before_search-requires
 unfolding side_of
-pair_is c =
+before_search-requires c =
     let a = c.args in
     let is = c.requires.1.1.1 in
     let fetch = c.is_fetch.ensures in
     let pair : Bool → ℕ = λ f. covering_pair 8 15 (set_words a.registers.now) (not f) (user_mode a.mode) a.address in
-    ⊎_elim (λ w. w.1 ∙ ap (λ (s : Standing). s.ibat) is ∙ ap pair (sym (sym fetch ∙ w.0.true)))
-    (λ w. w.1 ∙ ap (λ (s : Standing). s.dbat) is ∙ ap pair (sym (sym fetch ∙ w.0.left))) c.if-is_fetch.branch
-
-pub before_search-requires : goal.before_search-requires
-before_search-requires c =
-    (c.requires.0, sym c.is_relocated.ensures ∙ c.if-not-is_relocated.false, pair_is (goal.at.before_search-requires c).Joined-is_fetch)
+    let own : c.if-is_fetch.pair ≡ pair (fetching a.kind) =
+    elim c.if-is_fetch.branch [
+      | then-is_fetch w ↦ w.pair-is ∙ ap (λ (s : Standing). s.ibat) is ∙ ap pair (sym (sym fetch ∙ w.if-is_fetch.true))
+      | else-is_fetch w ↦ w.pair-is ∙ ap (λ (s : Standing). s.dbat) is ∙ ap pair (sym (sym fetch ∙ w.if-is_fetch.false))
+    ] in
+    (c.requires.0, sym c.is_relocated.ensures ∙ c.if-not-is_relocated.false, own)
 
 pub returns-in-Told : goal.returns-in-Told
 returns-in-Told c k t is =
     let a = c.args in
-    begun_told a.kind a.address (table_found k t) (early (goal.at.returns-in-Told c).Start) c.part-1.given.0.0 (sym c.before_search.ensures ∙ c.part-1.given.1)
+    begun_told a.kind a.address (table_found k t) (before_search 8 15 (set_words a.registers.now) a.mode a.kind a.address) c.in-Told.part (sym c.before_search.ensures ∙ c.in-Told.is)
 
 pub returns-in-Wants : goal.returns-in-Wants
 returns-in-Wants c k t is =
     let a = c.args in
-    let wanted = c.wanted-1.given.0.0 in
-    let e = begun_wants a.kind a.address (early (goal.at.returns-in-Wants c).Start) wanted (sym c.before_search.ensures ∙ c.wanted-1.given.1) in
+    let wanted = c.in-Wants.wanted in
+    let e = begun_wants a.kind a.address (before_search 8 15 (set_words a.registers.now) a.mode a.kind a.address) wanted (sym c.before_search.ensures ∙ c.in-Wants.is) in
     let wants = (searches 8 15 (set_words a.registers.now) a.mode a.kind a.address wanted e).wants in
     c.after_search.ensures
     ∙ ap (by_found a.kind a.address wanted.key) (ap (λ (s : Standing). s.found) is ∙ ap (table_found k t) (sym wants))

@@ -22,59 +22,64 @@ use Rattle.table_access.proofs.Finds.{search_told}
 use Rattle.table_access.specs.declared.Found.{Found}
 use Rattle.access_rights.specs.declared.Standing.{Standing}
 use Rattle.access_rights.proofs.standing_at.Goals as goal
-use Rattle.access_rights.proofs.standing_at.Goals.{After-in_secondary-told, After-wanted_of-wanted}
+use Rattle.access_rights.proofs.standing_at.Goals.{After-wanted_of-wanted, After-in_secondary-told}
 
 -- the page that is searched for
-wanted-is : (c : After-wanted_of-wanted) →
-    let a = c.args in
-    c.wanted_of-wanted.result ≡ wanted_of (user_mode a.mode) (segment_at (set_words a.registers.now) a.address) a.address
-wanted-is c =
-    let a = c.args in
-    c.wanted_of-wanted.ensures
-    ∙ ap₂ (λ (user : Bool) (segment : ℕ). wanted_of user segment a.address) c.user_mode-user.ensures
-    (c.segment-segment.ensures ∙ ap (segment_of (set_words a.registers.now)) (sym (shr_mod 4 28 c.fits.address.fits)))
+module _ (c : After-wanted_of-wanted) where
+  wanted-is : c.wanted_of-wanted.result ≡ wanted_of (user_mode c.args.mode) (segment_at (set_words c.args.registers.now) c.args.address) c.args.address
+  wanted-is =
+      let a = c.args in
+      c.wanted_of-wanted.ensures
+      ∙ ap₂ (λ (user : Bool) (segment : ℕ). wanted_of user segment a.address) c.user_mode-user.ensures
+      (c.segment-segment.ensures ∙ ap (segment_of (set_words a.registers.now)) (sym (shr_mod 4 28 c.ranges.address.fits)))
 
--- it is in range
-in_range_law : (c : After-wanted_of-wanted) → InRange (wanted_page c.wanted_of-wanted.result)
-unfolding segment_vsid
-in_range_law c =
-    let a = c.args in
-    let own : (user : Bool) (segment : ℕ) → InRange (wanted_page (wanted_of user segment a.address)) = λ user segment. record { vsid_lt = omega arith; index_lt = index_lt a.address } in
-    subst (λ (w : Wanted). InRange (wanted_page w)) (sym (wanted-is c)) (own (user_mode a.mode) (segment_at (set_words a.registers.now) a.address))
+  -- it is in range
+  in_range_law : InRange (wanted_page c.wanted_of-wanted.result)
+  unfolding segment_vsid
+  in_range_law =
+      let a = c.args in
+      let own : (user : Bool) (segment : ℕ) → InRange (wanted_page (wanted_of user segment a.address)) = λ user segment. record { vsid_lt = omega arith; index_lt = index_lt a.address } in
+      subst (λ (w : Wanted). InRange (wanted_page w)) (sym wanted-is) (own (user_mode a.mode) (segment_at (set_words a.registers.now) a.address))
 
-some-table : (c : After-wanted_of-wanted) → SomeTable (length c.args.table.now)
-some-table c = (sdr1_of (set_words c.args.registers.now), c.requires.1)
+  some-table : SomeTable (length c.args.table.now)
+  some-table = (sdr1_of (set_words c.args.registers.now), c.requires.1)
 
 pub locate-page-requires : goal.locate-page-requires
-locate-page-requires c = locatable _ (wanted_page c.wanted_of-wanted.result) (some-table (goal.at.locate-page-requires c).After-wanted_of-wanted) (in_range_law (goal.at.locate-page-requires c).After-wanted_of-wanted)
+locate-page-requires c =
+    let w = (goal.at.locate-page-requires c).After-wanted_of-wanted in
+    locatable _ (wanted_page c.wanted_of-wanted.result) (some-table w) (in_range_law w)
 
 pub in_primary-primary-requires : goal.in_primary-primary-requires
-in_primary-primary-requires c = primary_asked _ c.args.table.now _ (some-table (goal.at.in_primary-primary-requires c).After-wanted_of-wanted) (in_range_law (goal.at.in_primary-primary-requires c).After-wanted_of-wanted) c.locate-page.ensures
+in_primary-primary-requires c =
+    let w = (goal.at.in_primary-primary-requires c).After-wanted_of-wanted in
+    primary_asked _ c.args.table.now _ (some-table w) (in_range_law w) c.locate-page.ensures
 
 pub in_secondary-told-requires : goal.in_secondary-told-requires
 in_secondary-told-requires c =
-    secondary_asked _ c.args.table.now _ (some-table (goal.at.in_secondary-told-requires c).After-wanted_of-wanted) (in_range_law (goal.at.in_secondary-told-requires c).After-wanted_of-wanted) c.locate-page.ensures
+    let w = (goal.at.in_secondary-told-requires c).After-wanted_of-wanted in
+    secondary_asked _ c.args.table.now _ (some-table w) (in_range_law w) c.locate-page.ensures
 
 -- what the search told of the page
-told_of : (c : After-in_secondary-told) →
-    let a = c.args in
-    SearchTold (sdr1_of (set_words a.registers.now)) a.table.now c.wanted_of-wanted.result c.locate-page.result c.in_secondary-told.result
-told_of c =
-    let start = c in
-    search_told _ start.args.table.now c.wanted_of-wanted.result _ _ _ start.requires.1 (in_range_law c) c.locate-page.ensures c.in_primary-primary.ensures c.in_secondary-told.ensures
+told_of : (c : After-in_secondary-told) → InRange (wanted_page c.wanted_of-wanted.result)
+    → SearchTold (sdr1_of (set_words c.args.registers.now)) c.args.table.now c.wanted_of-wanted.result c.locate-page.result c.in_secondary-told.result
+told_of c fits =
+    search_told _ c.args.table.now c.wanted_of-wanted.result _ _ _ c.requires.1 fits c.locate-page.ensures c.in_primary-primary.ensures c.in_secondary-told.ensures
 
 pub found_in-requires : goal.found_in-requires
 found_in-requires c =
     let a = c.args in
-    (sdr1_of (set_words a.registers.now), (a.table.now, (c.wanted_of-wanted.result, told_of (goal.at.found_in-requires c).After-in_secondary-told)))
+    let at = goal.at.found_in-requires c in
+    (sdr1_of (set_words a.registers.now), (a.table.now, (c.wanted_of-wanted.result, told_of at.After-in_secondary-told (in_range_law at.After-wanted_of-wanted))))
 
 pub returns : goal.returns
 returns c =
     let a = c.args in
+    let at = goal.at.returns c in
     let words = set_words a.registers.now in
     let k = mask_ones (sdr1_of words) in
     let pair : Bool → Bool → ℕ = λ side user. covering_pair 8 15 words side user a.address in
     let stand : ℕ → ℕ → Found → Standing = λ i d f. record { ibat = i; dbat = d; found = f } in
     ap₂ (λ (i d : ℕ). stand i d c.found_in.result) (c.covering_pair.ensures ∙ ap (pair false) c.user_mode-user.ensures) (c.covering_pair-2.ensures ∙ ap (pair true) c.user_mode-user.ensures)
     ∙ ap (stand (pair false (user_mode a.mode)) (pair true (user_mode a.mode)))
-    (c.found_in.ensures (sdr1_of words) a.table.now c.wanted_of-wanted.result (told_of (goal.at.returns c).After-in_secondary-told) ∙ ap (table_found k a.table.now) (wanted-is (goal.at.returns c).After-wanted_of-wanted))
+    (c.found_in.ensures (sdr1_of words) a.table.now c.wanted_of-wanted.result (told_of at.After-in_secondary-told (in_range_law at.After-wanted_of-wanted))
+    ∙ ap (table_found k a.table.now) (wanted-is at.After-wanted_of-wanted))

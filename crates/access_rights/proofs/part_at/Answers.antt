@@ -1,18 +1,13 @@
 -- `access_rights::part_at` meets its contract: real mode by itself, else the steps before the search by the pair of the kind's side, and those after it
 -- by what was found once for all kinds.
-use borrow.Author.Rules.{rules}
-use mathlib.Core.Path.{◌≡◌, refl, sym, ap, ◌∙◌}
-use mathlib.Core.Bool.{Bool, true, false, not}
-use mathlib.Core.List.{List}
+use mathlib.Core.Path.{◌≡◌, sym, ap, ◌∙◌}
+use mathlib.Core.Bool.{Bool, not}
 use Prim.Native.Nat.{ℕ}
 use Rattle.registers.specs.Set.{set_words, covering_pair}
-use Rattle.protection.specs.Access.{user_mode, fetching, relocated, side_of}
+use Rattle.protection.specs.Access.{user_mode, fetching, side_of}
 use Rattle.translation.specs.Steps.{before_search}
-use Rattle.translation.specs.declared.Early.{Early}
-use Rattle.translation.specs.declared.Wanted.{Wanted}
 use Rattle.translation.proofs.Steps.{before_real, searches}
 use Rattle.table_access.specs.Part.{table_found, by_found, part_by}
-use Rattle.table_access.specs.declared.Found.{Found}
 use Rattle.table_access.proofs.Parts.{begun_told, begun_wants, part_searched}
 use Rattle.access_rights.specs.declared.Standing.{Standing}
 use Rattle.access_rights.proofs.part_at.Goals as goal

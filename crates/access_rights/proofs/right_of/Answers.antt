@@ -1,12 +1,10 @@
 -- `access_rights::right_of` meets its contract: the access of one byte is its only part, stopped or done.
-use borrow.Author.Rules.{rules}
 use mathlib.Core.Path.{◌≡◌, refl, sym, subst}
 use mathlib.Core.List.{List}
 use Prim.Native.Nat.{ℕ}
 use Rattle.register_words.specs.Sdr1.{mask_ones}
 use Rattle.registers.specs.Set.{sdr1_of, set_words}
 use Rattle.translation.specs.Steps.{before_search}
-use Rattle.translation.specs.declared.Early.{Early}
 use Rattle.access_rights.specs.Rights.{RightsCall}
 use Rattle.access_rights.specs.Held.{stands_at, StandsIn}
 use Rattle.access_rights.specs.declared.Standing.{Standing}

@@ -1,14 +1,13 @@
 -- `access_rights::standing_at` meets its contract: the page that is searched for is the one that each kind wants.
-use borrow.Author.Rules.{rules}
 use mathlib.Core.Path.{◌≡◌, sym, ap, ap₂, subst, ◌∙◌}
 use mathlib.Core.Bool.{Bool, true, false}
-use Prim.Native.Nat.{ℕ, ◌^◌, ◌<◌}
+use Prim.Native.Nat.{ℕ}
 use native.Mathlib.Omega.{arith}
 use lib.Pow.{shr_mod}
 use Rattle.entry.proofs.Addresses.{index_lt}
 use Rattle.register_words.specs.Sdr1.{mask_ones}
 use Rattle.register_words.specs.Segment.{segment_vsid}
-use Rattle.groups.specs.Hash.{TableOf, SomeTable}
+use Rattle.groups.specs.Hash.{SomeTable}
 use lib.ListN.{length}
 use Rattle.registers.specs.Set.{sdr1_of, set_words, segment_of, covering_pair}
 use Rattle.protection.specs.Access.{user_mode}

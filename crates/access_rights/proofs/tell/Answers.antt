@@ -1,12 +1,8 @@
 -- `access_rights::tell` meets its contract: the rules of a fetch are those of a load and a store, and each access is told by what stands at the address.
-use borrow.Author.Rules.{rules}
 use mathlib.Core.Path.{◌≡◌, sym, ◌∙◌}
-use Prim.Native.Nat.{ℕ}
 use lib.ListN.{length}
 use Rattle.registers.specs.Rules.{first_broken}
-use Rattle.theory_calls.specs.Request.{access, fed}
-use Rattle.theory_calls.specs.Rules.{refusal}
-use Rattle.access_rights.specs.Rights.{RightsCall, asking}
+use Rattle.access_rights.specs.Rights.{RightsCall}
 use Rattle.access_rights.specs.Held.{StandsIn}
 use Rattle.access_rights.proofs.Shared.{own_rules, own_rules_law, refused_tells, set_fits}
 use Rattle.access_rights.proofs.tell.Goals as goal

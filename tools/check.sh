@@ -4,12 +4,16 @@
 #   check.sh [RT]        also: make check
 #
 # What did not change is not proved again. As soon as the library is proved, the tests of its archive run beside the
-# proofs of the programs. No two rt work at once, since they share target/: no test calls it.
+# proofs of the programs. No two rt work at once, since they share the crates' folders out/: no test calls it.
 set -euo pipefail
 cd "$(dirname "${BASH_SOURCE[0]}")/.."
-export RT=${1:-rt}
+RT=${1:-rt}
 
 tools/need_rt.sh "$RT"
+# Its parts call rt in the folders of crates.
+RT=$(command -v "$RT")
+[ "${RT#*/}" = "$RT" ] || RT=$(realpath "$RT")
+export RT
 [ -n "${MMU_LOCKED:-}" ] || exec tools/locked.sh tools/check.sh "$@"
 tools/install_needs.sh
 

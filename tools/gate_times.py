@@ -1,24 +1,21 @@
 #!/usr/bin/env python3
-"""What the gate takes: a record of its last run, from which the next one tells what is left, and what was dearest.
+"""What the gate takes: a record of its last run, from which the next one tells what is left.
 
     gate_times.py begin SECONDS    a gate began, SECONDS after 1970 began: tells what the one on record took
-    gate_times.py end CI_LOG       a gate has passed: the ten dearest edits and crates, the whole time, the record
+    gate_times.py end              a gate has passed: the whole time, the record
     gate_times.py --self-test
 
 While a gate runs, its tools note what took how long in the file that GATE_JOURNAL names; without that name nothing is
-noted, and nothing is told of an earlier run. The record is .ci/times.last: not in target/, which `rt ci` removes, and
-not in git. A clone that has run no gate goes by .ci/times, a record that was committed; where there is none either,
-what is left is not told.
+noted, and nothing is told of an earlier run. The record is .ci/times.last, which is not in git. A clone that has run no
+gate goes by .ci/times, a record that was committed; where there is none either, what is left is not told. `rt ci` tells
+no times of crates and edits, and proves only what it has not proved on this machine before: it counts as one part.
 
 Journal and record have a line for each thing: its kind, its name and whole seconds, with tabs between.
 
-    whole  gate                         seconds
-    part   NAME                         seconds, and what was left of the gate at its end (in the journal: begin, end)
-    phase  proofs, edits or programs    seconds of `rt ci` by the clock
-    crate  NAME                         seconds of its proof, number of its edits, seconds of all of them
+    whole  gate    seconds
+    part   NAME    seconds, and what was left of the gate at its end (in the journal: begin, end)
 """
 import os
-import re
 import sys
 import tempfile
 import time
@@ -28,9 +25,6 @@ ROOT = Path(__file__).resolve().parent.parent
 LAST = ROOT / ".ci" / "times.last"
 COMMITTED = ROOT / ".ci" / "times"
 JOURNAL = os.environ.get("GATE_JOURNAL")
-PROVED = re.compile(r"^rt: (\w+) proved \((\d+) s\)$", re.M)
-TRIED = re.compile(r"^rt: must-fail (\w+)/(\S+): .*?(\d+) s\)$", re.M)
-MANY = 10
 
 
 def read(text):
@@ -84,35 +78,13 @@ def left_after(record, name):
     return f", {roughly(record['part', name][1])}" if ("part", name) in record else ""
 
 
-def of_crates(log):
-    """Each proved crate with the seconds of its proof, the number of its edits and the seconds of all of them."""
-    crates = {crate: [int(seconds), 0, 0] for crate, seconds in PROVED.findall(log)}
-    for crate, _, seconds in TRIED.findall(log):
-        row = crates.setdefault(crate, [0, 0, 0])
-        row[1:] = [row[1] + 1, row[2] + int(seconds)]
-    return crates
-
-
-def record_of(journal, log, now):
+def record_of(journal, now):
     """The record of a gate that ends now."""
     record = {("whole", "gate"): [now - journal["began", "gate"][0]]}
     for (kind, name), numbers in journal.items():
         if kind == "part":
             record[kind, name] = [numbers[1] - numbers[0], now - numbers[1]]
-        elif kind == "phase":
-            record[kind, name] = numbers
-    record.update({("crate", crate): numbers for crate, numbers in of_crates(log).items()})
     return record
-
-
-def dearest(log):
-    """The lines about the dearest edits and crates."""
-    edits = sorted(((int(seconds), f"{crate}/{label}") for crate, label, seconds in TRIED.findall(log)), reverse=True)
-    crates = sorted(((row, crate) for crate, row in of_crates(log).items()), reverse=True)
-    lines = ["== the ten dearest must-fail edits"]
-    lines += [f"{seconds:6} s  {name}" for seconds, name in edits[:MANY]]
-    lines += ["== the ten dearest crates to prove, with all edits of each"]
-    return lines + [f"{row[0]:6} s  {crate}; {row[1]} edits, {exact(row[2])}" for row, crate in crates[:MANY]]
 
 
 def begin(seconds):
@@ -124,46 +96,13 @@ def begin(seconds):
         print("there is no record of a run: what is left is not told")
 
 
-def end(log):
-    record = record_of(read(Path(JOURNAL).read_text()), log, round(time.time()))
+def end():
+    record = record_of(read(Path(JOURNAL).read_text()), round(time.time()))
     LAST.write_text(written(record))
-    print("\n".join(dearest(log)))
     print(f"== the whole gate took {exact(record['whole', 'gate'][0])}")
 
 
-PROOFS = "".join(f"rt: crate{i} proved ({i} s)\n" for i in range(12))
-EDITS = """note: proved (99 s)
-rt: crate3 proved (unchanged since it was last proved)
-rt: must-fail crate3/one: refused, as it must be (first at proofs/A.antt:1:1; 40 s)
-rt: must-fail crate3/two: refused, as it must be (130 s)
-rt: must-fail crate4/bad: BAD EDIT: it did not reach the prover (exit 2); the first lines of what the compiler said:
-rt: crate9 ran as nobody, and wrote what its file 'stdout' has (0 s)
-"""
-MORE = "".join(f"rt: must-fail crate5/of{i}: NOT REFUSED: the crate is still proved ({i} s)\n" for i in range(9))
-LOG = PROOFS + EDITS + MORE
 NOTED = "began\tgate\t1000\npart\tfirst\t1003\t1010\nphase\tproofs\t77\npart\tsecond\t1010\t1200\nno line\n"
-DEAREST = """== the ten dearest must-fail edits
-   130 s  crate3/two
-    40 s  crate3/one
-     8 s  crate5/of8
-     7 s  crate5/of7
-     6 s  crate5/of6
-     5 s  crate5/of5
-     4 s  crate5/of4
-     3 s  crate5/of3
-     2 s  crate5/of2
-     1 s  crate5/of1
-== the ten dearest crates to prove, with all edits of each
-    11 s  crate11; 0 edits, 0 s
-    10 s  crate10; 0 edits, 0 s
-     9 s  crate9; 0 edits, 0 s
-     8 s  crate8; 0 edits, 0 s
-     7 s  crate7; 0 edits, 0 s
-     6 s  crate6; 0 edits, 0 s
-     5 s  crate5; 9 edits, 36 s
-     4 s  crate4; 0 edits, 0 s
-     3 s  crate3; 2 edits, 2 min 50 s
-     2 s  crate2; 0 edits, 0 s"""
 
 
 def told_by_place(folder, journal):
@@ -186,15 +125,12 @@ def in_folders():
 
 
 def self_test():
-    record = record_of(read(NOTED), LOG, 1300)
+    record = record_of(read(NOTED), 1300)
     inside, outside, noted = in_folders()
     checks = {
-        "the dearest": "\n".join(dearest(LOG)) == DEAREST,
         "the whole": record["whole", "gate"] == [300],
         "a part": [record["part", name] for name in ("first", "second")] == [[7, 290], [190, 100]],
-        "a phase": record["phase", "proofs"] == [77],
-        "a crate": [record["crate", name] for name in ("crate3", "crate4")] == [[3, 2, 170], [4, 0, 0]],
-        "nothing else": len(record) == 1 + 2 + 1 + 12,
+        "nothing else": len(record) == 1 + 2,
         "read again": read(written(record)) == record,
         "a part begins": last_time(record, "second") == " (3 min 10 s last time)",
         "a part has ended": left_after(record, "first") == ", about 5 minutes left",
@@ -207,7 +143,7 @@ def self_test():
     wrong = [label for label, right in checks.items() if not right]
     if wrong:
         sys.exit(f"gate_times.py: wrong: {', '.join(wrong)}\n{written(record)}")
-    print("self test: the record of a run, the dearest of its log, and what is told of the next run")
+    print("self test: the record of a run, and what is told of the next run")
 
 
 if __name__ == "__main__":
@@ -215,7 +151,7 @@ if __name__ == "__main__":
         self_test()
     elif len(sys.argv) == 3 and sys.argv[1] == "begin":
         begin(sys.argv[2])
-    elif len(sys.argv) == 3 and sys.argv[1] == "end":
-        end(Path(sys.argv[2]).read_text(encoding="utf-8", errors="replace"))
+    elif sys.argv[1:] == ["end"]:
+        end()
     else:
         sys.exit(__doc__)

@@ -1,9 +1,9 @@
 #!/bin/sh
-# Runs a command while no other make or gate is at work in this repository, since they share target/.
+# Runs a command while no other make or gate is at work in this repository, since they share target/ and crates/*/out.
 #
 #   locked.sh COMMAND..
 #
-# The lock is on the repository's folder and not on a file in target/, which `rt ci` removes. The command keeps it
+# The lock is on the repository's folder and not on a file in target/, which may be removed meanwhile. The command keeps it
 # open, so it is held until the command and all that it started have ended.
 set -eu
 root=$(cd "$(dirname "$0")/.." && pwd)

@@ -1,15 +1,15 @@
 #!/usr/bin/env python3
-"""Passes on what `rt ci` writes, numbers crates and must-fail edits as they come, and says what is left of the gate.
+"""Passes on what `rt ci` writes, numbers crates and must-fail edits as they come, and holds its last lines to the files.
 
     rt ci 2>&1 | number_edits.py
     number_edits.py --self-test
 
-"rt: edit k of n, about m minutes left: .." n is the number of edit files of the crates that crates.txt lists. m goes by
-the record of an earlier gate (gate_times.py): what its proofs and edits took that are still to come here, and all that
-came after them; without a record it is left out. A crate that is not in the record counts as the others do on average.
+"rt: crate k of n: .." and "rt: edit k of n: .." n is the number of crates that crates.txt lists, and of their edit files.
+rt tells the results of all edits at once, when the last proof has ended, and no times: what is left of a run is not told.
 
-Every line is passed on; only the lines that tell of a proof or an edit are changed. Where rt says that nothing failed
-and some edit was not told of, the tool fails; else it leaves the verdict to rt.
+Every line is passed on; only the lines that tell of a proof or an edit are changed. Where rt says that nothing failed, the
+tool fails if some edit was not told of, if the line `rt: ok` counts fewer refused edits than there are files, or if it
+counts a bad one: rt itself lets a bad edit pass. Else it leaves the verdict to rt.
 """
 import io
 import re
@@ -20,160 +20,151 @@ from pathlib import Path
 import gate_times
 
 ROOT = Path(__file__).resolve().parent.parent
-EDIT = re.compile(r"^rt: must-fail (\w+)/\S+: ")
+PROOF = re.compile(r"^rt: (\w+) (?:proved$|is kept: )")
+EDIT = re.compile(r"^rt: must-fail (\w+/\S+): ")
+OK = re.compile(r"^rt: ok; ")
+REFUSED = re.compile(r"; must-fail edits: (\d+) refused(?:, \d+ of them only by a limit)?(?:, (\d+) bad)?;")
 ALL_PASSED = re.compile(r"^\d+ passed, 0 failed$")
 PART = "rt"
 TITLE = "proofs, must-fail edits and programs, kept in target/log/ci.log"
 
 
 def edit_files():
-    """How many edits each crate has."""
+    """The edits of each crate that crates.txt lists, as rt names them."""
     lines = [line.split("#")[0] for line in (ROOT / "crates.txt").read_text().splitlines()]
-    crates = [line.split(":")[0].strip() for line in lines if ":" in line]
-    return {crate: len(list((ROOT / "crates" / crate / "must-fail").glob("*.edit"))) for crate in crates}
-
-
-class Left:
-    """What is left of the gate while rt works, by the record of an earlier one."""
-
-    def __init__(self, record, edits):
-        self.unproved, self.untried = dict.fromkeys(edits, 1), dict(edits)
-        rows = {name: row for (kind, name), row in record.items() if kind == "crate"}
-        self.proof = self.costs(record, "proofs", {name: (1, row[0]) for name, row in rows.items()})
-        self.edit = self.costs(record, "edits", {name: (row[1], row[2]) for name, row in rows.items()})
-        needed = [("phase", "proofs"), ("phase", "edits"), ("phase", "programs"), ("part", PART)]
-        self.known = all(key in record for key in needed)
-        self.after = record["phase", "programs"][0] + record["part", PART][1] if self.known else 0
-
-    @staticmethod
-    def costs(record, phase, rows):
-        """The seconds of one proof or edit of a crate, by the clock: several of them run at once. None: on average."""
-        count, seconds = (sum(column) for column in zip((0, 0), *rows.values()))
-        pace = record.get(("phase", phase), [0])[0] / (seconds or 1)
-        costs = {name: pace * took / number for name, (number, took) in rows.items() if number}
-        costs[None] = pace * seconds / (count or 1)
-        return costs
-
-    def seconds(self):
-        """What is left, in seconds."""
-        proofs = sum(count * self.proof.get(crate, self.proof[None]) for crate, count in self.unproved.items())
-        edits = sum(count * self.edit.get(crate, self.edit[None]) for crate, count in self.untried.items())
-        return proofs + edits + self.after
-
-    def told(self, counts, crate):
-        """One proof or edit of a crate has ended: what is said of the rest."""
-        counts[crate] = max(counts.get(crate, 0) - 1, 0)
-        return f", {gate_times.roughly(self.seconds())}" if self.known else ""
+    crates = [line.split(":")[0].split()[0] for line in lines if ":" in line]
+    return {crate: [f"{crate}/{path.name}" for path in sorted((ROOT / "crates" / crate / "must-fail").glob("*.edit"))] for crate in crates}
 
 
 class Numbers:
-    """The numbers of crates and edits, and when the last of each was told of."""
+    """The numbers of crates and edits, and what rt told of the edits as a whole."""
 
-    def __init__(self, edits, record, now):
-        self.left, self.crates, self.edits = Left(record, edits), len(edits), sum(edits.values())
-        self.proved, self.tried, self.proofs_end, self.edits_end = 0, 0, now, now
+    def __init__(self, edits):
+        self.crates, self.edits = len(edits), {name for names in edits.values() for name in names}
+        self.proved, self.tried, self.ok = 0, [], ""
 
-    def line(self, line, now):
+    def line(self, line):
         """The line, numbered if it tells of a proof or an edit."""
-        proof, edit = gate_times.PROVED.match(line), EDIT.match(line)
-        if proof:
-            self.proved, self.proofs_end, self.edits_end = self.proved + 1, now, now
-            number = f"crate {self.proved} of {self.crates}" + self.left.told(self.left.unproved, proof.group(1))
+        edit = EDIT.match(line)
+        if PROOF.match(line):
+            self.proved += 1
+            number = f"crate {self.proved} of {self.crates}"
         elif edit:
-            self.tried, self.edits_end = self.tried + 1, now
-            number = f"edit {self.tried} of {self.edits}" + self.left.told(self.left.untried, edit.group(1))
+            self.tried.append(edit.group(1))
+            number = f"edit {len(self.tried)} of {len(self.edits)}"
         else:
+            self.ok = line if OK.match(line) else self.ok
             return line
         return line.replace("rt: ", f"rt: {number}: ", 1)
+
+    def wrong(self):
+        """What is wrong with a run of which rt says that nothing failed."""
+        counted = REFUSED.search(self.ok)
+        refused, bad = map(int, counted.groups("0")) if counted else (0, 0)
+        told = []
+        if not self.ok:
+            told.append("rt wrote no line 'rt: ok'")
+        if sorted(self.tried) != sorted(self.edits):
+            lost = sorted(self.edits - set(self.tried))
+            told.append(f"rt told of {len(self.tried)} edits and there are {len(self.edits)}; not of {', '.join(lost) or 'another'}")
+        if refused != len(self.edits) or bad:
+            told.append(f"the line 'rt: ok' counts {refused} refused edits and {bad} bad ones, and there are {len(self.edits)}")
+        return told
 
 
 def number(source, target, edits, record, clock=time.time, note=gate_times.note):
     """Copies source to target with its crates and edits numbered; the exit status."""
-    began, last = clock(), ""
-    numbers = Numbers(edits, record, began)
+    began, last, numbers = clock(), "", Numbers(edits)
     target.write(f"== {TITLE}{gate_times.last_time(record, PART)}\n")
     for line in source:
         last = line.rstrip("\n")
-        target.write(numbers.line(line, clock()))
+        target.write(numbers.line(line))
         target.flush()
     ended = clock()
     target.write(f"-- took {gate_times.exact(ended - began)}{gate_times.left_after(record, PART)}\n")
     note("part", PART, began, ended)
-    note("phase", "proofs", numbers.proofs_end - began)
-    note("phase", "edits", numbers.edits_end - numbers.proofs_end)
-    note("phase", "programs", ended - numbers.edits_end)
-    if ALL_PASSED.match(last) and numbers.tried != numbers.edits:
-        sys.stderr.write(f"number_edits.py: rt told of {numbers.tried} edits and there are {numbers.edits}\n")
-        return 1
-    return 0
+    wrong = numbers.wrong() if ALL_PASSED.match(last) else []
+    for line in wrong:
+        sys.stderr.write(f"number_edits.py: {line}\n")
+    return 1 if wrong else 0
 
 
-SAMPLE = """rt: words proved (8 s)
-rt: entry proved (2 s)
-rt: must-fail words/one: refused, as it must be (first at proofs/A.antt:1:1; 9 s)
-rt: must-fail words/two: BAD EDIT: it did not reach the prover (exit 2); the first lines of what the compiler said:
+SAMPLE = """== words
+logic=proved functions=8 target=x86_64-unknown-linux-gnu
+rt: words proved
+rt: words: its tests proved
+rt: words: trying its must-fail edits (2)
+rt: entry is kept: an earlier run on this machine proved the same files over the same libraries
+rt: must-fail words/one.edit: refused, as it must be: ./proofs/A.antt:1:1: error: `a`: the two types differ
+rt: must-fail words/two.edit: BAD EDIT: it did not reach the prover; the first lines of what it said:
 must-fail
-rt: must-fail entry/three: NOT REFUSED: the crate is still proved with this edit (7 s)
-rt: entry ran as nobody, and wrote what its file 'stdout' has (0 s)
+rt: must-fail entry/three.edit: NOT REFUSED: the crate is still proved with this edit (one that means the same as before cannot be refused: remove it)
+rt: entry ran, and wrote what its file stdout has
 """
 
 NUMBERED = """== proofs, must-fail edits and programs, kept in target/log/ci.log{}
-rt: crate 1 of 2{}: words proved (8 s)
-rt: crate 2 of 2{}: entry proved (2 s)
-rt: edit 1 of 3{}: must-fail words/one: refused, as it must be (first at proofs/A.antt:1:1; 9 s)
-rt: edit 2 of 3{}: must-fail words/two: BAD EDIT: it did not reach the prover (exit 2); the first lines of what the \
-compiler said:
+== words
+logic=proved functions=8 target=x86_64-unknown-linux-gnu
+rt: crate 1 of 2: words proved
+rt: words: its tests proved
+rt: words: trying its must-fail edits (2)
+rt: crate 2 of 2: entry is kept: an earlier run on this machine proved the same files over the same libraries
+rt: edit 1 of 3: must-fail words/one.edit: refused, as it must be: ./proofs/A.antt:1:1: error: `a`: the two types differ
+rt: edit 2 of 3: must-fail words/two.edit: BAD EDIT: it did not reach the prover; the first lines of what it said:
 must-fail
-rt: edit 3 of 3{}: must-fail entry/three: NOT REFUSED: the crate is still proved with this edit (7 s)
-rt: entry ran as nobody, and wrote what its file 'stdout' has (0 s)
-4 passed, 0 failed
--- took 90 s{}
+rt: edit 3 of 3: must-fail entry/three.edit: NOT REFUSED: the crate is still proved with this edit (one that means the \
+same as before cannot be refused: remove it)
+rt: entry ran, and wrote what its file stdout has
 """
 
-# By the clock a proof takes half of its seconds here and an edit a third: proofs 10 and 20 minutes, each edit of words
-# 5 minutes and of entry 10; after them come 2 minutes of programs and 3 of other parts.
-RECORD = gate_times.read("""phase\tproofs\t1800
-phase\tedits\t1200
-phase\tprograms\t120
-part\trt\t3120\t180
-crate\twords\t1200\t2\t1800
-crate\tentry\t2400\t1\t1800
-""")
-LEFT = [" (52 min 0 s last time)", *(f", about {minutes} minutes left" for minutes in (45, 25, 20, 15, 5, 3))]
+EDITS = {"words": ["words/one.edit", "words/two.edit"], "entry": ["entry/three.edit"]}
+OK_LINE = "rt: ok; handles allowed: none; must-fail edits: {}; every proof and must-fail edit was done in this run\n"
+PASSED = "5 passed, 0 failed\n"
+RECORD = gate_times.read("part\trt\t3120\t180\n")
+
+# What rt says at the end, and whether the tool lets it pass.
+ENDS = {
+    "all refused": (OK_LINE.format("3 refused") + PASSED, 0),
+    "one by a limit": (OK_LINE.format("3 refused, 1 of them only by a limit") + PASSED, 0),
+    "a bad one": (OK_LINE.format("2 refused, 1 bad") + PASSED, 1),
+    "too few": (OK_LINE.format("2 refused") + PASSED, 1),
+    "no edits": ("rt: ok; handles allowed: none; every proof and must-fail edit was done in this run\n" + PASSED, 1),
+    "no line": (PASSED, 1),
+    "rt fails": ("rt: FAILED: words/two.edit\n4 passed, 1 failed\n", 0),
+}
 
 
-def tried(edits, record, end="4 passed, 0 failed\n"):
-    """The status, what was written and what was noted of the sample, where each line comes after ten seconds."""
-    target, noted, ticks = io.StringIO(), {}, iter(range(0, 1000, 10))
+def tried(edits, record, end):
+    """The status, what was written and what was noted of the sample, in a run of ninety seconds."""
+    target, noted, ticks = io.StringIO(), {}, iter((0, 90))
 
     def note(kind, name, *seconds):
         noted[kind, name] = seconds
-    status = number(io.StringIO(SAMPLE + end), target, edits, record, lambda: next(ticks), note)
+    sys.stderr, kept = io.StringIO(), sys.stderr
+    try:
+        status = number(io.StringIO(SAMPLE + end), target, edits, record, lambda: next(ticks), note)
+    finally:
+        sys.stderr = kept
     return status, target.getvalue(), noted
 
 
 def self_test():
-    edits = {"words": 2, "entry": 1}
-    status, written, noted = tried(edits, {})
-    told = tried(edits, RECORD)[1]
-    part = {key: row for key, row in RECORD.items() if key != ("phase", "edits")}
-    new = Left(RECORD, {"words": 2, "entry": 1, "other": 3})
-    one_more = {"words": 3, "entry": 1}
-    sys.stderr, kept = io.StringIO(), sys.stderr
-    lost, failing = tried(one_more, {})[0], tried(one_more, {}, "2 passed, 2 failed\n")[0]
-    sys.stderr = kept
+    end = ENDS["all refused"][0]
+    _, written, noted = tried(EDITS, {}, end)
+    told = tried(EDITS, RECORD, end)[1]
+    one_more = {**EDITS, "other": ["other/four.edit"]}
     checks = {
-        "numbers": status == 0 and written == NUMBERED.format(*7 * [""]),
-        "what is left": told == NUMBERED.format(*LEFT),
-        "what is left by half a record": "minutes left:" not in tried(edits, part)[1],
-        "a new crate": round(new.seconds()) == (30 + 15 + 20 + 3 * 20 / 3 + 5) * 60,
-        "times": list(noted.values()) == [(0, 90), (20,), (40,), (30,)],
-        "a lost edit": lost == 1 and failing == 0,
+        "numbers": written == NUMBERED.format("") + end + "-- took 90 s\n",
+        "what is left": told == NUMBERED.format(" (52 min 0 s last time)") + end + "-- took 90 s, about 3 minutes left\n",
+        "times": noted == {("part", "rt"): (0, 90)},
+        "a lost edit": tried(one_more, {}, OK_LINE.format("4 refused") + PASSED)[0] == 1,
+        "an edit told twice": tried({"words": EDITS["words"]}, {}, OK_LINE.format("2 refused") + PASSED)[0] == 1,
     }
+    checks.update({label: tried(EDITS, {}, text)[0] == status for label, (text, status) in ENDS.items()})
     wrong = [label for label, right in checks.items() if not right]
     if wrong:
-        sys.exit(f"number_edits.py: wrong: {', '.join(wrong)}\n{written}{told}{noted} {new.seconds()}")
-    print("self test: crates and edits are numbered with what is left, other lines passed on, a lost edit is told")
+        sys.exit(f"number_edits.py: wrong: {', '.join(wrong)}\n{written}{told}{noted}")
+    print(f"self test: crates and edits are numbered, other lines passed on; {len(ENDS)} ends, a lost edit is told")
 
 
 if __name__ == "__main__":

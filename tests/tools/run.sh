@@ -15,28 +15,27 @@ fail() {
 }
 
 # The lock is on the folder of a repository, and a gate that runs this holds its own: so all of it runs in a copy.
-mkdir -p "$work/tree/crates"
+mkdir -p "$work/tree/crates/mmu_c"
 cp -R .ci .gitignore Makefile crates.txt examples include tools "$work/tree"
 cd "$work/tree"
 rm -f .ci/times .ci/times.last
-unset MMU_LOCKED MAKEFLAGS MAKELEVEL MFLAGS ARCHIVE RT GATE_JOURNAL
+unset MMU_LOCKED MAKEFLAGS MAKELEVEL MFLAGS ARCHIVE RT GATE_JOURNAL PROVED_SINCE
 
-# A stand-in for rt: it says when it begins and ends, and fails where a file says so. `rt ci` removes target/, and
-# `rt check` of everything ends well only where a test runs meanwhile.
+# A stand-in for rt: it says when it begins and ends, and fails where a file says so. `rt all test` ends well only where a
+# test runs meanwhile, and `rt lib` makes the archive in the folder where it is called.
 cat > "$work/rt" <<'END'
 #!/bin/sh
 echo "begin $*" >> "$WORK/order"
 echo "a line of the prover"
 case $* in
-ci) rm -rf target && cat "$WORK/ci" ;;
-check) timeout 20 sh -c 'until [ -e "$WORK/tested" ]; do sleep 0.1; done' || exit 1 ;;
+ci) cat "$WORK/ci" ;;
+'all test') timeout 20 sh -c 'until [ -e "$WORK/tested" ]; do sleep 0.1; done' || exit 1 ;;
 *) sleep "${TAKES:-1}" ;;
 esac
 echo "end $*" >> "$WORK/order"
 [ ! -e "$WORK/fail" ] || exit 1
 [ ! -e "$WORK/fail_rt_$(echo "$*" | tr ' ' _)" ] || exit 1
-mkdir -p target/staticlib
-touch target/staticlib/libmmu.a
+[ "$1" != lib ] || { mkdir -p out && date +%N > out/libmmu_c.a; }
 END
 chmod +x "$work/rt"
 export WORK=$work
@@ -68,6 +67,7 @@ prover_lines() {
     if make archive RT="$work/rt" > "$work/said" 2>&1; then fail "make hides a failing rt"; fi
     grep -q 'a line of the prover' "$work/said" || fail "make does not show why rt failed"
     rm -r "$work/fail" target
+    [ ! -e crates/mmu_c/out/libmmu_c.a ] || rm crates/mmu_c/out/libmmu_c.a
     echo "ok   the prover's lines go to a log, and are shown where it fails"
 }
 
@@ -113,10 +113,10 @@ stand_ins() {
     mkdir -p crates/words/must-fail
     touch crates/words/must-fail/one.edit crates/words/must-fail/two.edit
     cat > "$work/ci" <<'END'
-rt: words proved (8 s)
-rt: must-fail words/one: refused, as it must be (first at proofs/A.antt:1:1; 9 s)
-rt: must-fail words/two: refused, as it must be (14 s)
-rt: ok, 1 crates proved, 2 must-fail edits refused
+rt: words proved
+rt: must-fail words/one.edit: refused, as it must be: ./proofs/A.antt:1:1: error: `a`: the two types differ
+rt: must-fail words/two.edit: refused, as it must be
+rt: ok; handles allowed: none; must-fail edits: 2 refused; every proof and must-fail edit was done in this run
 3 passed, 0 failed
 END
 }
@@ -155,14 +155,14 @@ passing_gate() {
 
 first_gate() {
     passing_gate "without a record"
-    says 'there is no record of a run: what is left is not told' 'rt: edit 2 of 2: must-fail words/two: .*' \
-        ' +14 s  words/two' ' +9 s  words/one' ' +8 s  words; 2 edits, 23 s' '== the whole gate took [0-9]+ s'
+    says 'there is no record of a run: what is left is not told' 'rt: edit 2 of 2: must-fail words/two.edit: .*' \
+        'rt: crate 1 of [0-9]+: words proved' '== the whole gate took [0-9]+ s'
     silent 'last time|minutes? left'
     grep -qx 'a line of the prover' target/log/ci.log || fail "the gate does not keep what rt said"
     [ "$(cut -f 1,2 .ci/times.last | sed -n 's/^part\t//p' | sort)" = \
         "$( (names source edits archive tests; echo rt) | sort)" ] || fail "the record: $(cat .ci/times.last)"
     grep -qxF .ci/times.last .gitignore || fail "git would see the record"
-    echo "ok   a gate with stand-ins: every part and its time, what was dearest, its last line"
+    echo "ok   a gate with stand-ins: every part and its time, its last line"
 }
 
 # The record is changed to one of an hour after rt, so that what is told is seen to come from it.
@@ -171,12 +171,10 @@ next_gates() {
     cp .ci/times "$work/committed"
     rm .ci/times.last
     passing_gate "with a committed record"
-    says '== proofs, must-fail edits .* \(4 min 0 s last time\)' '-- took [0-9]+ s, about 60 minutes left' \
-        'rt: crate 1 of [0-9]+, about 60 minutes left: words proved .*' \
-        'rt: edit 2 of 2, about 60 minutes left: must-fail words/two: .*'
+    says '== proofs, must-fail edits .* \(4 min 0 s last time\)' '-- took [0-9]+ s, about 60 minutes left'
     cmp .ci/times "$work/committed" || fail "the gate writes what is committed"
     passing_gate "with a record of its own"
-    says 'rt: edit 2 of 2, less than a minute left: must-fail words/two: .*'
+    says '-- took [0-9]+ s, less than a minute left'
     silent 'about 60 minutes left'
     echo "ok   the next gate tells what is left: by its own record, else by a committed one"
 }
@@ -205,6 +203,12 @@ failing_gates() {
     touch crates/words/must-fail/three.edit
     failing_gate "an edit that was not tried"
     rm crates/words/must-fail/three.edit
+    cp "$work/ci" "$work/ci_right"
+    sed -i 's/2 refused; /2 refused, 1 bad; /' "$work/ci"
+    failing_gate "a bad edit"
+    sed 's/2 refused; /1 refused; /' "$work/ci_right" > "$work/ci"
+    failing_gate "an edit that does not count"
+    cp "$work/ci_right" "$work/ci"
     echo "ok   whatever fails in a gate fails the whole"
 }
 
@@ -221,10 +225,10 @@ checks() {
     says 'all is proved and all tests passed, in .*'
     silent 'last time|minutes? left'
     [ "$(grep -v '^test ' "$work/order" | tr '\n' ' ')" = \
-        "begin check mmu end check mmu begin staticlib mmu end staticlib mmu begin check end check " ] \
+        "begin check end check begin lib --cpu x86-64 end lib --cpu x86-64 begin all test end all test " ] \
         || fail "make check calls rt otherwise: $(cat "$work/order")"
-    ! sed '/^end staticlib/q' "$work/order" | grep -q '^test ' || fail "a test runs before the archive is made"
-    for what in format rt_check_mmu rt_staticlib_mmu header rt_check; do
+    ! sed '/^end lib/q' "$work/order" | grep -q '^test ' || fail "a test runs before the archive is made"
+    for what in format rt_check rt_lib_--cpu_x86-64 header rt_all_test; do
         touch "$work/fail_$what"
         if check; then fail "make check passes with a failing $what"; fi
         rm "$work/fail_$what"
@@ -236,6 +240,7 @@ missing_rt
 prover_lines
 two_at_once
 numbers
+python3 tools/proved_archive.py --self-test
 python3 tools/gate_times.py --self-test
 python3 tools/run_parts.py --self-test
 stand_ins

@@ -1,8 +1,8 @@
 -- What is found of a page is what the definition's search and place say, with a cache and without one.
 use Prim.Native.Nat.{ℕ, ◌+◌, ◌*◌, ◌^◌, ◌≤◌}
-use mathlib.Core.Path.{◌≡◌, refl, sym, ap, ap₂, subst, ◌∙◌}
-use mathlib.Core.Bool.{Bool, true, false, cond, true≢false}
-use mathlib.Core.List.{List, [], ◌∷◌, Memᴰ}
+use mathlib.Core.Path.{◌≡◌, refl, sym, ap, ap₂, ◌∙◌}
+use mathlib.Core.Bool.{Bool, true, false, cond}
+use mathlib.Core.List.{List, [], ◌∷◌}
 use mathlib.Core.Option.{Option, none, some}
 use native.Mathlib.Omega.{arith}
 use lib.Dec.{eqb}
@@ -10,7 +10,7 @@ use lib.ListN.{length}
 use Rattle.words.specs.Bits.{bits}
 use Rattle.register_words.specs.Sdr1.{table_length, mask_ones, hash_bits}
 use Rattle.groups.proofs.Hash.{group_lt, within_table}
-use Rattle.groups.specs.Page.{Page, InRange}
+use Rattle.groups.specs.Page.{InRange}
 use Rattle.groups.specs.Hash.{group_number, located, TableOf}
 use Rattle.groups.specs.Group.{group_of}
 use Rattle.groups.specs.declared.Located.{Located}
@@ -31,7 +31,7 @@ use Rattle.translation.proofs.Steps.{after_contradicting, after_nothing, after_a
 use Rattle.cache.specs.Cache.{hit}
 use Rattle.theory_calls.specs.OnBytes.{layout, used_by, wanted_page, searched, search_in, first_place_in}
 use Rattle.theory_calls.proofs.AnyEntries.{by_matches_law}
-use Rattle.theory_cache.specs.Cached.{cached_search, cached_place, missed}
+use Rattle.theory_cache.specs.Cached.{cached_search, cached_place}
 use Rattle.theory_calls.proofs.OnBytes.{matches_by_groups}
 use Rattle.page_calls.proofs.Searched.{at_groups, page_free, told_is}
 use Rattle.table_access.specs.Part.{SearchTold, nothing_found, table_found, found_by, searched_of}

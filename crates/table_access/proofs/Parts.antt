@@ -3,8 +3,7 @@
 use Prim.Native.Nat.{ℕ, ◌+◌, ◌*◌, ◌^◌, ◌≤◌, ◌<◌}
 use mathlib.Core.Path.{◌≡◌, refl, sym, ap, ap₂, subst, ◌∙◌}
 use mathlib.Core.Bool.{Bool, true, false, cond}
-use mathlib.Core.List.{List, [], ◌∷◌, Memᴰ}
-use mathlib.Core.Option.{none, some}
+use mathlib.Core.List.{List, ◌∷◌, Memᴰ}
 use native.Mathlib.Omega.{arith}
 use borrow.Author.Tests.{lt-ltb}
 use lib.Dec.{lit<}
@@ -34,7 +33,7 @@ use Rattle.translation.specs.declared.Early.{Early}
 use Rattle.translation.specs.declared.Early.TheVariants.{Decided, Search}
 use Rattle.translation.specs.declared.Wanted.{Wanted}
 use Rattle.translation.proofs.Steps.{searches, outcome_decided, outcome_searched}
-use Rattle.cache.specs.Cache.{hit, loaded}
+use Rattle.cache.specs.Cache.{loaded}
 use Rattle.theory_calls.specs.OnBytes.{layout, used_by, wanted_page, marked_by}
 use Rattle.theory_calls.specs.Represents.{GoodTable}
 use Rattle.theory_calls.proofs.Access.{part_valid, fault_number}

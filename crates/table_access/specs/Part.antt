@@ -19,7 +19,6 @@ use Rattle.translation.specs.Decision.{decided, decision_of}
 use Rattle.translation.specs.Operand.{over_edge, part_start, operand_answer}
 use Rattle.translation.specs.declared.Answer.{Answer}
 use Rattle.translation.specs.declared.decision.Decision.{Decision}
-use Rattle.translation.specs.declared.decision.Used.{Used}
 use Rattle.translation.specs.declared.operand.OperandAnswer.{OperandAnswer}
 use Rattle.translation.specs.declared.Outcome.{Outcome}
 use Rattle.translation.specs.declared.Early.{Early}

@@ -1,6 +1,6 @@
 -- Every row holds: the maps compute, and whether an arrangement exists is decided by a decision that computes.
 use mathlib.Core.Path.{◌≡◌, refl}
-use mathlib.Core.Bool.{Bool, true, false, decide}
+use mathlib.Core.Bool.{true, false, decide}
 use mathlib.Core.List.{List}
 use mathlib.Core.Option.{some-ne-none}
 use Prim.Native.Nat.{ℕ, suc, ◌+◌}

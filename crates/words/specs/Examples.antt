@@ -1,10 +1,10 @@
 -- Worked examples of words, fields and tests below a bound, each row closed by computation (rules 1).
-use Rattle.std.specs.Prelude.{ℕ, suc, true, false, [], ◌∷◌, ◌++◌, map, eqb, ltb, replicate}
+use Rattle.std.specs.Prelude.{true, false, [], ◌∷◌, ◌++◌, map, eqb, ltb, replicate}
 use Rattle.words.specs.Bits.{bits, placed, with_bits}
 use Rattle.words.specs.Ones.{low_ones}
 use Rattle.words.specs.Words.{word_bytes, word_at, swapped, with_word, bytes_of, words_at}
 use Rattle.words.specs.Below.{every_below, first_below}
-use Rattle.words.specs.Rows.{Hold, powers, each_bit, all_but_each, field_of_each, field_of_all_but}
+use Rattle.words.specs.Rows.{Hold, each_bit, all_but_each, field_of_each, field_of_all_but}
 
 pub record WordsTables : Type 0 where
   -- bit 0 is the most significant: a field read, placed, and put into a word of ones and of zeros

@@ -4,10 +4,7 @@ use Prim.Native.Nat.{ℕ, ◌+◌, ◌*◌, ◌≤◌}
 use mathlib.Core.List.{List}
 use mathlib.Core.Path.{◌≡◌, sym, ap, ◌∙◌}
 use mathlib.Core.Bool.{Bool, true, false}
-use mathlib.Core.Logic.{⊎_elim}
 use native.Mathlib.Omega.{arith}
-use borrow.Author.Rules.{rules}
-use borrow.Author.Tests.{not-true, not-false}
 use lib.ListN.{length}
 use Rattle.words.specs.Words.{word_at}
 use Rattle.entry.specs.Entry.{changed}
@@ -49,8 +46,8 @@ spot c =
     let at-start = c.set_start-start.ensures in
     let index = c.args.index in
     elim c.if-holds.branch [
-      then-holds w ↦ (false, w.at-is ∙ at-start ∙ sym (place_0 index), hit_0 s page (sym (held_0 s page _ _ at-start c.holds.ensures) ∙ w.if-holds.true))
-    | else-holds+else-not-holds w ↦ (
+      | then-holds w ↦ (false, w.at-is ∙ at-start ∙ sym (place_0 index), hit_0 s page (sym (held_0 s page _ _ at-start c.holds.ensures) ∙ w.if-holds.true))
+      | else-holds+else-not-holds w ↦ (
         true,
         w.at-is ∙ omega (arith, at-start, place_1 index),
         hit_1 s page (sym (held_0 s page _ _ at-start c.holds.ensures) ∙ w.if-holds.false) (sym (held_1 s page _ _ at-start w.holds-else-holds.ensures) ∙ w.if-not-holds.false),

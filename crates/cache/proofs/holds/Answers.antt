@@ -1,5 +1,4 @@
 -- `cache::holds` meets its contract: the shifted first word is V and VSID, and the third word is the page index.
-use borrow.Author.Rules.{rules}
 use Rattle.words.specs.Words.{word_at}
 use Rattle.words.proofs.Words.{word_lt}
 use Rattle.cache.specs.Cache.{holds}

@@ -1,7 +1,6 @@
 -- `cache::load` meets its contract: by the place that the page is loaded into, its four words are written there and the other place's fourth is zeroed.
 use mathlib.Core.Path.{sym, ◌∙◌}
 use native.Mathlib.Omega.{arith}
-use borrow.Author.Rules.{rules}
 use Rattle.cache.proofs.Cache.{set_lt}
 use Rattle.cache.proofs.Steps.{loaded_0, loaded_1}
 use Rattle.cache.proofs.load.Goals as goal

@@ -1,6 +1,5 @@
 -- `cache::write_place` meets its contract: four words are written, one behind the other.
 use Rattle.cache.specs.Cache.{put_place}
-use borrow.Author.Rules.{rules}
 use Rattle.cache.proofs.write_place.Goals as goal
 
 pub returns : goal.returns

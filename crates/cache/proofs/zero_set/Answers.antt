@@ -1,6 +1,5 @@
 -- `cache::zero_set` meets its contract: the part that is lent is the set, and it comes back as zeros.
 use native.Mathlib.Omega.{arith}
-use borrow.Author.Rules.{rules}
 use Rattle.cache.proofs.Cache.{set_lt}
 use Rattle.cache.proofs.Steps.{zeroed_part}
 use Rattle.cache.proofs.zero_set.Goals as goal

@@ -1,8 +1,7 @@
 -- `table_access::after_search` meets its contract: each way out is the outcome of what was found, and its tests are those of steps 5 and 6.
-use borrow.Author.Rules.{rules}
 use borrow.Author.Tests.{not-true, not-false}
 use mathlib.Core.Path.{◌≡◌, sym, ap, ap₂, ◌∙◌}
-use mathlib.Core.Bool.{Bool, true, ◌&&◌}
+use mathlib.Core.Bool.{Bool, ◌&&◌}
 use Prim.Native.Nat.{ℕ}
 use Rattle.entry.specs.Entry.{wimg_of, pp_of}
 use Rattle.protection.specs.Access.{fetching}
@@ -15,7 +14,6 @@ use Rattle.translation.specs.declared.decision.Used.{Used}
 use Rattle.translation.specs.declared.Outcome.{Outcome}
 use Rattle.translation.proofs.Steps.{page_guarded, page_protected, page_done}
 use Rattle.table_access.specs.Part.{searched_of, by_found}
-use Rattle.table_access.specs.declared.Found.{Found}
 use Rattle.table_access.specs.declared.Part.{Part}
 use Rattle.table_access.proofs.Finds.{outcome_none, outcome_differs, outcome_at}
 use Rattle.table_access.proofs.after_search.Goals as goal

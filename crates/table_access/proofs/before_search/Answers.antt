@@ -1,16 +1,14 @@
 -- `table_access::before_search` meets its contract: its tests are those of steps 2 and 3, and each way out is an outcome of the definition.
-use borrow.Author.Rules.{rules}
 use borrow.Author.Tests.{lt-ltb, le-ltb}
-use mathlib.Core.Path.{◌≡◌, sym, ap, ap₂, subst, ◌∙◌}
-use mathlib.Core.Bool.{Bool, true, false, ◌&&◌}
+use mathlib.Core.Path.{◌≡◌, sym, ap, ap₂, ◌∙◌}
+use mathlib.Core.Bool.{Bool, false, ◌&&◌}
 use Prim.Native.Nat.{ℕ, ◌≤◌}
 use lib.Dec.{ltb}
-use lib.ListN.{length}
 use lib.Pow.{shr_mod}
 use Rattle.register_words.specs.Segment.{no_execute}
-use Rattle.registers.specs.Set.{set_words, segment_of, covering_pair}
+use Rattle.registers.specs.Set.{set_words, segment_of}
 use Rattle.register_pages.proofs.Page.{covering_own}
-use Rattle.protection.specs.Access.{user_mode, fetching, side_of}
+use Rattle.protection.specs.Access.{fetching}
 use Rattle.translation.specs.Steps.{segment_at, wanted_of, block_outcome, before_search, answer_of}
 use Rattle.translation.specs.Decision.{decision_of}
 use Rattle.translation.specs.declared.Early.{Early}

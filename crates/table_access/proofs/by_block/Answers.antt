@@ -1,6 +1,4 @@
 -- `table_access::by_block` meets its contract: the words read are those of the pair, and each answer is that of the block's outcome.
-use borrow.Author.Rules.{rules}
-use borrow.Author.Tests.{not-true, not-false}
 use mathlib.Core.Path.{◌≡◌, sym, ap, ap₂, ◌∙◌}
 use mathlib.Core.Bool.{Bool}
 use Prim.Native.Nat.{ℕ}

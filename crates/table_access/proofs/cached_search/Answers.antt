@@ -1,10 +1,8 @@
 -- `table_access::cached_search` meets its contract: a hit is what the cache has of the page, and where it has none, or none is lent, the search tells.
-use borrow.Author.Rules.{rules}
-use mathlib.Core.Path.{◌≡◌, refl, sym, ap, ◌∙◌}
-use mathlib.Core.Logic.{⊎_elim}
+use mathlib.Core.Path.{◌≡◌, sym, ap, ◌∙◌}
 use mathlib.Core.Bool.{Bool, true, false, cond}
-use mathlib.Core.List.{List, []}
-use mathlib.Core.Option.{Option, none, some}
+use mathlib.Core.List.{List}
+use mathlib.Core.Option.{none, some}
 use Prim.Native.Nat.{ℕ, ◌+◌}
 use native.Mathlib.Omega.{arith}
 use lib.Dec.{eqb}
@@ -86,8 +84,8 @@ missing : (c : Joined-cache-eq-SIZE) →
 missing c =
     let a = c.args in
     elim c.if-cache-eq-SIZE.branch [
-      then-cache-eq-SIZE+else-hit w ↦ of_hit a.kind a.cache.now (wanted_page a.wanted) _ w.find-hit.result w.is_store-store.ensures w.find-hit.ensures false w.if-hit.false
-    | else-cache-eq-SIZE w ↦ ap (λ (d : List ℕ). hit (storing a.kind) d (wanted_page a.wanted)) (no_bytes _ (c.requires.2 w.if-cache-eq-SIZE.false)) ∙ never_hit _ _
+      | then-cache-eq-SIZE+else-hit w ↦ of_hit a.kind a.cache.now (wanted_page a.wanted) _ w.find-hit.result w.is_store-store.ensures w.find-hit.ensures false w.if-hit.false
+      | else-cache-eq-SIZE w ↦ ap (λ (d : List ℕ). hit (storing a.kind) d (wanted_page a.wanted)) (no_bytes _ (c.requires.2 w.if-cache-eq-SIZE.false)) ∙ never_hit _ _
     ]
 
 pub returns : goal.returns

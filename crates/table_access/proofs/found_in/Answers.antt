@@ -1,17 +1,14 @@
 -- `table_access::found_in` meets its contract: what the search told of the page's matches is none, or the first of them and whether another contradicts
 -- it.
-use borrow.Author.Rules.{rules}
-use borrow.Author.Tests.{not-true, not-false}
 use mathlib.Core.Path.{◌≡◌, refl, sym, ap, ap₂, subst, ◌∙◌}
 use mathlib.Core.Bool.{Bool, true, false, cond, true≢false}
 use mathlib.Core.List.{List, [], ◌∷◌, Memᴰ}
-use Prim.Native.Nat.{ℕ, ◌+◌, ◌*◌, ◌%◌, ◌^◌, ◌≤◌, ◌<◌}
+use Prim.Native.Nat.{ℕ, ◌+◌, ◌<◌}
 use native.Mathlib.Omega.{arith}
-use lib.ListN.{length}
 use Rattle.register_words.specs.Sdr1.{table_length, mask_ones}
-use Rattle.groups.specs.Hash.{group_number, located}
+use Rattle.groups.specs.Hash.{group_number}
 use Rattle.groups.specs.declared.Located.{Located}
-use Rattle.matches.specs.Search.{contradict, any_match, each, first_second, told}
+use Rattle.matches.specs.Search.{contradict, any_match, each, told}
 use Rattle.matches.specs.declared.Told as matches
 use Rattle.theory_tables.specs.Matches.{Match}
 use Rattle.theory_tables.specs.Layout.{matches_of}
@@ -19,9 +16,9 @@ use Rattle.theory_tables.proofs.Groups.{members_of}
 use Rattle.translation.specs.declared.Wanted.{Wanted}
 use Rattle.theory_calls.specs.OnBytes.{layout, wanted_page}
 use Rattle.theory_calls.proofs.AnyEntries.{by_matches_law}
-use Rattle.table_access.specs.Part.{SearchTold, nothing_found, table_found}
+use Rattle.table_access.specs.Part.{SearchTold, table_found}
 use Rattle.table_access.specs.declared.Found.{Found}
-use Rattle.table_access.proofs.Finds.{matched, in_none, inside}
+use Rattle.table_access.proofs.Finds.{in_none, inside}
 use Rattle.table_access.proofs.found_in.Goals as goal
 
 -- the page's matches, by what was told

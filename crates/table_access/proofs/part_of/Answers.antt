@@ -1,21 +1,12 @@
 -- `table_access::part_of` meets its contract: the pair is the one that covers the address, and the steps before the search and after it are the part's.
-use borrow.Author.Rules.{rules}
-use mathlib.Core.Path.{◌≡◌, refl, sym, ap, ap₂, subst, ◌∙◌}
-use mathlib.Core.Bool.{Bool, true}
-use Prim.Native.Nat.{ℕ}
-use lib.ListN.{length}
+use mathlib.Core.Path.{sym, ap, ap₂, ◌∙◌}
+use mathlib.Core.Bool.{Bool}
 use Rattle.register_words.specs.Sdr1.{mask_ones}
 use Rattle.registers.specs.Set.{sdr1_of, set_words, covering_pair}
 use Rattle.translation.specs.Steps.{before_search}
 use Rattle.translation.specs.declared.Early.{Early}
-use Rattle.translation.specs.declared.Early.TheVariants.{Decided, Search}
-use Rattle.translation.specs.declared.Wanted.{Wanted}
 use Rattle.theory_calls.proofs.Access.{part_valid}
-use Rattle.table_access.specs.Part.{by_found, found_by, begun_by, part_by}
-use Rattle.table_access.specs.declared.Begun.{Begun}
-use Rattle.table_access.specs.declared.Begun.TheVariants.{Told, Wants}
-use Rattle.table_access.specs.declared.Found.{Found}
-use Rattle.table_access.specs.declared.Part.{Part}
+use Rattle.table_access.specs.Part.{by_found, found_by}
 use Rattle.table_access.proofs.Parts.{begun_told, begun_wants, part_searched}
 use Rattle.table_access.proofs.part_of.Goals as goal
 use Rattle.table_access.proofs.part_of.Goals.{Start}

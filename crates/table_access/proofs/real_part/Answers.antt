@@ -1,5 +1,4 @@
 -- `table_access::real_part` meets its contract: the answer and the rule of real mode, whatever the kind.
-use borrow.Author.Rules.{rules}
 use mathlib.Core.Path.{ap, ◌∙◌}
 use Rattle.translation.specs.Steps.{answer_of}
 use Rattle.translation.specs.Decision.{decision_of}

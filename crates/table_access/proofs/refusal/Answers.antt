@@ -1,6 +1,4 @@
 -- `table_access::refusal` meets its contract: 6, then 12, then the check of the page, then the table's length.
-use borrow.Author.Rules.{rules}
-use borrow.Author.Tests.{not-true, not-false}
 use mathlib.Core.Path.{◌≡◌, sym, ap, ◌∙◌}
 use mathlib.Core.List.{List}
 use Prim.Native.Nat.{ℕ}

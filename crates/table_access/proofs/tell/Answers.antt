@@ -1,5 +1,4 @@
 -- `table_access::tell` meets its contract: twelve words fill 48 bytes.
-use borrow.Author.Rules.{rules}
 use mathlib.Core.Path.{refl}
 use Rattle.theory_calls.specs.Answers.{access_answer}
 use Rattle.table_access.proofs.tell.Goals as goal

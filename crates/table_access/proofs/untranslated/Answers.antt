@@ -1,5 +1,4 @@
 -- `table_access::untranslated` meets its contract: both parts are done, so that the answer is that of one page or of two.
-use borrow.Author.Rules.{rules}
 use borrow.Author.Tests.{lt-ltb, le-ltb}
 use mathlib.Core.Path.{◌≡◌, refl, sym, ap, ap₂, ◌∙◌}
 use mathlib.Core.Bool.{Bool, true, false}

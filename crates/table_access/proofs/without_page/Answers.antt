@@ -1,5 +1,4 @@
 -- `table_access::without_page` meets its contract: each field is what its function says.
-use borrow.Author.Rules.{rules}
 use Rattle.table_access.proofs.without_page.Goals as goal
 
 pub returns : goal.returns

@@ -1,6 +1,6 @@
 -- `words::highest_of` meets its contract: a field that is not 0 has one binary digit more than it has without its lowest bit.
 use mathlib.Core.Path.{◌≡◌, ap, ◌∙◌}
-use Prim.Native.Nat.{ℕ, suc, ◌-◌, ◌/◌}
+use Prim.Native.Nat.{suc, ◌-◌, ◌/◌}
 use native.Mathlib.Omega.{arith}
 use lib.Ieee.{size}
 use Rattle.words.proofs.Ones.{size_zero, size_step}

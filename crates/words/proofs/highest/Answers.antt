@@ -1,5 +1,5 @@
 -- `words::highest` meets its contract: the whole field is asked, with none of its bits gone; a field that is not 0 has a bit.
-use Prim.Native.Nat.{◌-◌, ◌≤◌}
+use Prim.Native.Nat.{◌≤◌}
 use native.Mathlib.Omega.{arith}
 use lib.Ieee.{size}
 use Rattle.words.proofs.Ones.{size_width, size_step}

@@ -1,6 +1,5 @@
 -- `words::is_word` meets its contract: it hands the four bytes to `same_bytes`.
 use Rattle.words.specs.Words.{word_at}
-use borrow.Author.Rules.{rules}
 use Rattle.words.proofs.is_word.Goals as goal
 
 pub returns : goal.returns

@@ -3,7 +3,6 @@ use mathlib.Core.Path.{sym, ◌∙◌}
 use Prim.Native.Nat.{◌+◌}
 use Rattle.words.specs.Words.{word_at}
 use Rattle.words.proofs.Words.{swapped_of}
-use borrow.Author.Rules.{rules}
 use Rattle.words.proofs.raw_word.Goals as goal
 
 pub returns : goal.returns

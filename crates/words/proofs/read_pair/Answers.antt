@@ -1,5 +1,4 @@
 -- `words::read_pair` meets its contract: its words are those that stand there, and each fits 32 bits.
-use borrow.Author.Rules.{rules}
 use Rattle.words.proofs.read_pair.Goals as goal
 
 pub returns : goal.returns

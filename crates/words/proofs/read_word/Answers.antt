@@ -1,6 +1,5 @@
 -- `words::read_word` meets its contract: the bytes that `raw_word` reads in reverse order are reversed again.
 use mathlib.Core.Path.{ap, ◌∙◌}
-use borrow.Author.Rules.{rules}
 use Rattle.words.specs.Words.{word_at, swapped}
 use Rattle.words.proofs.Words.{swapped_twice, word_lt}
 use Rattle.words.proofs.read_word.Goals as goal

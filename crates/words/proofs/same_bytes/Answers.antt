@@ -1,7 +1,6 @@
 -- `words::same_bytes` meets its contract: a word is its four bytes, in either order.
 use native.Mathlib.Omega.{arith}
 use Rattle.words.proofs.Words.{reverse_same}
-use borrow.Author.Rules.{rules}
 use Rattle.words.proofs.same_bytes.Goals as goal
 
 pub returns : goal.returns

@@ -1,7 +1,6 @@
 -- `words::swapped` meets its contract: the four remainders are the four bytes.
 use native.Mathlib.Nat.{div-one}
 use Rattle.words.specs.Words.{swapped}
-use borrow.Author.Rules.{rules}
 use Rattle.words.proofs.swapped.Goals as goal
 
 pub returns : goal.returns

@@ -8,7 +8,6 @@ use lib.ListN.{length-set}
 use Rattle.words.specs.Bits.{bits}
 use Rattle.words.specs.Words.{swapped, with_word, word_bytes}
 use Rattle.words.proofs.Words.{turned_0, turned_1, turned_2, turned_3}
-use borrow.Author.Rules.{rules}
 use Rattle.words.proofs.write_word.Goals as goal
 
 pub bounds-s-at-2 : goal.bounds-s-at-2

@@ -1,14 +1,8 @@
 -- `words::write_words` meets its contract. The invariant: the first `i` words are written; once all are, their bytes fill the slice.
-use borrow.Author.Rules.{rules}
-use mathlib.Core.Path.{◌≡◌, refl, sym, ap, ◌∙◌}
-use mathlib.Core.List.{List}
-use Prim.Native.Nat.{ℕ, ◌+◌, ◌*◌, ◌-◌, ◌≤◌, ◌<◌}
-use native.Mathlib.Numerals.{add-one}
-use native.Mathlib.Omega.{arith}
-use lib.ListN.{length, take, get_or}
-use lib.Seq.{take-suc, take-length, length-take-le}
-use Rattle.words.specs.Words.{with_word}
-use Rattle.words.proofs.Words.{written, written_more, written_all, length_with_word}
+use mathlib.Core.Path.{◌≡◌}
+use Prim.Native.Nat.{◌-◌, ◌≤◌}
+use lib.ListN.{length, take}
+use Rattle.words.proofs.Words.{written}
 use Rattle.words.proofs.write_words.Given as goal
 
 abbrev pub invariant-loop-i : goal.invariant-loop-i

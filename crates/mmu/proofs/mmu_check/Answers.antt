@@ -1,11 +1,9 @@
 -- `mmu::mmu_check` meets its contract: a page of right length is checked by its own limits.
-use borrow.Author.Tests.{not-true, not-false}
 use mathlib.Core.Path.{◌≡◌, sym, ◌∙◌}
 use mathlib.Core.Bool.{true}
 use lib.ListN.{length}
 use Rattle.registers.specs.Set.{is_page}
 use Rattle.theory_calls.specs.WithoutTable.{check_call}
-use borrow.Author.Rules.{rules}
 use Rattle.mmu.proofs.mmu_check.Goals as goal
 use Rattle.mmu.proofs.mmu_check.Goals.{Else-not-is_page}
 

@@ -1,11 +1,9 @@
 -- `mmu::mmu_pack` meets its contract: an entry of another length than eight bytes is left as it was.
-use mathlib.Core.Path.{◌≡◌, sym, ap₂, ◌∙◌}
+use mathlib.Core.Path.{sym, ap₂, ◌∙◌}
 use mathlib.Core.List.{List}
 use Prim.Native.Nat.{ℕ}
-use lib.ListN.{length}
 use Rattle.theory_calls.specs.WithoutTable.{pack_call}
 use Rattle.theory_calls.proofs.Lent.{right_length, wrong_length}
-use borrow.Author.Rules.{rules}
 use Rattle.mmu.proofs.mmu_pack.Goals as goal
 
 pub returns-then-entry-ne-ENTRY_SIZE : goal.returns-then-entry-ne-ENTRY_SIZE

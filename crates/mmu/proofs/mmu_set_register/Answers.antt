@@ -1,12 +1,10 @@
 -- `mmu::mmu_set_register` meets its contract: on a page of right length it is the replacing of a word.
-use borrow.Author.Tests.{not-true, not-false}
 use mathlib.Core.Path.{◌≡◌, sym, ◌∙◌}
 use mathlib.Core.Bool.{true}
 use lib.ListN.{length}
 use Rattle.registers.specs.Set.{is_page}
 use Rattle.register_pages.specs.Replace.{page_replaced}
 use Rattle.theory_calls.specs.WithoutTable.{set_register_call}
-use borrow.Author.Rules.{rules}
 use Rattle.mmu.proofs.mmu_set_register.Goals as goal
 use Rattle.mmu.proofs.mmu_set_register.Goals.{Else-not-is_page}
 

@@ -3,7 +3,6 @@ use mathlib.Core.Path.{◌≡◌, sym}
 use lib.ListN.{length}
 use Rattle.theory_calls.specs.WithoutTable.{unpack_call}
 use Rattle.theory_calls.proofs.Lent.{right_length, wrong_length, beside}
-use borrow.Author.Rules.{rules}
 use Rattle.mmu.proofs.mmu_unpack.Goals as goal
 
 pub returns-then-fields-ne-FIELDS_SIZE : goal.returns-then-fields-ne-FIELDS_SIZE

@@ -6,7 +6,6 @@ use Rattle.words.specs.Words.{bytes_of}
 use Rattle.words.proofs.Tests.{by_test}
 use Rattle.entry.specs.Entry.{within_widths, packed}
 use Rattle.entry.specs.declared.Fields.{Fields}
-use borrow.Author.Rules.{rules}
 use Rattle.mmu.proofs.write_packed.Goals as goal
 
 refused-zeros : (f : Fields) → ((packed f).0 ≡ 0 → ⊥) → bytes_of ((packed f).1.0 ∷ (packed f).1.1 ∷ []) ≡ bytes_of (0 ∷ 0 ∷ [])

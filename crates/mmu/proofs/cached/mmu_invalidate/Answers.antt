@@ -1,5 +1,4 @@
 -- `mmu::cached::mmu_invalidate` meets its contract: a wrong length, then an index out of range is refused, and else the set is zeroed.
-use borrow.Author.Rules.{rules}
 use borrow.Author.Tests.{eq-eqb, ne_eqb, lt-ltb, le-ltb}
 use mathlib.Core.Path.{ap}
 use mathlib.Core.List.{List}

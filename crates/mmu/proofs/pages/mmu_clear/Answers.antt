@@ -1,7 +1,6 @@
 -- `mmu::pages::mmu_clear` meets its contract.
 use mathlib.Core.Path.{sym}
 use Rattle.theory_calls.proofs.PageCalls.{clear_refused, clear_done}
-use borrow.Author.Rules.{rules}
 use Rattle.mmu.proofs.pages.mmu_clear.Goals as goal
 
 pub returns-then-refused-ne-DONE : goal.returns-then-refused-ne-DONE

@@ -11,7 +11,6 @@ use Rattle.theory_calls.specs.Answers.{word_answer}
 use Rattle.theory_calls.specs.OnBytes.{ended}
 use Rattle.theory_calls.proofs.PageCalls.{page_rules, Kept, kept, page_ranges, look_11, look_refused, look_taken}
 use Rattle.page_calls.proofs.Searched.{table_of}
-use borrow.Author.Rules.{rules}
 use Rattle.mmu.proofs.pages.mmu_look.Goals as goal
 use Rattle.mmu.proofs.pages.mmu_look.Goals.{After-word_refusal-refused}
 

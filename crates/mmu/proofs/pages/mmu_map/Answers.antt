@@ -4,7 +4,6 @@ use lib.ListN.{length}
 use Rattle.theory_calls.specs.Request.{MapCall}
 use Rattle.theory_calls.proofs.PageCalls.{Kept, kept, map_ranges, map_refused, map_taken}
 use Rattle.page_calls.proofs.Searched.{table_of}
-use borrow.Author.Rules.{rules}
 use Rattle.mmu.proofs.pages.mmu_map.Goals as goal
 use Rattle.mmu.proofs.pages.mmu_map.Goals.{After-page_refusal-refused, Start}
 

@@ -9,7 +9,6 @@ use Rattle.theory_calls.proofs.PageCalls.{Kept, kept, page_ranges, protect_refus
 use borrow.Author.Tests.{ltb-true}
 use Rattle.words.proofs.Tests.{both}
 use Rattle.page_calls.proofs.Searched.{table_of}
-use borrow.Author.Rules.{rules}
 use Rattle.mmu.proofs.pages.mmu_protect.Goals as goal
 use Rattle.mmu.proofs.pages.mmu_protect.Goals.{After-page_refusal-refused, Start}
 

@@ -1,6 +1,5 @@
 -- `mmu::pages::write_answer` meets its contract: four words fill 16 bytes.
 use Rattle.theory_calls.specs.Answers.{word_answer}
-use borrow.Author.Rules.{rules}
 use Rattle.mmu.proofs.pages.write_answer.Goals as goal
 
 pub returns : goal.returns

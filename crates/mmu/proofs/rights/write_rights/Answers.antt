@@ -1,5 +1,4 @@
 -- `mmu::rights::write_rights` meets its contract: three answers of 48 bytes and three words fill 156 bytes, each part behind the one before.
-use borrow.Author.Rules.{rules}
 use borrow.Rule.Slice.PartMut.{post_of, put_mid}
 use mathlib.Core.Path.{◌≡◌, refl, sym, ap, ap₂, ◌∙◌}
 use mathlib.Core.List.{List, [], ◌++◌, append_assoc, append-nil}

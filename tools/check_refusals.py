@@ -1,5 +1,10 @@
 #!/usr/bin/env python3
-"""Looks at the must-fail edits and into their logs, after `rt ci` or `rt must-fail`: each keeps the rule, and each refusal is about a fact.
+"""Looks at the must-fail edits and at what `rt ci` or `rt must-fail` told of each: it keeps the rule, and is refused about a fact.
+
+    check_refusals.py [--log FILE] [CRATE..]    FILE is what rt wrote; default target/log/ci.log, of the last gate
+    check_refusals.py --list                    writes docs/WRONG-MACHINES.md
+    check_refusals.py --current                 fails where that page is not what would be written, or an edit does not keep the rule
+    check_refusals.py --self-test               shows that it tells such edits and such lines of rt from others
 
 The rule (docs/EVIDENCE.md). An edit begins with a sentence that says what the wrong machine does, and changes the code alone or definitions alone.
   - Of the code: it says with `call: mmu_..` whose wrong program it is, with `machine: 1` to `6` or `reading: 1` to `5` which of document 01's, or with
@@ -7,16 +12,14 @@ The rule (docs/EVIDENCE.md). An edit begins with a sentence that says what the w
   - Of definitions: it says with `by: NAME` which statement of specs/ refuses it: a record of rows, a law over all tables, a theorem.
   - Each machine and each reading of document 01 has a wrong program and a wrong definition.
 An edit shows nothing where the wrong program or definition was never judged. So it is named, and the tool fails,
-  - where all that was refused is a name that is not in scope, a state that lacks a field, or what follows from that;
-  - where a function's proof file asks for other facts than it did (`Need-..` of another name): the text no longer fits the code, right or wrong;
   - where an edit of the code changes its shape (another operation, another call): then a proof may fail though the program is right. A comparison,
     a sum, a shift or a mask may become another of its kind, and a test may be negated; an edit with a line `shape: WHY` may change it;
   - where an edit does nothing: an operation with its neutral operand (`1 * ..`), or the operands of a sum exchanged;
-  - where the statement that it names does not rest on what failed: the tool goes from each law that failed to all that cites it, crate over crate
-    (tools/statements.py), and must come to the statement's proof;
-  - where it has no log.
-With names of crates the tool looks at their edits alone. --self-test shows that it tells such edits and logs from others. --list writes
-docs/WRONG-MACHINES.md, and --current fails where that page is not what would be written, or an edit does not keep the rule.
+  - where rt told nothing of it, or did not refuse it;
+  - where rt refused it only because a proof file names what the edit took away, or only by a limit of the prover: then no fact was refused.
+rt keeps no log of an edit: it tells the first refusal alone, which is the first about a fact where there is one. So the tool cannot see whether the
+statement that `by:` names was refused as well; where what rt told is a law or a row, it counts how many times that statement rests on it, from each law to
+all that cites it, crate over crate (tools/statements.py).
 """
 import glob
 import os
@@ -26,36 +29,30 @@ import sys
 import statements
 
 ROOT = os.path.join(os.path.dirname(os.path.abspath(__file__)), "..")
-FOLLOWS = re.compile(r"was not admitted|cannot be unfolded because it was not admitted")
-NO_FACT = re.compile(r"is not in scope|has no field|has no `|is not a library|is not a constructor|wrong number of arguments|cannot be named from here")
-NEEDS = re.compile(r"-spec`: .*Need-|has no `Need-")
-ERROR = re.compile(r"^(\S+?)(?::\d+)*: error: (.*)$", re.M)
-DECLARATION = re.compile(r"^`([^`]+)`: ")
-# A function without a proof file is proved by the tool itself; its refusal is told by this line.
-UNPROVED = re.compile(r"^fn \S+: no proof: .*`search` does not close", re.M)
+# A line of rt about an edit, and what follows where it is refused about a fact; rt cuts the latter off after 160 characters.
+TOLD = re.compile(r"^rt: (?:edit \d+ of \d+: )?must-fail (\w+)/(\S+)\.edit: (.*)$", re.M)
+REFUSED = "refused, as it must be"
+NO_FACT = {"(only because a proof file names what the edit took away": "not about a fact: a proof file names what it took away",
+           "(only by a limit of the prover": "by a limit of the prover alone"}
+# What failed, where rt names it: a declaration of specs/ or proofs/.
+DECLARATION = re.compile(r"(?:note: )?(?:\./)?(specs|proofs)/(\S+?)\.antt:\d+:\d+: error: `([^`]+)`: ")
 
 TOKEN = re.compile(r"[A-Za-z_][A-Za-z_0-9]*(?:(?:::|\.)[A-Za-z_][A-Za-z_0-9]*)*|0x[0-9A-Fa-f]+|\d+|<<|>>|<=|>=|==|!=|&&|\|\||\.\.=|\.\.|->|=>|\S")
 KINDS = ["== != < <= > >=", "+ - * / %", "<< >>", "& | ^ && ||"]
 KIND = {operator: str(number) for number, operators in enumerate(KINDS) for operator in operators.split()}
 NEUTRAL = re.compile(r"(?<![\w.])1 \* |\* 1(?![\w.])|(?<![\w.])0 \+ |\+ 0(?![\w.])|/ 1(?![\w.])|- 0(?![\w.])|<< 0(?!\w)|>> 0(?!\w)|\| 0(?!\w)|\^ 0(?!\w)|&& true|\|\| false")
 
-LOGS = [
-    (False, None, "a.antt:1:1: error: `f`: `false` is not in scope: add it\n"),
-    (False, None, "a.antt:1:1: error: `f`: record `After-found` has no field `search-both`\n"),
-    (False, None, "a.antt:1:1: error: `f`: `false` is not in scope\nb.antt:2:2: error: `g`: `f` was not admitted, so this cannot be checked\n"),
-    (False, None, "b.antt:2:2: error: `g`: `f` was not admitted, so this cannot be checked\n"),
-    (False, None, "fn a::f: proved\n"),
-    (False, None, "p/Proof.antt:33:13: error: `returns`: the two types first differ where one has `x`\n"
-                  "p/Proof.antt:39:5: error: `f-spec`: expected type `tie.Need-mul-word-of`, but this has type `tie.Need-shared-slice-read-word-of`\n"),
-    (False, "Rows", "p/must-fail/low/e/proofs/Other.antt:3:1: error: `apart`: the two types differ only where one has `1` (expected)\n"),
-    (False, "Rows", "p/must-fail/low/e/proofs/Rows.antt:1:1: error: `rows`: `f` was not admitted, so this cannot be checked\n"),
-    (True, "Rows", "p/must-fail/low/e/proofs/Rows.antt:1:1: error: `rows`: the two types differ only where one has `1` (expected)\n"),
-    (True, "Rows", "p/must-fail/low/e/proofs/Other.antt:3:1: error: `law`: the two types differ only where one has `1` (expected)\n"),
-    (True, None, "a.antt:1:1: error: `rows`: the two types differ only where one has `1` (expected) and the other has `0` (found)\n"),
-    (True, None, "a.antt:1:1: error: `f`: `x` is not in scope\na.antt:2:1: error: `rows`: the two types differ only where one has `1`\n"),
-    (True, None, "b.antt:2:2: error: `g`: `close` was not admitted\nfn a::f: no proof: expected `f-spec`; `search` does not close `returns`\n"),
-    (True, None, "p/Proof.antt:39:5: error: `f-spec`: expected type `tie.Need-mul-a`, but this has type `tie.Need-add-a`\n"
-                 "q/Proof.antt:3:1: error: `returns`: the goal does not follow\n"),
+LINES = [
+    (False, None, "NOT REFUSED: the crate is still proved with this edit (one that means the same as before cannot be refused: remove it)"),
+    (False, None, "BAD EDIT: an 'old:' text is in src/lib.rt 2 times, and not once"),
+    (False, None, "NOT TRIED: its check was killed, most likely for memory, so nothing is known of it: run this again"),
+    (False, None, "refused, as it must be (only because a proof file names what the edit took away, so this says little of the contract: change a value and keep the names): ./proofs/f/Answers.antt:1:1: error: `f`: record `x` has no field `y`"),
+    (False, None, "refused, as it must be (only by a limit of the prover, which gave no verdict, so this says less of the contract: choose a change that it refuses sooner): antt ran out of stack"),
+    (True, None, "refused, as it must be: note: src/lib.rt:18:1: it is not proved that what the function ensures holds when it returns (`returns-in-Protect`)"),
+    (True, None, "refused, as it must be"),
+    (True, False, "refused, as it must be: ./proofs/Other.antt:3:1: error: `apart`: as printed, the two types differ only where one has `1` (expected)"),
+    (True, True, "refused, as it must be: ./proofs/Rows.antt:1:1: error: `rows`: as printed, the two types differ only where one has `1` (expected)"),
+    (True, True, "refused, as it must be: ./proofs/deep/Other.antt:3:1: error: `law`: computed as far as they go, the two types differ only where"),
 ]
 EDITS = [
     (False, "file: src/lib.rt\nold: low_ones(field >> 1)\nnew: low_ones(1 * (field >> 1))\n"),
@@ -186,30 +183,17 @@ def lacking(edits, calls):
     return told
 
 
-def facts(log):
-    """What a log refuses about a fact: the path, the declaration and what is said of it."""
-    errors = ERROR.findall(log)
-    unfit = {path for path, error in errors if NEEDS.search(error)}
-    own = [(path, error) for path, error in errors if not FOLLOWS.search(error)]
-    return own, [(path, error) for path, error in own if path not in unfit and not NO_FACT.search(error)]
+def refusal(told):
+    """What is wrong with what rt told of an edit, or None."""
+    if not told.startswith(REFUSED):
+        return told.split(":")[0][:80]
+    return next((f"refused, but {why}" for words, why in NO_FACT.items() if told.startswith(f"{REFUSED} {words}")), None)
 
 
-def failed(log, crate, label):
-    """The declarations of the crate's specs/ and proofs/ that failed about a fact."""
-    keys = []
-    for path, error in facts(log)[1]:
-        named, place = DECLARATION.match(error), re.search(r"(?:^|/)(specs|proofs)/(.*)\.antt$", path.split(f"/{label}/")[-1])
-        if named and place:
-            keys.append((crate, place[1], place[2].replace("/", "."), named[1]))
-    return keys
-
-
-def judged(log, by, tree, crate, label):
-    """Whether the log has a refusal that is about a fact, and that the statement `by` rests on where one is named."""
-    if by:
-        return by in tree.above(failed(log, crate, label))
-    own, found = facts(log)
-    return bool(found) or (not own and bool(UNPROVED.search(log)))
+def rests(told, by, tree, crate):
+    """Whether the statement `by` rests on the declaration that rt told of; None where it told of none."""
+    named = DECLARATION.match(told[len(REFUSED) + 2:])
+    return by in tree.above([(crate, named[1], named[2].replace("/", "."), named[3])]) if named else None
 
 
 class SampleTree:
@@ -234,7 +218,9 @@ def sample(crate, area, line):
 
 
 def self_test():
-    wrong = [log for wanted, by, log in LOGS if judged(log, by, SampleTree(), "low", "e") != wanted]
+    wrong = [line for wanted, above, line in LINES if (refusal(line) is None) != wanted or rests(line, "Rows", SampleTree(), "low") != above]
+    if TOLD.findall("rt: edit 2 of 3: must-fail low/e.edit: NOT TRIED: x\nrt: must-fail low/f-2.edit: refused, as it must be\n") != [("low", "e", "NOT TRIED: x"), ("low", "f-2", "refused, as it must be")]:
+        wrong.append("the lines of rt")
     wrong += [edit for wanted, edit in EDITS if (fault(Edit(edit)) is None) != wanted]
     wrong += [edit for wanted, edit in RULES if (breach(Edit(edit), {"Rows"}) is None) != wanted]
     whole = [sample("mmu", "src", "call: mmu_map"), sample("page_calls", "src", "call: mmu_map")]
@@ -245,7 +231,7 @@ def self_test():
         wrong.append("edits that lack a program, a machine or a reading")
     if wrong:
         sys.exit("told wrongly:\n" + "\n".join(wrong))
-    print(f"{len(LOGS)} logs, {len(EDITS) + len(RULES)} edits and the rule told rightly")
+    print(f"{len(LINES)} lines of rt, {len(EDITS) + len(RULES)} edits and the rule told rightly")
 
 
 def edits_of(crates):
@@ -256,26 +242,15 @@ def edits_of(crates):
     return found
 
 
-def complaint(edit, tree):
-    """What is wrong with an edit and its log, or None."""
-    found = fault(edit)
-    if found:
-        return found
-    path = os.path.join(ROOT, "target", "must-fail", edit.crate, edit.label, ".log")
-    if not os.path.exists(path):
-        return "no log: try it by `rt must-fail`"
-    with open(path, encoding="utf-8", errors="replace") as file:
-        log = file.read()
-    by = edit.said.get("by")
-    if judged(log, by, tree, edit.crate, edit.label):
-        return None
-    return f"refused, but `{by}` does not rest on what failed" if by else "refused, but not about a fact"
+def complaint(edit, told):
+    """What is wrong with an edit and with what rt told of it, or None."""
+    return fault(edit) or (refusal(told) if told is not None else "rt told nothing of it")
 
 
 def exported():
     """The names of the exported calls."""
     names = []
-    for path in sorted(glob.glob(os.path.join(ROOT, "crates", "mmu", "src", "*.rt"))):
+    for path in sorted(glob.glob(os.path.join(ROOT, "crates", "mmu_c", "src", "*.rt"))):
         with open(path, encoding="utf-8") as file:
             names += re.findall(r'pub extern "C" fn (\w+)', file.read())
     return names
@@ -334,14 +309,26 @@ def current(page):
         sys.exit("\n".join(told))
 
 
-def main():
-    edits, tree, bad = edits_of(sys.argv[1:] or ["*"]), statements.Tree(), 0
+def main(words):
+    log = os.path.join(ROOT, "target", "log", "ci.log")
+    if words[:1] == ["--log"] and words[1:]:
+        log, words = words[1], words[2:]
+    if not os.path.exists(log):
+        sys.exit(f"check_refusals.py: there is no {log}: run .ci/run, or rt must-fail into a file and give it by --log")
+    with open(log, encoding="utf-8", errors="replace") as file:
+        told = {(crate, label): text for crate, label, text in TOLD.findall(file.read())}
+    edits, tree, bad, resting, others = edits_of(words or ["*"]), statements.Tree(), 0, 0, 0
     for edit in edits:
-        found = complaint(edit, tree)
+        text = told.get((edit.crate, edit.label))
+        found = complaint(edit, text)
         if found:
             bad += 1
             print(f"{edit.crate}/{edit.label}: {found}")
-    print(f"{len(edits) - bad} of {len(edits)} must-fail edits are refused about a fact")
+        elif "by" in edit.said:
+            is_above = rests(text, edit.said["by"], tree, edit.crate)
+            resting, others = resting + (is_above is True), others + (is_above is not True)
+    print(f"{len(edits) - bad} of {len(edits)} must-fail edits are refused about a fact; of {resting + others} wrong definitions {resting} by what their statement rests on,"
+          f" and of {others} rt told another refusal first")
     if bad or not edits:
         sys.exit(1)
 
@@ -355,4 +342,4 @@ if __name__ == "__main__":
     elif sys.argv[1:] == ["--current"]:
         current(page)
     else:
-        main()
+        main(sys.argv[1:])

@@ -1,14 +1,14 @@
 #!/usr/bin/env bash
-# Tries the must-fail edits of one crate, or some of them, and no edit of the crates below it.
+# Tries some must-fail edits of one crate, also such as do not stand in must-fail/ yet.
 #
 #   try_edit.sh CRATE            all edits of crates/CRATE/must-fail
 #   try_edit.sh CRATE EDIT..     these alone: a label (NAME of NAME.edit), or a file NAME.edit that lies anywhere
 #   try_edit.sh --self-test
 #
-# `rt must-fail CRATE` tries the edits of every crate below as well. Here it runs in a copy of the repository that has
-# the wanted edits alone and the same target/: what is proved already stays proved, and the logs lie where rt puts them,
-# in target/must-fail/CRATE/LABEL/.log. The crate itself is checked first, since a refusal shows nothing where the crate
-# is not proved without the edit. Exit status 0: each edit is refused.
+# `rt must-fail CRATE` tries all edits of a crate that have changed. Here it runs in a copy of the repository that has the
+# wanted edits alone; rt begins there with what checks in other copies on this machine kept. The crate itself is checked
+# first, since a refusal shows nothing where the crate is not proved without the edit. rt keeps no log of an edit: it tells
+# the first refusal, and that stands for it here. Exit status 0: each edit is refused.
 set -euo pipefail
 cd "$(dirname "${BASH_SOURCE[0]}")/.."
 root=$PWD
@@ -33,23 +33,9 @@ copy_with() {
     shift
     rm -rf "$work/tree"
     mkdir "$work/tree"
-    cp -R crates crates.txt "$work/tree"
-    rm -rf "$work/tree"/crates/*/must-fail
+    tar -C "$root" --exclude='crates/*/out' --exclude='crates/*/must-fail' -cf - crates crates.txt | tar -C "$work/tree" -xf -
     mkdir "$work/tree/crates/$crate/must-fail"
     cp "$@" "$work/tree/crates/$crate/must-fail"
-    ln -s "$root/target" "$work/tree/target"
-}
-
-# what_was_refused CRATE FILE..: the first refusals in the log of each edit, but for those that follow from another.
-what_was_refused() {
-    local crate=$1 file place
-    shift
-    for file in "$@"; do
-        place=must-fail/$crate/$(basename "$file" .edit)
-        echo "target/$place/.log:"
-        grep -E ': error: |: no proof: ' "target/$place/.log" | grep -v 'was not admitted' | head -n 3 \
-            | sed -e "s|^[^ ]*/$place/||" -e 's/^/    /' | cut -c 1-300 || true
-    done
 }
 
 try_edits() {
@@ -60,21 +46,20 @@ try_edits() {
         [ -f "$file" ] || { echo "try_edit.sh: there is no edit $file" >&2; return 2; }
         files+=("$file")
     done
-    if ! rt check "$crate" > "$work/check" 2>&1; then
+    copy_with "$crate" "${files[@]}"
+    if ! (cd "$work/tree/crates/$crate" && rt check) > "$work/check" 2>&1; then
         tail -n 20 "$work/check" >&2
         echo "try_edit.sh: $crate is not proved without an edit" >&2
         return 2
     fi
-    copy_with "$crate" "${files[@]}"
     (cd "$work/tree" && rt must-fail "$crate") > "$work/told" 2>&1 || status=$?
-    grep -v 'unchanged since it was last proved' "$work/told" || true
-    what_was_refused "$crate" "${files[@]}"
+    cat "$work/told"
     return "$status"
 }
 
-# An edit of the smallest crate is refused, a changed comment is not, and a label that does not exist is told.
+# An edit of the lowest crate is refused, a changed comment is not, and a label that does not exist is told.
 self_test() {
-    local crate=theory_placement edits source comment
+    local crate=words edits source comment
     edits=("crates/$crate"/must-fail/*.edit)
     try_edits "$crate" "$(basename "${edits[0]}" .edit)" > "$work/first" || { cat "$work/first"; exit 1; }
     [ "$(grep -c 'must-fail .*: refused, as it must be' "$work/first")" = 1 ] || { cat "$work/first"; exit 1; }
@@ -102,8 +87,8 @@ case ${1:-} in
     if [ $# -gt 0 ]; then
         try_edits "$crate" "$@"
     else
-        try_edits "$crate" "crates/$crate"/must-fail/*.edit
-        python3 tools/check_refusals.py "$crate"
+        try_edits "$crate" "crates/$crate"/must-fail/*.edit | tee "$work/all"
+        python3 tools/check_refusals.py --log "$work/all" "$crate"
     fi
     ;;
 esac

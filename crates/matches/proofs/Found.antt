@@ -9,7 +9,7 @@ use borrow.Author.Tests.{ne_eqb, le-leb, lt-leb}
 use Rattle.entry.specs.Entry.{matches}
 use Rattle.theory_tables.specs.Matches.{Match}
 use Rattle.groups.specs.Group.{first_at}
-use Rattle.matches.specs.Search.{hOf, matches_to, any_match, disagrees, contradict, each, number_of, with_others, found_of, first_second}
+use Rattle.matches.specs.Search.{h_of, matches_to, any_match, disagrees, contradict, each, number_of, with_others, found_of, first_second}
 use Rattle.matches.proofs.Agreement.{agree_self}
 use Rattle.matches.proofs.Matches.{entry_at, matches_more, matches_same}
 use Rattle.matches.proofs.Merged.{or_false, any_append}
@@ -18,7 +18,7 @@ use Rattle.matches.proofs.Merged.{or_false, any_append}
 pub number_lt : (m : Match) → number_of m < 16
 number_lt m = go m.secondary
   where
-    go : (b : Bool) → 8 * hOf b + m.entry % 8 < 16
+    go : (b : Bool) → 8 * h_of b + m.entry % 8 < 16
     go true = omega arith
     go false = omega arith
 
@@ -88,7 +88,7 @@ module _ (m : Match) (ms : List Match) (found : ℕ) (e : found ≡ found_of (m 
   pub found_secondary : leb 8 (found % 16) ≡ m.secondary
   found_secondary = ap (leb 8) found_number ∙ go m.secondary
     where
-      go : (b : Bool) → leb 8 (8 * hOf b + m.entry % 8) ≡ b
+      go : (b : Bool) → leb 8 (8 * h_of b + m.entry % 8) ≡ b
       go true = le-leb 8 (8 * 1 + m.entry % 8) (omega arith)
       go false = lt-leb 8 (8 * 0 + m.entry % 8) (omega arith)
 
@@ -146,7 +146,7 @@ pub second_stays : (ms more : List Match) (m : Match) (others : List Match) → 
 second_stays ms more m others e = ap (λ (l : List Match). first_second (l ++ more)) e
 
 -- one entry more: a test of the matches up to it
-any_more : (test : Match → Bool) (secondary : Bool) (vsid api : ℕ) (group : List ℕ) (n : ℕ) (same : Bool) → same ≡ matches vsid (hOf secondary) api (first_at group n)
+any_more : (test : Match → Bool) (secondary : Bool) (vsid api : ℕ) (group : List ℕ) (n : ℕ) (same : Bool) → same ≡ matches vsid (h_of secondary) api (first_at group n)
     → any_match test (matches_to secondary vsid api group (n + 1)) ≡ (any_match test (matches_to secondary vsid api group n) || (same && test (entry_at secondary group n)))
 any_more test secondary vsid api group n true e =
     ap (any_match test) (matches_more secondary vsid api group n (sym e))
@@ -157,7 +157,7 @@ any_more test secondary vsid api group n false e =
 
 -- the same of the last of some entries
 pub last_more : (test : Match → Bool) (secondary : Bool) (vsid api : ℕ) (group : List ℕ) (entries : ℕ) → (entries ≡ 0 → ⊥) → (same : Bool)
-    → same ≡ matches vsid (hOf secondary) api (first_at group (entries - 1))
+    → same ≡ matches vsid (h_of secondary) api (first_at group (entries - 1))
     → any_match test (matches_to secondary vsid api group entries)
     ≡ (any_match test (matches_to secondary vsid api group (entries - 1)) || (same && test (entry_at secondary group (entries - 1))))
 last_more test secondary vsid api group entries some same e =

@@ -9,20 +9,20 @@ use Rattle.groups.specs.Group.{first_at, second_at, free_after}
 use Rattle.matches.specs.declared.Told.{Told}
 
 -- H of an entry: 0 in the primary group (false), 1 in the secondary (true)
-abbrev pub hOf : Bool → ℕ
-hOf secondary = cond secondary 1 0
+abbrev pub h_of : Bool → ℕ
+h_of secondary = cond secondary 1 0
 
 -- the word that the first words of a group's entries are compared with: V = 1, VSID, H and API packed, its bytes reversed as the machine reads them
 abbrev pub WantedWord : Bool → ℕ → ℕ → ℕ → Type 0
-WantedWord secondary vsid api wanted = (vsid < 2 ^ 24) × (api < 2 ^ 6) × (wanted ≡ swapped (first_word 1 vsid (hOf secondary) api))
+WantedWord secondary vsid api wanted = (vsid < 2 ^ 24) × (api < 2 ^ 6) × (wanted ≡ swapped (first_word 1 vsid (h_of secondary) api))
 
 -- the matches among the first n entries of a group of H = 0 (false) or H = 1 (true), in order
 abbrev pub matches_to : Bool → ℕ → ℕ → List ℕ → ℕ → List Match
-matches_to secondary vsid api group n = matches_below (matches vsid (hOf secondary) api) (first_at group) (second_at group) secondary n
+matches_to secondary vsid api group n = matches_below (matches vsid (h_of secondary) api) (first_at group) (second_at group) secondary n
 
 -- the matches in the 64 bytes of a page's primary (false) or secondary (true) group, in order
 unfoldable pub group_matches : Bool → ℕ → ℕ → List ℕ → List Match
-group_matches secondary vsid api group = matches_below (matches vsid (hOf secondary) api) (first_at group) (second_at group) secondary group_entries
+group_matches secondary vsid api group = matches_below (matches vsid (h_of secondary) api) (first_at group) (second_at group) secondary group_entries
 
 -- the matches in search order: primary entries 0 to 7, then secondary, given the bytes of both groups
 unfoldable pub pair_matches : ℕ → ℕ → List ℕ → List ℕ → List Match
@@ -58,7 +58,7 @@ each m = true
 
 -- the number of a match in search order: primary entries 0 to 7, then secondary entries 8 to 15
 abbrev pub number_of : Match → ℕ
-number_of m = group_entries * hOf m.secondary + m.entry % group_entries
+number_of m = group_entries * h_of m.secondary + m.entry % group_entries
 
 -- the first match by its number where there are others: 32 is added where they agree with it, 64 where one does not
 abbrev pub with_others : Match → List Match → ℕ

@@ -5,7 +5,7 @@ ghost use Rattle.std.specs.Prelude.{◌≡◌, Bool, false, List, [], ◌∷◌,
 ghost use Rattle.numbers.specs.Numbers.{group_size, group_entries};
 ghost use Rattle.theory_tables.specs.Matches.{Match};
 ghost use Rattle.groups.specs.Group.{group_of, free_after};
-ghost use Rattle.matches.specs.Search.{hOf, matches_to, disagrees, contradict, with_others, found_of, told, in_primary, in_both};
+ghost use Rattle.matches.specs.Search.{h_of, matches_to, disagrees, contradict, with_others, found_of, told, in_primary, in_both};
 ghost use Rattle.matches.specs.Search.{WantedWord, group_matches, agree, any_match, each};
 
 // Whether the second words of two matches agree: RPN, WIMG and PP are equal. R, C and the ignored bits may differ.
@@ -112,7 +112,7 @@ fn with_others(group: &[u8], wanted: u32, found: usize, second: u32) -> usize
 // The one search of a group: its matches and its free entries, behind what was told before. `from` is the number of its entry 0 in search order.
 pub fn search(group: &[u8], from: usize, wanted: u32, before: Told) -> Told
     requires { (length group.now ≡ group_size) × (from ≤ group_entries) }
-    ensures { (secondary : Bool) (vsid api : ℕ) (ms : List Match) (free : ℕ) → WantedWord secondary vsid api wanted → from ≡ group_entries * hOf secondary
+    ensures { (secondary : Bool) (vsid api : ℕ) (ms : List Match) (free : ℕ) → WantedWord secondary vsid api wanted → from ≡ group_entries * h_of secondary
         → free < 2 ^ group_entries → before ≡ told ms free
         → result ≡ told (ms ++ group_matches secondary vsid api group.now) (free_after free group.now) }
 {

@@ -31,7 +31,7 @@ use Rattle.groups.specs.declared.Place.TheVariants.{Entry}
 use Rattle.groups.proofs.Free.{PlaceCase, in_primary_law, in_secondary_law, nowhere, place_case}
 use Rattle.groups.proofs.Hash.{group_lt, own_groups_differ, within_table}
 use Rattle.theory_tables.specs.Matches.{Match}
-use Rattle.matches.specs.Search.{hOf, WantedWord, pair_matches, any_match, each, marks_of, merged, contradict, told, in_primary, in_both}
+use Rattle.matches.specs.Search.{h_of, WantedWord, pair_matches, any_match, each, marks_of, merged, contradict, told, in_primary, in_both}
 use Rattle.matches.specs.declared.Told.{Told}
 use Rattle.matches.proofs.Merged.{alone, merged_one}
 use Rattle.match_edits.specs.Edit.{edit_at, edit_pair}
@@ -125,7 +125,7 @@ module _ (sdr1 : ℕ) (page : Page) (t : List ℕ) (l : Located) where
 
     -- an entry written by the group that was located and by its first word is the page's
     pub placed_is : (b : Bool) (i g first second word : ℕ) (u : List ℕ) → g ≡ cond b l.secondary l.primary
-        → first ≡ first_word 1 page.vsid (hOf b) (api_of page.index) → second ≡ word → u ≡ put_at t g i first second
+        → first ≡ first_word 1 page.vsid (h_of b) (api_of page.index) → second ≡ word → u ≡ put_at t g i first second
         → u ≡ put_at t (group_number (10 + k) b page) i (entry_word b page) word
     unfolding entry_word
     placed_is b i g first second word u qg qf qs q = q ∙ rw (group_is_law b g qg, qf, qs)

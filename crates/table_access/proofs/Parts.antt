@@ -19,7 +19,7 @@ use Rattle.groups.specs.Page.{Page, InRange}
 use Rattle.groups.specs.Hash.{group_number, TableOf}
 use Rattle.groups.specs.Group.{first_of, put_at}
 use Rattle.groups.proofs.Stored.{words_fit}
-use Rattle.matches.specs.Search.{hOf}
+use Rattle.matches.specs.Search.{h_of}
 use Rattle.theory_tables.specs.Matches.{Match}
 use Rattle.theory_tables.specs.Layout.{matches_of, overwrite}
 use Rattle.theory_tables.proofs.Groups.{MatchOf, members_of}
@@ -109,10 +109,10 @@ module _ (k kind : ℕ) (wanted : Wanted) (u : List ℕ) (good : GoodTable k u) 
   -- its first word has the page's VSID
   vsid_is : bits 1 24 x.first ≡ wanted.vsid
   vsid_is =
-      (matched wanted.vsid (hOf x.secondary) (api_of wanted.index) x.first valid.vsid_lt (h_lt x.secondary) (api_lt wanted.index valid.index_lt)
+      (matched wanted.vsid (h_of x.secondary) (api_of wanted.index) x.first valid.vsid_lt (h_lt x.secondary) (api_lt wanted.index valid.index_lt)
       own.passes).has_vsid
     where
-      h_lt : (b : Bool) → hOf b < 2 ^ 1
+      h_lt : (b : Bool) → h_of b < 2 ^ 1
       h_lt true = lit< tt
       h_lt false = lit< tt
 

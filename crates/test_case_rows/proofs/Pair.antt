@@ -19,7 +19,7 @@ use Rattle.register_words.proofs.Sdr1.{made_ones, made_length}
 use Rattle.groups.specs.Page.{Page}
 use Rattle.groups.specs.Hash.{group_number}
 use Rattle.groups.specs.Group.{group_of, first_at, second_at, first_of, second_of, put_entry, put_at}
-use Rattle.matches.specs.Search.{hOf, contradict, merged}
+use Rattle.matches.specs.Search.{h_of, contradict, merged}
 use Rattle.groups.proofs.Hash.{within_bytes}
 use Rattle.groups.proofs.Stored.{stored_length, stored_group, stored_other_group}
 use Rattle.theory_tables.specs.Matches.{Match}
@@ -51,10 +51,10 @@ Pair = List ℕ × List ℕ
 -- a table of just these: group 0, the primary, and group 1
 abbrev pub pair_layout : Layout Page Pair
 pair_layout = record {
-  group = λ secondary page. hOf secondary;
+  group = λ secondary page. h_of secondary;
   half = 1;
   capacity = 8;
-  matching = λ secondary page first. matches page.vsid (hOf secondary) (api_of page.index) first;
+  matching = λ secondary page first. matches page.vsid (h_of secondary) (api_of page.index) first;
   free = free;
   first = λ x g i. first_at (cond (eqb g 0) x.0 x.1) i;
   second = λ x g i. second_at (cond (eqb g 0) x.0 x.1) i;
@@ -79,7 +79,7 @@ pair_do (clear c) x = zeros
 pair_do (map_page c) x =
     by_matches (matches_of pair_layout x c.page)
     (by_option (free_place pair_layout x c.page) x
-    (λ place. pair_layout.put x (hOf place.0) place.1 (entry_word place.0 c.page) (second_word c.rpn 0 0 c.wimg c.pp)))
+    (λ place. pair_layout.put x (h_of place.0) place.1 (entry_word place.0 c.page) (second_word c.rpn 0 0 c.wimg c.pp)))
     (λ m ms. x)
 pair_do (unmap c) x = overwrite_each pair_layout c.page (λ m. (0, 0)) (matches_of pair_layout x c.page) x
 pair_do (protect c) x = overwrite_each pair_layout c.page (λ m. (m.first, with_pp c.pp m.second)) (matches_of pair_layout x c.page) x
@@ -172,7 +172,7 @@ module _ (k p s : ℕ) where
       same_place t = rw (p_is, s_is)
 
       put_shows : (t : List ℕ) → length t ≡ 65536 * 2 ^ k → (b : Bool) (i u v : ℕ)
-          → Shows (put_at t (group_number (10 + k) b page) i u v) (pair_layout.put (pair_of t) (hOf b) i u v)
+          → Shows (put_at t (group_number (10 + k) b page) i u v) (pair_layout.put (pair_of t) (h_of b) i u v)
       put_shows t long false i u v =
           let inside : 64 * p + 64 ≤ length t = rw long p_within in
           rw p_is
@@ -228,7 +228,7 @@ module _ (k p s : ℕ) where
               (by_matches ms (by_option free (ended 9 t [])
               (λ place. ended 0 (put_at t (group_number (10 + k) place.0 c.page) place.1 (first place.0) second) []))
               (λ m rest. ended 7 t [])).state
-              (by_matches ms (by_option free (pair_of t) (λ place. pair_layout.put (pair_of t) (hOf place.0) place.1 (first place.0) second)) (λ m rest. pair_of t))
+              (by_matches ms (by_option free (pair_of t) (λ place. pair_layout.put (pair_of t) (h_of place.0) place.1 (first place.0) second)) (λ m rest. pair_of t))
           go [] none = stays
           go [] (some place) = put_shows c.page own t long place.0 place.1 (first place.0) second
           go (m ∷ ms) free = stays

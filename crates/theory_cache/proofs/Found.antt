@@ -11,7 +11,7 @@ use Rattle.entry.proofs.Addresses.{api_lt}
 use Rattle.entry.proofs.Matches.{matched}
 use Rattle.entry.proofs.Packing.{FirstFields}
 use Rattle.groups.specs.Page.{Page, InRange}
-use Rattle.matches.specs.Search.{hOf, contradict}
+use Rattle.matches.specs.Search.{h_of, contradict}
 use Rattle.theory_tables.specs.Matches.{Match}
 use Rattle.theory_tables.specs.Layout.{matches_of}
 use Rattle.theory_tables.proofs.Groups.{MatchOf}
@@ -83,6 +83,6 @@ module _ (k kind : ℕ) (u : List ℕ) (fine : GoodTable k u) (wanted : Wanted) 
       ∙ overwrite_first (layout_laws k) u page fine found.x found.xs now.first now.second found.are first second here.passes
 
   -- its first word has V and the page's VSID
-  pub now_fields : InRange page → FirstFields 1 page.vsid (hOf now.secondary) (api_of page.index) now.first
+  pub now_fields : InRange page → FirstFields 1 page.vsid (h_of now.secondary) (api_of page.index) now.first
   now_fields valid =
-      matched page.vsid (hOf now.secondary) (api_of page.index) now.first valid.vsid_lt (one_if_lt now.secondary) (api_lt page.index valid.index_lt) here.passes
+      matched page.vsid (h_of now.secondary) (api_of page.index) now.first valid.vsid_lt (one_if_lt now.secondary) (api_lt page.index valid.index_lt) here.passes

@@ -15,7 +15,7 @@ use Rattle.groups.specs.Page.{InRange}
 use Rattle.groups.specs.Hash.{group_number}
 use Rattle.groups.specs.Group.{first_of, second_of, put_at}
 use Rattle.groups.proofs.Stored.{stored_own}
-use Rattle.matches.specs.Search.{hOf, agree}
+use Rattle.matches.specs.Search.{h_of, agree}
 use Rattle.theory_tables.specs.Layout.{overwrite}
 use Rattle.theory_tables.specs.Matches.{Match}
 use Rattle.protection.specs.Access.{fetching, storing}
@@ -73,10 +73,10 @@ module _ (k : ℕ) (t : List ℕ) (wanted : Wanted) (first second : ℕ) (b : Ba
   pub group_is_law : InRange (wanted_page wanted) → eqb (bits 25 25 first) 1 ≡ b.x.secondary
   group_is_law valid =
       let m = own_match k 0 wanted t b.x b.xs b.are in
-      let f = matched wanted.vsid (hOf b.x.secondary) (api_of wanted.index) b.x.first valid.vsid_lt (one_if_lt b.x.secondary) (api_lt wanted.index valid.index_lt) m.passes in
+      let f = matched wanted.vsid (h_of b.x.secondary) (api_of wanted.index) b.x.first valid.vsid_lt (one_if_lt b.x.secondary) (api_lt wanted.index valid.index_lt) m.passes in
       ap (λ (w : ℕ). eqb (bits 25 25 w) 1) (sym b.word) ∙ ap (λ (h : ℕ). eqb h 1) f.has_h ∙ own b.x.secondary
     where
-      own : (s : Bool) → eqb (hOf s) 1 ≡ s
+      own : (s : Bool) → eqb (h_of s) 1 ≡ s
       own true = refl
       own false = refl
 

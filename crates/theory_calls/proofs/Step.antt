@@ -16,7 +16,7 @@ use Rattle.entry.proofs.Addresses.{api_lt}
 use Rattle.entry.proofs.Matches.{match_own, free_zero}
 use Rattle.entry.proofs.Packing.{first_lt}
 use Rattle.groups.specs.Page.{Page, InRange, same_page}
-use Rattle.matches.specs.Search.{hOf, contradict}
+use Rattle.matches.specs.Search.{h_of, contradict}
 use Rattle.theory_tables.specs.Layout.{matches_of, free_place, overwrite_each}
 use Rattle.theory_tables.proofs.Represented.{OneMatch, unmapped_matches, mapped_match, full_branch, free_branch}
 use Rattle.theory_tables.proofs.Steps.{represents_put_in, represents_take_out, represents_revise, represents_revise_first}
@@ -59,11 +59,11 @@ by_cases (some a) missing found = found a refl
 module _ (b : Bool) (page : Page) (valid : InRange page) where
   pub own_matches : (k : ℕ) → (layout k).matching b page (entry_word b page) ≡ true
   unfolding entry_word
-  own_matches k = match_own page.vsid (hOf b) (api_of page.index)
+  own_matches k = match_own page.vsid (h_of b) (api_of page.index)
 
   pub own_fits : Word (entry_word b page)
   unfolding entry_word
-  own_fits = first_lt 1 page.vsid (hOf b) (api_of page.index) (lit< tt) valid.vsid_lt (one_if_lt b) (api_lt page.index valid.index_lt)
+  own_fits = first_lt 1 page.vsid (h_of b) (api_of page.index) (lit< tt) valid.vsid_lt (one_if_lt b) (api_lt page.index valid.index_lt)
 
 module _ (k : ℕ) (t : List ℕ) (m : Map) (r : TableRepresents k t m) where
   clear_step : (c : ClearCall) → Alike k (clear c) (bytes_do k (clear c) t) (map_does k (clear c) m)

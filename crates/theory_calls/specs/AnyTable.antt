@@ -15,7 +15,7 @@ use Rattle.protection.specs.Protection.{page_allows, guarded}
 use Rattle.groups.specs.Page.{Page}
 use Rattle.groups.specs.Hash.{group_number}
 use Rattle.groups.specs.Group.{first_of, second_of}
-use Rattle.matches.specs.Search.{hOf, agree}
+use Rattle.matches.specs.Search.{h_of, agree}
 use Rattle.translation.specs.Steps.{segment_at, before_search, after_search, answer_of}
 use Rattle.translation.specs.Decision.{decided}
 use Rattle.translation.specs.Operand.{over_edge, part_start, stopped, within}
@@ -40,7 +40,7 @@ SameEntry t u g i = (first_of u g i ≡ first_of t g i) × (second_of u g i ≡ 
 
 -- a place among a page's sixteen in search order: primary entries 0 to 7, then secondary
 abbrev pub in_order : Bool → ℕ → ℕ
-in_order b i = group_entries * hOf b + i
+in_order b i = group_entries * h_of b + i
 
 -- the number of a page's primary (false) or secondary (true) group, for a mask of k ones
 abbrev pub group_at : ℕ → Page → Bool → ℕ
@@ -56,7 +56,7 @@ module _ (k : ℕ) (t : List ℕ) (page : Page) where
 
   -- entry i of the group is a match
   abbrev pub Matching : Bool → ℕ → Type 0
-  Matching b i = (i < group_entries) × (matches page.vsid (hOf b) (api_of page.index) (first_here b i) ≡ true)
+  Matching b i = (i < group_entries) × (matches page.vsid (h_of b) (api_of page.index) (first_here b i) ≡ true)
 
   abbrev pub SomeMatch : Type 0
   SomeMatch = (b : Bool) × (i : ℕ) × Matching b i
@@ -123,7 +123,7 @@ module _ (c : MapCall) (t : List ℕ) where
     pub refused_7 : (mapped.number ≡ refused_mapped) ↔ SomeMatch k t c.page
     pub refused_9 : (mapped.number ≡ refused_full) ↔ ((SomeMatch k t c.page → ⊥) × ((b : Bool) (i : ℕ) → Free k t c.page b i → ⊥))
     pub entered : mapped.number ≡ done → (b : Bool) (i : ℕ) → FirstFree k t c.page b i
-        → (first_of mapped.state (group_at k c.page b) i ≡ first_word 1 c.page.vsid (hOf b) (api_of c.page.index))
+        → (first_of mapped.state (group_at k c.page b) i ≡ first_word 1 c.page.vsid (h_of b) (api_of c.page.index))
         × (second_of mapped.state (group_at k c.page b) i ≡ second_word c.rpn 0 0 c.wimg c.pp)
     pub others : mapped.number ≡ done → (b : Bool) (i : ℕ) → FirstFree k t c.page b i → AllButKept k t c.page b i mapped.state
 

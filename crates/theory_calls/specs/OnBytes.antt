@@ -9,7 +9,7 @@ use Rattle.registers.specs.Set.{block_pairs, register_words}
 use Rattle.groups.specs.Page.{Page}
 use Rattle.groups.specs.Hash.{group_number}
 use Rattle.groups.specs.Group.{first_of, second_of, put_at}
-use Rattle.matches.specs.Search.{hOf, contradict, merged}
+use Rattle.matches.specs.Search.{h_of, contradict, merged}
 use Rattle.theory_tables.specs.Matches.{Match}
 use Rattle.theory_tables.specs.Layout.{Layout, matches_of, free_place, overwrite, overwrite_each}
 use Rattle.protection.specs.Access.{storing}
@@ -35,7 +35,7 @@ layout k = record {
   group = group_number (10 + k);
   half = 2 ^ (9 + k);
   capacity = group_entries;
-  matching = λ secondary page first. matches page.vsid (hOf secondary) (api_of page.index) first;
+  matching = λ secondary page first. matches page.vsid (h_of secondary) (api_of page.index) first;
   free = free;
   first = first_of;
   second = second_of;
@@ -63,7 +63,7 @@ by_option (some a) missing found = found a
 
 -- the first word of a page's entry in its primary or its secondary group
 unfoldable pub entry_word : Bool → Page → ℕ
-entry_word secondary page = first_word 1 page.vsid (hOf secondary) (api_of page.index)
+entry_word secondary page = first_word 1 page.vsid (h_of secondary) (api_of page.index)
 
 -- the address of the first byte of an operand's first part (false) or second (true)
 abbrev pub start_of : {A : Type 0} → AccessCall A → Bool → ℕ

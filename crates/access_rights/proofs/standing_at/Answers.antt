@@ -25,8 +25,8 @@ use Rattle.access_rights.proofs.standing_at.Goals.{After-wanted_of-wanted, After
 
 -- the page that is searched for
 module _ (c : After-wanted_of-wanted) where
-  wanted-is : c.wanted_of-wanted.result ≡ wanted_of (user_mode c.args.mode) (segment_at (set_words c.args.registers.now) c.args.address) c.args.address
-  wanted-is =
+  wanted_is : c.wanted_of-wanted.result ≡ wanted_of (user_mode c.args.mode) (segment_at (set_words c.args.registers.now) c.args.address) c.args.address
+  wanted_is =
       let a = c.args in
       c.wanted_of-wanted.ensures
       ∙ ap₂ (λ (user : Bool) (segment : ℕ). wanted_of user segment a.address) c.user_mode-user.ensures
@@ -38,25 +38,25 @@ module _ (c : After-wanted_of-wanted) where
   in_range_law =
       let a = c.args in
       let own : (user : Bool) (segment : ℕ) → InRange (wanted_page (wanted_of user segment a.address)) = λ user segment. record { vsid_lt = omega arith; index_lt = index_lt a.address } in
-      subst (λ (w : Wanted). InRange (wanted_page w)) (sym wanted-is) (own (user_mode a.mode) (segment_at (set_words a.registers.now) a.address))
+      subst (λ (w : Wanted). InRange (wanted_page w)) (sym wanted_is) (own (user_mode a.mode) (segment_at (set_words a.registers.now) a.address))
 
-  some-table : SomeTable (length c.args.table.now)
-  some-table = (sdr1_of (set_words c.args.registers.now), c.requires.1)
+  some_table : SomeTable (length c.args.table.now)
+  some_table = (sdr1_of (set_words c.args.registers.now), c.requires.1)
 
 pub locate-page-requires : goal.locate-page-requires
 locate-page-requires c =
     let w = (goal.at.locate-page-requires c).After-wanted_of-wanted in
-    locatable _ (wanted_page c.wanted_of-wanted.result) (some-table w) (in_range_law w)
+    locatable _ (wanted_page c.wanted_of-wanted.result) (some_table w) (in_range_law w)
 
 pub in_primary-primary-requires : goal.in_primary-primary-requires
 in_primary-primary-requires c =
     let w = (goal.at.in_primary-primary-requires c).After-wanted_of-wanted in
-    primary_asked _ c.args.table.now _ (some-table w) (in_range_law w) c.locate-page.ensures
+    primary_asked _ c.args.table.now _ (some_table w) (in_range_law w) c.locate-page.ensures
 
 pub in_secondary-told-requires : goal.in_secondary-told-requires
 in_secondary-told-requires c =
     let w = (goal.at.in_secondary-told-requires c).After-wanted_of-wanted in
-    secondary_asked _ c.args.table.now _ (some-table w) (in_range_law w) c.locate-page.ensures
+    secondary_asked _ c.args.table.now _ (some_table w) (in_range_law w) c.locate-page.ensures
 
 -- what the search told of the page
 told_of : (c : After-in_secondary-told) → InRange (wanted_page c.wanted_of-wanted.result)
@@ -81,4 +81,4 @@ returns c =
     ap₂ (λ (i d : ℕ). stand i d c.found_in.result) (c.covering_pair.ensures ∙ ap (pair false) c.user_mode-user.ensures) (c.covering_pair-2.ensures ∙ ap (pair true) c.user_mode-user.ensures)
     ∙ ap (stand (pair false (user_mode a.mode)) (pair true (user_mode a.mode)))
     (c.found_in.ensures (sdr1_of words) a.table.now c.wanted_of-wanted.result (told_of at.After-in_secondary-told (in_range_law at.After-wanted_of-wanted))
-    ∙ ap (table_found k a.table.now) (wanted-is at.After-wanted_of-wanted))
+    ∙ ap (table_found k a.table.now) (wanted_is at.After-wanted_of-wanted))

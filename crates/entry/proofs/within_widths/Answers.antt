@@ -14,26 +14,26 @@ use Rattle.entry.proofs.Widths.{within, widths}
 use Rattle.entry.proofs.within_widths.Goals as goal
 
 -- each of two numbers is at most what they are together
-each-lt : (a b n : ℕ) → bit_or a b < n → (a < n) × (b < n)
-each-lt a b n l = (omega (arith, l, or_add_and a b, and_le_r a b), omega (arith, l, or_add_and a b, and_le_l a b))
+each_lt : (a b n : ℕ) → bit_or a b < n → (a < n) × (b < n)
+each_lt a b n l = (omega (arith, l, or_add_and a b, and_le_r a b), omega (arith, l, or_add_and a b, and_le_l a b))
 
 module _ (f : Fields) where
   abbrev bits : ℕ
   bits = bit_or (bit_or (bit_or f.v f.h) f.r) f.c
 
-  bits-lt : Within f → bits < 2 ^ 1
-  bits-lt w = or_lt 1 _ f.c (or_lt 1 _ f.r (or_lt 1 f.v f.h w.v w.h) w.r) w.c
+  bits_lt : Within f → bits < 2 ^ 1
+  bits_lt w = or_lt 1 _ f.c (or_lt 1 _ f.r (or_lt 1 f.v f.h w.v w.h) w.r) w.c
 
-  tests-within : ltb bits 2 && ltb f.vsid (2 ^ 24) && ltb f.api (2 ^ 6) && ltb f.rpn (2 ^ 20) && ltb f.wimg (2 ^ 4) && ltb f.pp (2 ^ 2) ≡ true → Within f
-  tests-within e₅ =
+  tests_within : ltb bits 2 && ltb f.vsid (2 ^ 24) && ltb f.api (2 ^ 6) && ltb f.rpn (2 ^ 20) && ltb f.wimg (2 ^ 4) && ltb f.pp (2 ^ 2) ≡ true → Within f
+  tests_within e₅ =
       let (e₄, pp) = both _ _ e₅ in
       let (e₃, wimg) = both _ _ e₄ in
       let (e₂, rpn) = both _ _ e₃ in
       let (e₁, api) = both _ _ e₂ in
       let (one, vsid) = both _ _ e₁ in
-      let (vhr, c) = each-lt (bit_or (bit_or f.v f.h) f.r) f.c 2 (ltb-true _ _ one) in
-      let (vh, r) = each-lt (bit_or f.v f.h) f.r 2 vhr in
-      let (v, h) = each-lt f.v f.h 2 vh in
+      let (vhr, c) = each_lt (bit_or (bit_or f.v f.h) f.r) f.c 2 (ltb-true _ _ one) in
+      let (vh, r) = each_lt (bit_or f.v f.h) f.r 2 vhr in
+      let (v, h) = each_lt f.v f.h 2 vh in
       record {
         v = v;
         vsid = ltb-true _ _ vsid;
@@ -46,11 +46,11 @@ module _ (f : Fields) where
         pp = ltb-true _ _ pp;
       }
 
-  within-tests : Within f → ltb bits 2 && ltb f.vsid (2 ^ 24) && ltb f.api (2 ^ 6) && ltb f.rpn (2 ^ 20) && ltb f.wimg (2 ^ 4) && ltb f.pp (2 ^ 2) ≡ true
-  within-tests w =
-      simp (lt-ltb bits 2 (bits-lt w), lt-ltb _ _ w.vsid, lt-ltb _ _ w.api, lt-ltb _ _ w.rpn, lt-ltb _ _ w.wimg, lt-ltb _ _ w.pp)
+  within_tests : Within f → ltb bits 2 && ltb f.vsid (2 ^ 24) && ltb f.api (2 ^ 6) && ltb f.rpn (2 ^ 20) && ltb f.wimg (2 ^ 4) && ltb f.pp (2 ^ 2) ≡ true
+  within_tests w =
+      simp (lt-ltb bits 2 (bits_lt w), lt-ltb _ _ w.vsid, lt-ltb _ _ w.api, lt-ltb _ _ w.rpn, lt-ltb _ _ w.wimg, lt-ltb _ _ w.pp)
 
 pub returns : goal.returns
 returns c =
     let f = c.args.f in
-    same_test _ (within_widths f) (λ e. widths f (tests-within f e)) (λ e. within-tests f (within f e))
+    same_test _ (within_widths f) (λ e. widths f (tests_within f e)) (λ e. within_tests f (within f e))

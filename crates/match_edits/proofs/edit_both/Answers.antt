@@ -16,10 +16,10 @@ use Rattle.match_edits.proofs.Edits.{length_edit_matches}
 use Rattle.match_edits.proofs.edit_both.Goals as goal
 
 -- the edit of one group leaves another
-other-stays : (edit : Edit) (vsid api : ℕ) (t : List ℕ) (p s : ℕ) → 64 * p + 64 ≤ length t → (p ≡ s → ⊥)
+other_stays : (edit : Edit) (vsid api : ℕ) (t : List ℕ) (p s : ℕ) → 64 * p + 64 ≤ length t → (p ≡ s → ⊥)
     → group_of (on_group t p (edit_matches edit false vsid api)) s ≡ group_of t s
 unfolding on_group
-other-stays edit vsid api t p s inside apart =
+other_stays edit vsid api t p s inside apart =
     group_other t p (edit_matches edit false vsid api (group_of t p)) inside (length_edit_matches edit false vsid api (group_of t p) ∙ length_group t p inside) s (λ e. apart (sym e))
 
 pub returns : goal.returns
@@ -36,7 +36,7 @@ returns c vsid api wants =
       back_on _ s (edit_matches a.edit true vsid api) _ further.0 ∙ ap (λ (u : List ℕ). on_group u s (edit_matches a.edit true vsid api)) first,
       further.1
           ∙ ap₂ marks_of
-          (ap (matching true) (lent_group _ s ∙ ap (λ (u : List ℕ). group_of u s) first ∙ other-stays a.edit vsid api t p s c.requires.1 c.requires.3))
+          (ap (matching true) (lent_group _ s ∙ ap (λ (u : List ℕ). group_of u s) first ∙ other_stays a.edit vsid api t p s c.requires.1 c.requires.3))
           (own.1 ∙ ap (λ (group : List ℕ). marks_of (matching false group) a.second) (lent_group t p))
           ∙ sym (marks_append (matching false (group_of t p)) (matching true (group_of t s)) a.second),
     )

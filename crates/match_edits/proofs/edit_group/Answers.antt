@@ -13,7 +13,7 @@ use Rattle.entry.specs.Entry.{matches}
 use Rattle.theory_tables.specs.Matches.{Match, matches_below}
 use Rattle.groups.specs.Group.{first_at, second_at, put_entry}
 use Rattle.groups.proofs.Entries.{length_entry}
-use Rattle.matches.specs.Search.{hOf, WantedWord, matches_to, group_matches, marks_of}
+use Rattle.matches.specs.Search.{h_of, WantedWord, matches_to, group_matches, marks_of}
 use Rattle.matches.proofs.Matches.{wanted_matches, entry_at, matches_more, matches_same}
 use Rattle.matches.proofs.Merged.{marks_none, marks_more}
 use Rattle.match_edits.specs.Edit.{edited_words, edited, edit_each, edit_matches}
@@ -34,9 +34,9 @@ module _ (edit : Edit) (start : List ℕ) (wanted i : ℕ) (group : List ℕ) (t
 
   -- the test is whether entry i matches
   tested : (word_at group (8 * i) < 2 ^ 32) × ((w : ℕ) → w < 2 ^ 32 → wanted ≡ swapped w → test ≡ eqb (word_at group (8 * i)) w)
-      → test ≡ matches vsid (hOf secondary) api (first_at start i)
+      → test ≡ matches vsid (h_of secondary) api (first_at start i)
   unfolding first_at
-  tested is = wanted_matches secondary vsid api _ _ _ wants is ∙ ap (matches vsid (hOf secondary) api) kept.0
+  tested is = wanted_matches secondary vsid api _ _ _ wants is ∙ ap (matches vsid (h_of secondary) api) kept.0
 
 pub loop-i-preserved : goal.loop-i-preserved
 unfolding first_at second_at edited

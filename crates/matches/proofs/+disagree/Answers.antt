@@ -6,7 +6,7 @@ use native.Mathlib.Omega.{arith}
 use Rattle.entry.specs.Entry.{matches}
 use Rattle.theory_tables.specs.Matches.{matches_below}
 use Rattle.groups.specs.Group.{first_at, second_at}
-use Rattle.matches.specs.Search.{hOf, agree, any_match, disagrees, matches_to}
+use Rattle.matches.specs.Search.{h_of, agree, any_match, disagrees, matches_to}
 use Rattle.matches.proofs.Matches.{entry_at, wanted_matches}
 use Rattle.matches.proofs.Found.{last_more}
 use Prim.Native.Nat.{ℕ, ◌-◌}
@@ -27,7 +27,7 @@ returns-then-disagree t c secondary vsid api wants =
     let last = a.entries - 1 in
     let test = disagrees a.second in
     sym (last_more test secondary vsid api a.group.now a.entries c.if-entries-eq0.false _ refl
-    ∙ ap (λ (b : Bool). b || (matches vsid (hOf secondary) api (first_at a.group.now last) && test (entry_at secondary a.group.now last)))
+    ∙ ap (λ (b : Bool). b || (matches vsid (h_of secondary) api (first_at a.group.now last) && test (entry_at secondary a.group.now last)))
     (sym (c.disagree.ensures secondary vsid api wants) ∙ c.if-disagree.true))
 
 pub returns : goal.returns

@@ -7,7 +7,7 @@ use native.Mathlib.Omega.{arith}
 use Rattle.entry.specs.Entry.{matches}
 use Rattle.theory_tables.specs.Matches.{Match, matches_below}
 use Rattle.groups.specs.Group.{first_at, second_at, free_after}
-use Rattle.matches.specs.Search.{hOf, matches_to, group_matches, number_of, with_others, found_of, first_second, told}
+use Rattle.matches.specs.Search.{h_of, matches_to, group_matches, number_of, with_others, found_of, first_second, told}
 use Rattle.matches.specs.declared.Told.{Told}
 use Rattle.matches.proofs.Matches.{wanted_matches, entry_at, matches_more, matches_same, matches_extend}
 use Rattle.matches.proofs.Found.{found_nothing, found_first, others_are, second_stays}
@@ -21,7 +21,7 @@ pub loop-i-init : goal.loop-i-init
 unfolding matches_below
 loop-i-init c = (
   omega arith,
-  λ secondary vsid api ms is at was-found was-second. (was-found ∙ ap found_of (sym (append-nil ms)), was-second ∙ ap first_second (sym (append-nil ms))),
+  λ secondary vsid api ms is at was_found was_second. (was_found ∙ ap found_of (sym (append-nil ms)), was_second ∙ ap first_second (sym (append-nil ms))),
 )
 
 -- what is answered, by its parts
@@ -33,13 +33,13 @@ unfolding told
 tells found second free ms mask e f g = rw (e, f, g) refl
 
 -- what was told before, by its parts
-was-found : (before : Told) (ms : List Match) (free : ℕ) → before ≡ told ms free → before.found ≡ found_of ms
+was_found : (before : Told) (ms : List Match) (free : ℕ) → before ≡ told ms free → before.found ≡ found_of ms
 unfolding told
-was-found before ms free e = ap (λ (t : Told). t.found) e
+was_found before ms free e = ap (λ (t : Told). t.found) e
 
-was-second : (before : Told) (ms : List Match) (free : ℕ) → before ≡ told ms free → before.second ≡ first_second ms
+was_second : (before : Told) (ms : List Match) (free : ℕ) → before ≡ told ms free → before.second ≡ first_second ms
 unfolding told
-was-second before ms free e = ap (λ (t : Told). t.second) e
+was_second before ms free e = ap (λ (t : Told). t.second) e
 
 was_free : (before : Told) (ms : List Match) (free : ℕ) → before ≡ told ms free → before.free ≡ free
 unfolding told
@@ -60,8 +60,8 @@ returns-then-found-ne-NONE c secondary vsid api ms free wants at few was =
     let i = c.loop-i.i in
     let to = matches_to secondary vsid api group i in
     let x = entry_at secondary group i in
-    let tested : c.is_word.result ≡ matches vsid (hOf secondary) api (first_at group i) = wanted_matches secondary vsid api _ _ _ wants c.is_word.ensures in
-    let so_far = c.loop-i.invariant.1 secondary vsid api ms wants at (was-found a.before ms free was) (was-second a.before ms free was) in
+    let tested : c.is_word.result ≡ matches vsid (h_of secondary) api (first_at group i) = wanted_matches secondary vsid api _ _ _ wants c.is_word.ensures in
+    let so_far = c.loop-i.invariant.1 secondary vsid api ms wants at (was_found a.before ms free was) (was_second a.before ms free was) in
     let (m, (others, first)) = found_first (ms ++ to) (λ z. c.if-found-ne-NONE.true (so_far.0 ∙ z)) in
     let (rest, more) = matches_extend secondary vsid api group (i + 1) 8 (omega arith) in
     let one = matches_more secondary vsid api group i (sym tested ∙ c.if-is_word.true) in
@@ -88,7 +88,7 @@ loop-i-preserved c =
             let to = matches_to secondary vsid api group i in
             let x = entry_at secondary group i in
             let so_far = c.loop-i.invariant.1 secondary vsid api ms wants at found-was second-was in
-            let tested : c.is_word.result ≡ matches vsid (hOf secondary) api (first_at group i) = wanted_matches secondary vsid api _ _ _ wants c.is_word.ensures in
+            let tested : c.is_word.result ≡ matches vsid (h_of secondary) api (first_at group i) = wanted_matches secondary vsid api _ _ _ wants c.is_word.ensures in
             let none = found_nothing (ms ++ to) (sym so_far.0 ∙ v.if-found-ne-NONE.false) in
             let one = matches_more secondary vsid api group i (sym tested ∙ v.if-is_word.true) in
             let only : ms ++ matches_to secondary vsid api group (i + 1) ≡ x ∷ [] =
@@ -100,7 +100,7 @@ loop-i-preserved c =
         omega arith,
         λ secondary vsid api ms wants at found-was second-was.
             let so_far = c.loop-i.invariant.1 secondary vsid api ms wants at found-was second-was in
-            let tested : c.is_word.result ≡ matches vsid (hOf secondary) api (first_at group i) = wanted_matches secondary vsid api _ _ _ wants c.is_word.ensures in
+            let tested : c.is_word.result ≡ matches vsid (h_of secondary) api (first_at group i) = wanted_matches secondary vsid api _ _ _ wants c.is_word.ensures in
             let same = matches_same secondary vsid api group i (sym tested ∙ v.if-is_word.false) in
             let stays : ms ++ matches_to secondary vsid api group i ≡ ms ++ matches_to secondary vsid api group (i + 1) = sym (ap (λ (ns : List Match). ms ++ ns) same) in
             (v.found-is ∙ so_far.0 ∙ ap found_of stays, v.second-is ∙ so_far.1 ∙ ap first_second stays),
@@ -112,5 +112,5 @@ unfolding group_matches
 returns c secondary vsid api ms free wants at few was =
     let a = c.args in
     let e : c.loop-i.i ≡ 8 = omega arith in
-    let all = rw e at (c.loop-i.invariant.1 secondary vsid api ms wants at (was-found a.before ms free was) (was-second a.before ms free was)) in
+    let all = rw e at (c.loop-i.invariant.1 secondary vsid api ms wants at (was_found a.before ms free was) (was_second a.before ms free was)) in
     tells _ _ _ (ms ++ matches_to secondary vsid api a.group.now 8) _ all.0 all.1 (frees a.before a.group.now _ c.free_after-free.ensures ms free few was)

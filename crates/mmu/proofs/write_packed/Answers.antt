@@ -8,14 +8,14 @@ use Rattle.entry.specs.Entry.{within_widths, packed}
 use Rattle.entry.specs.declared.Fields.{Fields}
 use Rattle.mmu.proofs.write_packed.Goals as goal
 
-refused-zeros : (f : Fields) → ((packed f).0 ≡ 0 → ⊥) → bytes_of ((packed f).1.0 ∷ (packed f).1.1 ∷ []) ≡ bytes_of (0 ∷ 0 ∷ [])
+refused_zeros : (f : Fields) → ((packed f).0 ≡ 0 → ⊥) → bytes_of ((packed f).1.0 ∷ (packed f).1.1 ∷ []) ≡ bytes_of (0 ∷ 0 ∷ [])
 unfolding packed
-refused-zeros f refused = by_test (within_widths f) (λ e. absurd (refused (rw e refl))) (λ e. rw e refl)
+refused_zeros f refused = by_test (within_widths f) (λ e. absurd (refused (rw e refl))) (λ e. rw e refl)
 
 pub returns-then-packed-ne-DONE : goal.returns-then-packed-ne-DONE
 returns-then-packed-ne-DONE c =
     let result = ap (λ (p : ℕ × (ℕ × ℕ)). p.0) c.pack-packed.ensures in
-    (result, c.write_words.ensures ∙ sym (refused-zeros _ (λ z. c.if-packed-ne-DONE.true (result ∙ z))))
+    (result, c.write_words.ensures ∙ sym (refused_zeros _ (λ z. c.if-packed-ne-DONE.true (result ∙ z))))
 
 pub returns : goal.returns
 returns c =

@@ -16,10 +16,10 @@ halves : {size : ℕ} {long : Bool} → PageSize size long → ((size - 68) / 2 
 halves short_size = (refl, refl)
 halves long_size = (refl, refl)
 
-lengths-of : {size : ℕ} {long : Bool} → PageSize size long → (lengths : ℕ)
+lengths_of : {size : ℕ} {long : Bool} → PageSize size long → (lengths : ℕ)
     → ((size - 68) / 2 ≡ 64 → lengths ≡ 0x1FFFC00000000) → (((size - 68) / 2 ≡ 64 → ⊥) → lengths ≡ 0x1FFC00000000) → lengths ≡ bl_place long
-lengths-of short_size lengths is-long is-short = is-short (λ e. omega arith)
-lengths-of long_size lengths is-long is-short = is-long refl
+lengths_of short_size lengths is-long is-short = is-short (λ e. omega arith)
+lengths_of long_size lengths is-long is-short = is-long refl
 
 pub loop-side-init : goal.loop-side-init
 loop-side-init c =
@@ -28,7 +28,7 @@ loop-side-init c =
       omega arith,
       half,
       whole,
-      lengths-of size c.if-half-eq64.lengths
+      lengths_of size c.if-half-eq64.lengths
           (elim c.if-half-eq64.branch [ then-half-eq64 w ↦ (λ e. w.lengths-is) | else-half-eq64 w ↦ (λ e. absurd (w.if-half-eq64.false e)) ])
           (elim c.if-half-eq64.branch [ then-half-eq64 w ↦ (λ n. absurd (n w.if-half-eq64.true)) | else-half-eq64 w ↦ (λ n. w.lengths-is) ]),
       λ right. sides_none c.args.page.now right,
@@ -61,8 +61,8 @@ loop-side-preserved c =
     )
 
 -- both sides were passed
-both-sides : (c : After-loop-side) → SidesSeen c.args.page.now c.requires 2 c.loop-side.good c.loop-side.apart
-both-sides c =
+both_sides : (c : After-loop-side) → SidesSeen c.args.page.now c.requires 2 c.loop-side.good c.loop-side.apart
+both_sides c =
     let l = c.loop-side in
     let two : l.side ≡ 2 = let upto = l.invariant.0 in omega (arith, c.loop-side-test.false) in
     subst (λ (n : ℕ). SidesSeen c.args.page.now c.requires n l.good l.apart) two (l.invariant.4 c.requires)
@@ -70,14 +70,14 @@ both-sides c =
 pub returns-then-not-good : goal.returns-then-not-good
 returns-then-not-good c =
     let l = c.loop-side in
-    sides_wrong _ _ l.good l.apart (both-sides (goal.at.returns-then-not-good c).After-loop-side) c.if-not-good.true
+    sides_wrong _ _ l.good l.apart (both_sides (goal.at.returns-then-not-good c).After-loop-side) c.if-not-good.true
 
 pub returns-then-apart : goal.returns-then-apart
 returns-then-apart c =
     let l = c.loop-side in
-    ap (λ (t : Bool). cond t 0 4) (sym c.if-apart.true) ∙ sides_right _ _ l.good l.apart (both-sides (goal.at.returns-then-apart c).After-loop-side) c.if-not-good.false
+    ap (λ (t : Bool). cond t 0 4) (sym c.if-apart.true) ∙ sides_right _ _ l.good l.apart (both_sides (goal.at.returns-then-apart c).After-loop-side) c.if-not-good.false
 
 pub returns : goal.returns
 returns c =
     let l = c.loop-side in
-    ap (λ (t : Bool). cond t 0 4) (sym c.if-apart.false) ∙ sides_right _ _ l.good l.apart (both-sides (goal.at.returns c).After-loop-side) c.if-not-good.false
+    ap (λ (t : Bool). cond t 0 4) (sym c.if-apart.false) ∙ sides_right _ _ l.good l.apart (both_sides (goal.at.returns c).After-loop-side) c.if-not-good.false

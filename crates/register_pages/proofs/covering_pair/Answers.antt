@@ -20,10 +20,10 @@ own_pair short_size first i whole left l = omega arith
 own_pair long_size first i whole left l = omega arith
 
 -- what the call gave is the test of that pair of the set
-covers-is : (c : After-block_covers) → (c.loop-i.i < block_pairs (is_long (length c.args.page.now)))
+covers_is : (c : After-block_covers) → (c.loop-i.i < block_pairs (is_long (length c.args.page.now)))
     × (c.block_covers.result ≡ pair_covers 8 15 (set_words c.args.page.now) c.args.side c.args.user c.args.address c.loop-i.i)
 unfolding pair_covers
-covers-is c =
+covers_is c =
     let a = c.args in
     let i = c.loop-i.i in
     let size = page_size_law (length a.page.now) c.requires in
@@ -39,13 +39,13 @@ covers-is c =
 pub returns-then-block_covers : goal.returns-then-block_covers
 unfolding covering_pair
 returns-then-block_covers c =
-    let (own, is) = covers-is (goal.at.returns-then-block_covers c).After-block_covers in
+    let (own, is) = covers_is (goal.at.returns-then-block_covers c).After-block_covers in
     let most = pairs_most (is_long (length c.args.page.now)) in
     sym (first_found _ 8 c.loop-i.i (omega arith) (sym is ∙ c.if-block_covers.true) c.loop-i.invariant.1)
 
 pub loop-i-preserved : goal.loop-i-preserved
 loop-i-preserved c =
-    let (own, is) = covers-is (goal.at.loop-i-preserved c).After-block_covers in
+    let (own, is) = covers_is (goal.at.loop-i-preserved c).After-block_covers in
     (omega (arith, c.loop-i-test.true), below_more _ _ c.loop-i.invariant.1 (sym is ∙ c.if-block_covers.false))
 
 pub returns : goal.returns

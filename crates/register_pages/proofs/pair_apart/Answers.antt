@@ -21,8 +21,8 @@ abbrev apart : List ℕ → ℕ → ℕ → Bool
 apart pairs own i = not (clash 15 (upper_at pairs i) own)
 
 -- what the call gave is the test of the pair at hand
-apart-is : (c : After-blocks_clash) → apart c.args.pairs.now c.args.own (c.loop-before.before / 8) ≡ not c.blocks_clash.result
-apart-is c =
+apart_is : (c : After-blocks_clash) → apart c.args.pairs.now c.args.own (c.loop-before.before / 8) ≡ not c.blocks_clash.result
+apart_is c =
     let l = c.loop-before in
     ap not (sym (c.blocks_clash.ensures ∙ ap (λ (w : ℕ). clash 15 w c.args.own) (c.read_word.ensures ∙ ap (word_at c.args.pairs.now) (sym (at_pair l.before l.invariant.1)))))
 
@@ -31,7 +31,7 @@ unfolding apart_from
 returns-then-blocks_clash c =
     let l = c.loop-before in
     every_not (apart c.args.pairs.now c.args.own) (c.args.at / 8) (l.before / 8) (omega (arith, c.loop-before-test.true, c.requires.1, l.invariant.1))
-    (apart-is (goal.at.returns-then-blocks_clash c).After-blocks_clash ∙ ap not c.if-blocks_clash.true)
+    (apart_is (goal.at.returns-then-blocks_clash c).After-blocks_clash ∙ ap not c.if-blocks_clash.true)
 
 pub loop-before-preserved : goal.loop-before-preserved
 unfolding apart_from
@@ -40,7 +40,7 @@ loop-before-preserved c =
     let (upto, whole, before) = l.invariant in (
       omega (arith, c.loop-before-test.true, c.requires.1),
       omega arith,
-      passed_more (apart c.args.pairs.now c.args.own) l.before whole before (apart-is (goal.at.loop-before-preserved c).After-blocks_clash ∙ ap not c.if-blocks_clash.false),
+      passed_more (apart c.args.pairs.now c.args.own) l.before whole before (apart_is (goal.at.loop-before-preserved c).After-blocks_clash ∙ ap not c.if-blocks_clash.false),
     )
 
 pub returns : goal.returns

@@ -30,9 +30,9 @@ loop-at-init c = (omega arith, omega arith, refl, refl)
 pub raw_pair-any-requires : goal.raw_pair-any-requires
 raw_pair-any-requires c = omega (arith, page_least (length c.args.page.now) c.requires)
 
-swapped-lt : (w : ℕ) → swapped w < 2 ^ 32
+swapped_lt : (w : ℕ) → swapped w < 2 ^ 32
 unfolding swapped
-swapped-lt w = omega arith
+swapped_lt w = omega arith
 
 -- T and bits 4 to 7 by one mask
 first_byte : (w : ℕ) → eqb (bit_and (swapped w) 0x8F) 0 ≡ segment_shape w
@@ -48,10 +48,10 @@ first_byte w =
     both_zero (bit_and v 0x8F) (bits 0 0 w) (bits 4 7 w) (λ e. (omega arith, omega arith)) (λ p q. omega arith)
 
 -- two words at a time
-two-words : (first second : ℕ) → eqb (bit_and (swapped second * 2 ^ 32 + swapped first) 0x8F0000008F) 0 ≡ (segment_shape first && segment_shape second)
-two-words first second =
+two_words : (first second : ℕ) → eqb (bit_and (swapped second * 2 ^ 32 + swapped first) 0x8F0000008F) 0 ≡ (segment_shape first && segment_shape second)
+two_words first second =
     let raw = swapped second * 2 ^ 32 + swapped first in
-    let l = swapped-lt first in
+    let l = swapped_lt first in
     let high : raw / 2 ^ 32 ≡ swapped second = omega arith in
     let low : raw % 2 ^ 32 ≡ swapped first = omega arith in
     parts_leave 32 raw 0x8F0000008F
@@ -68,7 +68,7 @@ more page any raw at least whole before is =
     let there : 4 + 4 * (n + 1) ≡ at + 4 = omega arith in
     let next : (at + 8 - 4) / 4 ≡ n + 1 + 1 = omega arith in
     or_leaves any raw 0x8F0000008F
-    ∙ ap₂ ◌&&◌ before (ap (λ (r : ℕ). eqb (bit_and r 0x8F0000008F) 0) is ∙ two-words (word_at page at) (word_at page (at + 4)))
+    ∙ ap₂ ◌&&◌ before (ap (λ (r : ℕ). eqb (bit_and r 0x8F0000008F) 0) is ∙ two_words (word_at page at) (word_at page (at + 4)))
     ∙ ap₂ (λ (p q : ℕ). every_below n (good page) && (segment_shape (word_at page p) && segment_shape (word_at page q))) (sym here) (sym there)
     ∙ sym (and_assoc (every_below n (good page)) (good page n) (good page (n + 1)))
     ∙ sym (ap (λ (k : ℕ). every_below k (good page)) next ∙ every_next (good page) (n + 1) ∙ ap (λ (t : Bool). t && good page (n + 1)) (every_next (good page) n))

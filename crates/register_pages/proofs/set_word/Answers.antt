@@ -23,12 +23,12 @@ module _ (page : List ℕ) (right : is_page (length page) ≡ true) (number word
   abbrev asked : ℕ
   asked = replacing (is_long (length page)) (register_words page) number word
 
-  is-replaced : (replaced.result, page_of replaced.set) ≡ page_replaced page number word
-  is-replaced = told ∙ ap (λ (p : List ℕ). page_replaced p number word) is-page
+  is_replaced : (replaced.result, page_of replaced.set) ≡ page_replaced page number word
+  is_replaced = told ∙ ap (λ (p : List ℕ). page_replaced p number word) is-page
 
   result_is : replaced.result ≡ asked
   unfolding page_replaced
-  result_is = ap (λ (p : ℕ × List ℕ). p.0) is-replaced
+  result_is = ap (λ (p : ℕ × List ℕ). p.0) is_replaced
 
   -- where it is 0, the new set holds the page with the word put in
   module _ (done : replaced.result ≡ 0) where
@@ -43,17 +43,17 @@ module _ (page : List ℕ) (right : is_page (length page) ≡ true) (number word
 
     new_is : take size new ≡ with_word page (4 * number) word
     unfolding page_replaced
-    new_is = ap (λ (p : ℕ × List ℕ). p.1) is-replaced ∙ ap (λ (t : Bool). cond t (with_word page (4 * number) word) page) (eq-eqb asked 0 (sym result_is ∙ done))
+    new_is = ap (λ (p : ℕ × List ℕ). p.1) is_replaced ∙ ap (λ (t : Bool). cond t (with_word page (4 * number) word) page) (eq-eqb asked 0 (sym result_is ∙ done))
 
-    new-fits : 4 * number + 4 ≤ min size (length new)
-    new-fits =
+    new_fits : 4 * number + 4 ≤ min size (length new)
+    new_fits =
         let long = ap length new_is ∙ length_with_word page (4 * number) word in
         omega (arith, fits, length-take size new)
 
     word_is : word < 2 ^ 32 → word_at new (4 * number) ≡ word
     word_is small =
         ap (word_at new) (omega arith)
-        ∙ sym (part_word new 0 size (4 * number) (omega (arith, new-fits)))
+        ∙ sym (part_word new 0 size (4 * number) (omega (arith, new_fits)))
         ∙ ap (λ (s : List ℕ). word_at s (4 * number)) new_is
         ∙ word_same page (4 * number) word fits small
 
@@ -73,7 +73,7 @@ read_word-requires c =
     let told = c.read_set-set.ensures in
     omega (
       arith,
-      new-fits a.page.now c.requires a.number a.word c.read_set-set.result c.with_word-replaced.result told.1 c.with_word-replaced.ensures
+      new_fits a.page.now c.requires a.number a.word c.read_set-set.result c.with_word-replaced.result told.1 c.with_word-replaced.ensures
           c.if-result-eq-DONE.true,
     )
 

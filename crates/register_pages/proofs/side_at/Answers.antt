@@ -6,9 +6,9 @@ use Rattle.register_pages.specs.Side.{side_byte}
 use Rattle.register_pages.proofs.Page.{PageSize, short_size, long_size, page_size_law}
 use Rattle.register_pages.proofs.side_at.Goals as goal
 
-data-byte : {size : ℕ} {long : Bool} → PageSize size long → size / 2 + 34 ≡ side_byte long true
-data-byte short_size = refl
-data-byte long_size = refl
+data_byte : {size : ℕ} {long : Bool} → PageSize size long → size / 2 + 34 ≡ side_byte long true
+data_byte short_size = refl
+data_byte long_size = refl
 
 pub returns-then-side : goal.returns-then-side
-returns-then-side c = rw c.if-side.true (data-byte (page_size_law c.args.size c.requires))
+returns-then-side c = rw c.if-side.true (data_byte (page_size_law c.args.size c.requires))

@@ -20,27 +20,27 @@ use Rattle.register_pages.proofs.side_of.Goals.{then-pairs-from-ne0, else-pairs-
 pub loop-at-init : goal.loop-at-init
 loop-at-init c = (omega arith, refl, seen_none _ _ _)
 
-fall-one : (t : Bool) → bool_byte t ≤ 1
-fall-one true = lit≤ tt
-fall-one false = lit≤ tt
+fall_one : (t : Bool) → bool_byte t ≤ 1
+fall_one true = lit≤ tt
+fall_one false = lit≤ tt
 
 -- a pair that does not fall begins behind the end
-no-fall : (pair end : ℕ) → bool_byte (leb pair end) ≡ 0 → end < pair
-no-fall pair end z = by_test (leb pair end) (λ e. absurd (let one : ◌≡◌ {A = ℕ} 1 0 = (rw e at z) in omega arith)) (λ e. leb-false pair end e)
+no_fall : (pair end : ℕ) → bool_byte (leb pair end) ≡ 0 → end < pair
+no_fall pair end z = by_test (leb pair end) (λ e. absurd (let one : ◌≡◌ {A = ℕ} 1 0 = (rw e at z) in omega arith)) (λ e. leb-false pair end e)
 
 -- what was passed, and a pair that is on
 module _ (lengths sum : ℕ) (pairs : List ℕ) (n any falls end : ℕ) (before : Seen lengths sum pairs n any falls end) where
-  on-more : (pair asked next : ℕ) → pair ≡ word_at pairs (8 * n) * 2 ^ 32 + word_at pairs (8 * n + 4) → word_at pairs (8 * n) < 2 ^ 32
+  on_more : (pair asked next : ℕ) → pair ≡ word_at pairs (8 * n) * 2 ^ 32 + word_at pairs (8 * n + 4) → word_at pairs (8 * n) < 2 ^ 32
       → word_at pairs (8 * n + 4) < 2 ^ 32 → off (word_at pairs (8 * n)) ≡ false
       → ((long side : Bool) → lengths ≡ bl_place long → sum ≡ side_sum side → off (pair / 2 ^ 32) ≡ false
       → eqb (bit_and asked (zero_bits side)) 0 ≡ block_shape (bl_width long) side (pair / 2 ^ 32) (pair % 2 ^ 32))
       → next ≡ end_of (pair / 2 ^ 32)
       → Seen lengths sum pairs (n + 1) (bit_or any asked) (falls + bool_byte (leb pair end)) next
-  on-more pair asked next is upper_lt lower-lt on own next_is =
+  on_more pair asked next is upper_lt lower-lt on own next_is =
       let high : pair / 2 ^ 32 ≡ word_at pairs (8 * n) = omega arith in
       let low : pair % 2 ^ 32 ≡ word_at pairs (8 * n + 4) = omega arith in
       let seen = seen_on lengths sum pairs n any falls end before pair asked (bool_byte (leb pair end))
-      is upper_lt lower-lt (fall-one (leb pair end)) (no-fall pair end)
+      is upper_lt lower-lt (fall_one (leb pair end)) (no_fall pair end)
       (λ long side l s. own long side l s (ap off high ∙ on) ∙ ap₂ (block_shape (bl_width long) side) high low) in
       subst (Seen lengths sum pairs (n + 1) (bit_or any asked) (falls + bool_byte (leb pair end))) (sym (next_is ∙ ap end_of high)) seen
 
@@ -58,7 +58,7 @@ loop-i-preserved c =
             | then-pairs-from-ne0 w ↦
                 let (is, upper_lt, lower-lt) = w.read_pair-pair.ensures in
                 seen_same _ _ _ (n + 1) _ _ _ _ _ _ w.any-is w.falls-is w.end-is
-                (on-more a.lengths a.sum a.pairs.now n l2.any l2.falls l2.end l2.invariant.1
+                (on_more a.lengths a.sum a.pairs.now n l2.any l2.falls l2.end l2.invariant.1
                 w.read_pair-pair.result w.asked_of-any.result w.end_of-end.result (rw from is) (rw from upper_lt) (rw from lower-lt)
                 (rw from (on_byte a.pairs.now at w.if-pairs-from-ne0.true)) w.asked_of-any.ensures w.end_of-end.ensures)
             | else-pairs-from-ne0 w ↦

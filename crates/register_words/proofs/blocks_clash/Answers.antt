@@ -28,8 +28,8 @@ module _ (a b : ℕ) (a_lt : a < 2 ^ 32) (b_lt : b < 2 ^ 32) where
       ∙ or_full 17 (a * 2 ^ 15 % 2 ^ 32)
 
   -- a word with them put in
-  with-ones : (w : ℕ) → w < 2 ^ 32 → bit_or w E ≡ bit_or either (bepi_of w) * 2 ^ 17 + (2 ^ 17 - 1)
-  with-ones w h =
+  with_ones : (w : ℕ) → w < 2 ^ 32 → bit_or w E ≡ bit_or either (bepi_of w) * 2 ^ 17 + (2 ^ 17 - 1)
+  with_ones w h =
       let start : w / 2 ^ 17 ≡ bepi_of w = omega arith in
       let top : bit_or w E / 2 ^ 17 ≡ bit_or either (bepi_of w) =
       or_shr w E 17 ∙ ap₂ bit_or start above ∙ or_comm (bepi_of w) either in
@@ -38,8 +38,8 @@ module _ (a b : ℕ) (a_lt : a < 2 ^ 32) (b_lt : b < 2 ^ 32) where
 
   starts : eqb (bit_or a E) (bit_or b E) ≡ eqb (bit_or either (bepi_of a)) (bit_or either (bepi_of b))
   starts =
-      let p = with-ones a a_lt in
-      let q = with-ones b b_lt in
+      let p = with_ones a a_lt in
+      let q = with_ones b b_lt in
       eqb_same (bit_or a E) (bit_or b E) (bit_or either (bepi_of a)) (bit_or either (bepi_of b)) (λ e. omega arith) (λ e. omega arith)
 
   common : bit_and (bit_and a b) 3 ≡ bit_and (a % 2 ^ 2) (b % 2 ^ 2)

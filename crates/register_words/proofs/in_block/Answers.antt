@@ -39,11 +39,11 @@ or_turned k x a hx ha =
 
 module _ (k p b : ℕ) (p-lt : p < 2 ^ k) (b_lt : b < 2 ^ k) where
   -- two numbers that differ in each bit are each other's complement
-  differ-turned : bit_xor p b ≡ 2 ^ k - 1 → 2 ^ k - 1 - p ≡ b
-  differ-turned e = omega (arith, e, xor_add_and p b, or_add_and p b, or_lt k p b p-lt b_lt)
+  differ_turned : bit_xor p b ≡ 2 ^ k - 1 → 2 ^ k - 1 - p ≡ b
+  differ_turned e = omega (arith, e, xor_add_and p b, or_add_and p b, or_lt k p b p-lt b_lt)
 
-  turned-differ : 2 ^ k - 1 - p ≡ b → bit_xor p b ≡ 2 ^ k - 1
-  turned-differ e =
+  turned_differ : 2 ^ k - 1 - p ≡ b → bit_xor p b ≡ 2 ^ k - 1
+  turned_differ e =
       let none : bit_and p b ≡ 0 = ap (bit_and p) (sym e) ∙ omega (arith, parts k p p p-lt p-lt, and_self p) in
       omega (arith, e, none, xor_add_and p b)
 
@@ -76,8 +76,8 @@ module _ (u a : ℕ) (u-lt : u < 2 ^ 32) (a_lt : a < 2 ^ 32) where
       let X-lt : X < 2 ^ 32 = xor_lt 32 turned u (or_lt 32 (bit_xor a 0xFFFFFFFF) (u * 2 ^ 15 % 2 ^ 32) (xor_lt 32 a 0xFFFFFFFF a_lt (omega arith)) (omega arith)) u-lt in
       let twice : 2 ^ 15 - 1 - P ≡ start = omega arith in
       same_test (leb 0xFFFE0000 X) (eqb start (bepi_of u))
-      (λ e. let le = leb-true 0xFFFE0000 X e in eq-eqb start (bepi_of u) (sym twice ∙ differ-turned 15 P (bepi_of u) P-lt b_lt (sym above ∙ omega arith)))
-      (λ e. let all = above ∙ turned-differ 15 P (bepi_of u) P-lt b_lt (twice ∙ eqb-true start (bepi_of u) e) in le-leb 0xFFFE0000 X (omega arith))
+      (λ e. let le = leb-true 0xFFFE0000 X e in eq-eqb start (bepi_of u) (sym twice ∙ differ_turned 15 P (bepi_of u) P-lt b_lt (sym above ∙ omega arith)))
+      (λ e. let all = above ∙ turned_differ 15 P (bepi_of u) P-lt b_lt (twice ∙ eqb-true start (bepi_of u) e) in le-leb 0xFFFE0000 X (omega arith))
 
 pub returns : goal.returns
 unfolding in_block

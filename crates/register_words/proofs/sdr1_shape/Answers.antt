@@ -10,9 +10,9 @@ use Rattle.register_words.specs.Sdr1.{origin_of, mask_of, sdr1_shape}
 use Rattle.register_words.proofs.sdr1_shape.Goals as goal
 
 -- the shape by the low half as one field
-by-half : (w h : ℕ) → w % 2 ^ 16 ≡ h → sdr1_shape w ≡ (ltb h 512 && low_ones h && eqb (bit_and (origin_of w) h) 0)
+by_half : (w h : ℕ) → w % 2 ^ 16 ≡ h → sdr1_shape w ≡ (ltb h 512 && low_ones h && eqb (bit_and (origin_of w) h) 0)
 unfolding sdr1_shape
-by-half w h low = rw (and_comm (low_ones (mask_of w)) (eqb (bits 16 22 w) 0)) (go (ltb h 512) refl)
+by_half w h low = rw (and_comm (low_ones (mask_of w)) (eqb (bits 16 22 w) 0)) (go (ltb h 512) refl)
   where
     go : (t : Bool) → ltb h 512 ≡ t
         → (eqb (bits 16 22 w) 0 && low_ones (mask_of w) && eqb (bit_and (origin_of w) (mask_of w)) 0) ≡ (t && low_ones h && eqb (bit_and (origin_of w) h) 0)
@@ -25,9 +25,9 @@ by-half w h low = rw (and_comm (low_ones (mask_of w)) (eqb (bits 16 22 w) 0)) (g
 pub returns-then-mask-eq0 : goal.returns-then-mask-eq0
 returns-then-mask-eq0 c =
     let w = c.args.sdr1 in
-    rw (by-half w 0 (sym (and_mask w 16) ∙ c.if-mask-eq0.true), true_ones 0 0 refl, and_zero_r (origin_of w))
+    rw (by_half w 0 (sym (and_mask w 16) ∙ c.if-mask-eq0.true), true_ones 0 0 refl, and_zero_r (origin_of w))
 
 pub returns : goal.returns
 returns c =
     let w = c.args.sdr1 in
-    rw (by-half w (bit_and w 0xFFFF) (sym (and_mask w 16)), c.low_ones.ensures, shr_mod 16 16 c.ranges.sdr1.fits)
+    rw (by_half w (bit_and w 0xFFFF) (sym (and_mask w 16)), c.low_ones.ensures, shr_mod 16 16 c.ranges.sdr1.fits)

@@ -30,8 +30,8 @@ module _ (l : Located) (both : matches.Told) (sdr1 : ℕ) (t : List ℕ) (wanted
   tells x xs e = is.2.1 ∙ ap (λ (l : List Match). told l is.2.0) e
 
   -- some match, or none
-  none-are : (some : Bool) → ((ms : List Match) (free : ℕ) → both ≡ told ms free → some ≡ any_match each ms) → some ≡ false → ms ≡ []
-  none-are some any off = by_matches_law ms (λ e. e) (λ x xs e. absurd (true≢false (sym (any (x ∷ xs) is.2.0 (tells x xs e)) ∙ off)))
+  none_are : (some : Bool) → ((ms : List Match) (free : ℕ) → both ≡ told ms free → some ≡ any_match each ms) → some ≡ false → ms ≡ []
+  none_are some any off = by_matches_law ms (λ e. e) (λ x xs e. absurd (true≢false (sym (any (x ∷ xs) is.2.0 (tells x xs e)) ∙ off)))
 
   -- by the first match
   by_first : (X : Type 0) (some : Bool) → ((ms : List Match) (free : ℕ) → both ≡ told ms free → some ≡ any_match each ms) → some ≡ true
@@ -56,7 +56,7 @@ pub returns-then-not-any : goal.returns-then-not-any
 returns-then-not-any c sdr1 t wanted is =
     let a = c.args in
     c.nothing.ensures
-    ∙ sym (in_none (mask_ones sdr1) t wanted (none-are a.page a.told sdr1 t wanted is c.any.result c.any.ensures (c.if-not-any.true)))
+    ∙ sym (in_none (mask_ones sdr1) t wanted (none_are a.page a.told sdr1 t wanted is c.any.result c.any.ensures (c.if-not-any.true)))
 
 pub overflow_cast-result : goal.overflow_cast-result
 unfolding table_length

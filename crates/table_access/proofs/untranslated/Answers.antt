@@ -21,9 +21,9 @@ real address length kind second = answer_of kind (part_start address length seco
 abbrev rule : Bool → Decision
 rule second = decision_of (record { key = false; group = 0; entry = 0 }) Real
 
-real-done : (address length kind : ℕ) (second : Bool) → (real address length kind second).result ≡ 0
+real_done : (address length kind : ℕ) (second : Bool) → (real address length kind second).result ≡ 0
 unfolding answer_of
-real-done address length kind second = refl
+real_done address length kind second = refl
 
 -- the first part's answer and what decided it
 first_is : (c : After-real_part-first) (kind : ℕ) →
@@ -46,7 +46,7 @@ returns-then-bytes-length c kind =
     c.across_edge.ensures
     ∙ ap₂ (λ (x y : Answer). across_edge x c.real_part-first.result.decision y c.first_bytes-bytes.result a.length) answer second
     ∙ ap₂ (λ (d : Decision) (n : ℕ). across_edge (real a.address a.length kind false) d (real a.address a.length kind true) n a.length) decides bytes
-    ∙ sym (both_done a.address a.length (real a.address a.length kind) rule (real-done a.address a.length kind false) over (real-done a.address a.length kind true))
+    ∙ sym (both_done a.address a.length (real a.address a.length kind) rule (real_done a.address a.length kind false) over (real_done a.address a.length kind true))
 
 pub returns : goal.returns
 unfolding over_edge
@@ -57,4 +57,4 @@ returns c kind =
     let (answer, decides) = first_is (goal.at.returns c).After-real_part-first kind in
     c.within.ensures
     ∙ ap₂ (λ (x : Answer) (d : Decision). within x d a.length) answer decides
-    ∙ sym (one_done a.address a.length (real a.address a.length kind) rule (real-done a.address a.length kind false) one)
+    ∙ sym (one_done a.address a.length (real a.address a.length kind) rule (real_done a.address a.length kind false) one)

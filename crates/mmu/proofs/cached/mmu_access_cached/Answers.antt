@@ -25,9 +25,9 @@ lengths c =
     (sym c.is_page.ensures ∙ lent.0, eqb-true _ 48 lent.1, eqb-true _ 2048 right.1)
 
 -- and where one is wrong the call answers 11
-one-wrong : (c : AccessCall (List ℕ)) (lent : List ℕ × List ℕ)
+one_wrong : (c : AccessCall (List ℕ)) (lent : List ℕ × List ℕ)
     → ((is_page (length c.registers) && eqb (length c.answer) 48) && eqb (length lent.1) 2048) ≡ false → on_cached c lent ≡ ended 11 lent c.answer
-one-wrong c lent wrong = go (eqb (length lent.1) 2048) refl (is_page (length c.registers) && eqb (length c.answer) 48) refl wrong
+one_wrong c lent wrong = go (eqb (length lent.1) 2048) refl (is_page (length c.registers) && eqb (length c.answer) 48) refl wrong
   where
     go : (b : Bool) → eqb (length lent.1) 2048 ≡ b → (l : Bool) → (is_page (length c.registers) && eqb (length c.answer) 48) ≡ l → (l && b) ≡ false
         → on_cached c lent ≡ ended 11 lent c.answer
@@ -39,7 +39,7 @@ pub returns-then-not-lent-cache : goal.returns-then-not-lent-cache
 returns-then-not-lent-cache c =
     let a = c.args in
     sym
-    (one-wrong (record { registers = a.registers.now; mode = a.mode; kind = a.kind; address = a.address; length = a.length; answer = a.answer.now }) (a.table.now, a.cache.now)
+    (one_wrong (record { registers = a.registers.now; mode = a.mode; kind = a.kind; address = a.address; length = a.length; answer = a.answer.now }) (a.table.now, a.cache.now)
     (ap (λ (b : Bool). (b && eqb (length a.answer.now) 48) && eqb (length a.cache.now) 2048) (sym c.is_page.ensures) ∙ c.if-not-lent-cache.true))
 
 pub translate-requires : goal.translate-requires

@@ -24,9 +24,9 @@ number_is : (c : After-word_refusal-refused) →
 number_is c = ap (λ (r : WordAnswer). r.result) c.word_refusal-refused.ensures
 
 -- what holds where nothing is refused
-rules-kept : (c : After-word_refusal-refused) → c.word_refusal-refused.result.result ≡ 0 →
+rules_kept : (c : After-word_refusal-refused) → c.word_refusal-refused.result.result ≡ 0 →
     Kept (page_in_range (called c.args.sdr1 c.args.vsid c.args.index c.args.answer.now).page) c.args.sdr1 (length c.args.table.now)
-rules-kept c z = kept _ _ _ (sym (number_is c) ∙ z)
+rules_kept c z = kept _ _ _ (sym (number_is c) ∙ z)
 
 pub returns-then-answer-ne-ANSWER_SIZE : goal.returns-then-answer-ne-ANSWER_SIZE
 returns-then-answer-ne-ANSWER_SIZE c = sym (look_11 (called c.args.sdr1 c.args.vsid c.args.index c.args.answer.now) _ c.if-answer-ne-ANSWER_SIZE.true)
@@ -39,7 +39,7 @@ returns-then-refused-ne-DONE c =
 pub look_page-told-requires : goal.look_page-told-requires
 look_page-told-requires c =
     let page = (called c.args.sdr1 c.args.vsid c.args.index c.args.answer.now).page in
-    let k = rules-kept (goal.at.look_page-told-requires c).After-word_refusal-refused c.if-refused-ne-DONE.false in
+    let k = rules_kept (goal.at.look_page-told-requires c).After-word_refusal-refused c.if-refused-ne-DONE.false in
     let (vsid, index) = page_ranges page (page_in_range page) refl k.in_range_law in
     ((_, table_of _ _ _ k), record { vsid_lt = vsid; index_lt = index })
 
@@ -47,4 +47,4 @@ pub returns : goal.returns
 returns c =
     ap (ended _ _) c.write_answer-2.ensures
     ∙ look_taken (called c.args.sdr1 c.args.vsid c.args.index c.args.answer.now) _ _ (number_is (goal.at.returns c).After-word_refusal-refused) c.if-answer-ne-ANSWER_SIZE.false c.if-refused-ne-DONE.false _
-    (c.look_page-told.ensures _ (table_of _ _ _ (rules-kept (goal.at.returns c).After-word_refusal-refused c.if-refused-ne-DONE.false)))
+    (c.look_page-told.ensures _ (table_of _ _ _ (rules_kept (goal.at.returns c).After-word_refusal-refused c.if-refused-ne-DONE.false)))

@@ -17,10 +17,10 @@ abbrev called : (c : Start) → ProtectCall
 called c = let a = c.args in record { sdr1 = a.sdr1; page = record { vsid = a.vsid; index = a.index }; pp = a.pp }
 
 -- what holds where nothing is refused
-rules-kept : (c : After-page_refusal-refused) → c.page_refusal-refused.result ≡ 0 →
+rules_kept : (c : After-page_refusal-refused) → c.page_refusal-refused.result ≡ 0 →
     let a = c.args in
     Kept (c.page_in_range.result && ltb a.pp (2 ^ 2)) a.sdr1 (length a.table.now)
-rules-kept c z = kept _ _ _ (sym c.page_refusal-refused.ensures ∙ z)
+rules_kept c z = kept _ _ _ (sym c.page_refusal-refused.ensures ∙ z)
 
 pub returns-then-refused-ne-DONE : goal.returns-then-refused-ne-DONE
 returns-then-refused-ne-DONE c =
@@ -30,7 +30,7 @@ pub protect_page-requires : goal.protect_page-requires
 protect_page-requires c =
     let a = c.args in
     let in_range_law = c.page_in_range.result in
-    let k = rules-kept (goal.at.protect_page-requires c).After-page_refusal-refused c.if-refused-ne-DONE.false in
+    let k = rules_kept (goal.at.protect_page-requires c).After-page_refusal-refused c.if-refused-ne-DONE.false in
     let (in-page, pp) = both in_range_law (ltb a.pp (2 ^ 2)) k.in_range_law in
     let (vsid, index) = page_ranges _ in_range_law c.page_in_range.ensures in-page in
     ((_, table_of _ _ _ k), record { vsid_lt = vsid; index_lt = index }, ltb-true a.pp (2 ^ 2) pp)
@@ -38,4 +38,4 @@ protect_page-requires c =
 pub returns : goal.returns
 returns c =
     protect_taken (called (goal.at.returns c).Start) _ _ c.page_in_range.ensures _ c.page_refusal-refused.ensures c.if-refused-ne-DONE.false _
-    (c.protect_page.ensures _ (table_of _ _ _ (rules-kept (goal.at.returns c).After-page_refusal-refused c.if-refused-ne-DONE.false)))
+    (c.protect_page.ensures _ (table_of _ _ _ (rules_kept (goal.at.returns c).After-page_refusal-refused c.if-refused-ne-DONE.false)))

@@ -44,38 +44,38 @@ module _ (bytes : List ℕ) (size number word : ℕ) (page-size : is_page size �
 
   -- a word of its own lies on the page
   module _ (own : number < register_count (is_long size)) (small : word < 2 ^ 32) where
-    own-number : number < register_count (is_long (length page))
-    own-number = rw count own
+    own_number : number < register_count (is_long (length page))
+    own_number = rw count own
 
-    on-page : at + 4 ≤ size
-    on-page = omega (arith, number_fits page right number own-number, page_length)
+    on_page : at + 4 ≤ size
+    on_page = omega (arith, number_fits page right number own_number, page_length)
 
-    on-bytes : at + 4 ≤ length bytes
-    on-bytes = omega (arith, on-page, most)
+    on_bytes : at + 4 ≤ length bytes
+    on_bytes = omega (arith, on_page, most)
 
     abbrev put : List ℕ
     put = with_word page at word
 
-    is-replaced : page_replaced page number word ≡ (answer put, cond (eqb (answer put) 0) put page)
-    is-replaced = put_replaced page right number own-number word small
+    is_replaced : page_replaced page number word ≡ (answer put, cond (eqb (answer put) 0) put page)
+    is_replaced = put_replaced page right number own_number word small
 
     -- the bytes with the word put in, and what the check of them answered
     module _ (new : List ℕ) (result : ℕ) (new_is : new ≡ with_word bytes at word) (told : result ≡ answer (take (size - 0) new)) where
-      new-page : take size new ≡ put
-      new-page = ap (take size) new_is ∙ take_with bytes at word size on-page
+      new_page : take size new ≡ put
+      new_page = ap (take size) new_is ∙ take_with bytes at word size on_page
 
       result_is : result ≡ answer put
-      result_is = let whole : size - 0 ≡ size = omega arith in told ∙ ap answer (ap (λ (n : ℕ). take n new) whole ∙ new-page)
+      result_is = let whole : size - 0 ≡ size = omega arith in told ∙ ap answer (ap (λ (n : ℕ). take n new) whole ∙ new_page)
 
       done : result ≡ 0 → (result, take size new) ≡ page_replaced page number word
       done z =
-          ap₂ (λ (r : ℕ) (p : List ℕ). (r, p)) result_is new-page
-          ∙ sym (is-replaced ∙ ap (λ (t : Bool). (answer put, cond t put page)) (eq-eqb (answer put) 0 (sym result_is ∙ z)))
+          ap₂ (λ (r : ℕ) (p : List ℕ). (r, p)) result_is new_page
+          ∙ sym (is_replaced ∙ ap (λ (t : Bool). (answer put, cond t put page)) (eq-eqb (answer put) 0 (sym result_is ∙ z)))
 
       refused : (old : List ℕ) → old ≡ bytes → (result ≡ 0 → ⊥) → (result, take size old) ≡ page_replaced page number word
       refused old e n =
           ap₂ (λ (r : ℕ) (p : List ℕ). (r, p)) result_is (ap (take size) e)
-          ∙ sym (is-replaced ∙ ap (λ (t : Bool). (answer put, cond t put page)) (ne_eqb (answer put) 0 (λ z. n (result_is ∙ z))))
+          ∙ sym (is_replaced ∙ ap (λ (t : Bool). (answer put, cond t put page)) (ne_eqb (answer put) 0 (λ z. n (result_is ∙ z))))
 
 pub returns-then-number-count_of : goal.returns-then-number-count_of
 returns-then-number-count_of c =
@@ -88,7 +88,7 @@ returns-then-result-ne-DONE c =
     let a = c.args in
     let h = c.if-number-count_of.false in
     let own = rw c.count_of.ensures at h in
-    let fits = on-bytes a.self.bytes a.self.size a.number a.word c.requires.page c.requires.room own c.ranges.word.fits in
+    let fits = on_bytes a.self.bytes a.self.size a.number a.word c.requires.page c.requires.room own c.ranges.word.fits in
     let old : c.write_word-then-result-ne-DONE.new.s ≡ a.self.bytes =
     c.write_word-then-result-ne-DONE.ensures
     ∙ ap₂ (λ (s : List ℕ) (v : ℕ). with_word s (4 * a.number) v) c.write_word.ensures c.read_word-old.ensures

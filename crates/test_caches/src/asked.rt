@@ -101,8 +101,8 @@ pub fn goes(
     (number == told.result)
         & record_is(&answer, told.result, record)
         & (second_word(&answer) == told.word)
-        & check::same(&lent, &after)
-        & check::same(&beside, &left)
+        & (lent == after)
+        & (beside == left)
 }
 
 // Whether it leaves both.

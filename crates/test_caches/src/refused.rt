@@ -76,9 +76,7 @@ fn number(mode: u32, length: u32, lengths: Sizes) -> u32 {
     );
     kept(
         result,
-        access_refused(&answer, result)
-            & check::same(&table, &[0; 65536])
-            & check::same(&cache, &lent_cache()),
+        access_refused(&answer, result) & (table == [0; 65536]) & (cache == lent_cache()),
     )
 }
 
@@ -129,7 +127,7 @@ fn invalidate_part(index: u32, length: usize, cache: &mut [u8]) -> u32 {
 fn invalidate(index: u32, length: usize, res: u32, after: [u8; 2048]) -> bool {
     let mut cache = [0x55u8; 2048];
     let number = invalidate_part(index, length, &mut cache);
-    (number == res) & check::same(&cache, &after)
+    (number == res) & (cache == after)
 }
 
 // Invalidate.

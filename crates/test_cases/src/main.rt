@@ -32,7 +32,7 @@ fn words_are(bytes: &[u8], w0: u32, w1: u32, w2: u32, w3: u32) -> bool {
     let four = [w0, w1, w2, w3];
     let mut stated = [0u8; 16];
     words::write_words(&mut stated, &four);
-    check::same(bytes, &stated)
+    bytes == stated.as_slice()
 }
 
 // Whether 48 bytes begin as the answer of an access to one byte: these four words, no second page, and the byte in the first where it is done.
@@ -42,7 +42,7 @@ fn answer_is(bytes: &[u8; 48], w0: u32, w1: u32, w2: u32, w3: u32) -> bool {
     let mut stated = [0u8; 32];
     words::write_words(&mut stated, &eight);
     let whole = &bytes[..];
-    check::same(&whole[0..32], &stated)
+    &whole[0..32] == stated.as_slice()
 }
 
 // Whether a group holds eight entries whose VSIDs are 0x400 apart, given the first one's first word.

@@ -57,7 +57,7 @@ fn in_a_row() -> bool {
     let load = mmu::mmu_access(&page, 1, 1, 0x00FFA01B, 1, &mut lent, &mut answer);
     let again = mmu::mmu_access(&page, 1, 1, 0x00FFA01B, 1, &mut lent, &mut answer);
     let store = mmu::mmu_access(&page, 1, 2, 0x00FFA01B, 1, &mut lent, &mut answer);
-    (load == 0) & (again == 0) & (store == 0) & check::same(&lent, &in_both(0x12345192, 0x12345012))
+    (load == 0) & (again == 0) & (store == 0) & (lent == in_both(0x12345192, 0x12345012))
 }
 
 // An access after another.

@@ -56,7 +56,7 @@ pub fn access(
     let number = mmu::mmu_access(&page, 3, kind, address, length, &mut lent, &mut answer);
     let mut expected = [0u8; 48];
     words::write_words(&mut expected, &twelve);
-    (number == twelve[0]) & check::same(&answer, &expected) & check::same(&lent, &after)
+    (number == twelve[0]) & (answer == expected) & (lent == after)
 }
 
 // The same of the byte at 00FFA01B.

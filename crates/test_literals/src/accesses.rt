@@ -32,7 +32,7 @@ fn answers(
         &mut lent,
         &mut answer,
     );
-    (number == res) & check::same(&answer, expected) & check::same(&lent, &after)
+    (number == res) & (answer.as_slice() == expected) & (lent == after)
 }
 
 // Whether an access of the byte at 00FFA01B is done by entry 0 of group 998, 1234501B with WIMG 2, and leaves these last bytes of the entry.

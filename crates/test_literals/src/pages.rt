@@ -6,19 +6,19 @@ use test_report::line;
 fn clear() -> bool {
     let mut table = [0xAAu8; 65536];
     let number = mmu::mmu_clear(SDR1, &mut table);
-    (number == 0) & check::same(&table, &[0; 65536])
+    (number == 0) & (table == [0; 65536])
 }
 
 fn map() -> bool {
     let mut table = [0u8; 65536];
     let number = mmu::mmu_map(SDR1, VSID, INDEX, 0x12345, 2, 2, &mut table);
-    (number == 0) & check::same(&table, &table_with(0x50, 0x12))
+    (number == 0) & (table == table_with(0x50, 0x12))
 }
 
 fn protect() -> bool {
     let mut table = table_with(0x50, 0x12);
     let number = mmu::mmu_protect(SDR1, VSID, INDEX, 1, &mut table);
-    (number == 0) & check::same(&table, &table_with(0x50, 0x11))
+    (number == 0) & (table == table_with(0x50, 0x11))
 }
 
 fn unmap() -> bool {
@@ -26,7 +26,7 @@ fn unmap() -> bool {
     let mut answer = [0xAAu8; 16];
     let number = mmu::mmu_unmap(SDR1, VSID, INDEX, &mut table, &mut answer);
     let expected = b"\x00\x00\x00\x00\x12\x34\x51\x92\x00\x00\x00\x00\x00\x00\x00\x00";
-    (number == 0) & check::same(&answer, expected) & check::same(&table, &[0; 65536])
+    (number == 0) & (&answer == expected) & (table == [0; 65536])
 }
 
 fn look() -> bool {
@@ -34,14 +34,14 @@ fn look() -> bool {
     let mut answer = [0xAAu8; 16];
     let number = mmu::mmu_look(SDR1, VSID, INDEX, &table, &mut answer);
     let expected = b"\x00\x00\x00\x00\x12\x34\x5F\x16\x00\x00\x00\x00\x00\x00\x00\x00";
-    (number == 0) & check::same(&answer, expected)
+    (number == 0) & (&answer == expected)
 }
 
 fn look_in_vain() -> bool {
     let mut answer = [0xAAu8; 16];
     let number = mmu::mmu_look(SDR1, VSID, INDEX, &[0; 65536], &mut answer);
     let expected = b"\x00\x00\x00\x08\x00\x00\x00\x00\x00\x00\x00\x00\x00\x00\x00\x00";
-    (number == 8) & check::same(&answer, expected)
+    (number == 8) & (&answer == expected)
 }
 
 // Calls that answer by the table alone. Source: rules 6.

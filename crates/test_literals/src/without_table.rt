@@ -23,13 +23,13 @@ fn set_register() -> bool {
     expected[65] = 0xAB;
     expected[66] = 0xCD;
     expected[67] = 0xEF;
-    (number == 0) & check::same(&page, &expected)
+    (number == 0) & (page == expected)
 }
 
 fn pack() -> bool {
     let mut entry = [0xAAu8; 8];
     let number = mmu::mmu_pack(1, 0x0C701C, 0, 3, 0x12345, 0, 0, 2, 2, &mut entry);
-    (number == 0) & check::same(&entry, b"\x86\x38\x0E\x03\x12\x34\x50\x12")
+    (number == 0) & (&entry == b"\x86\x38\x0E\x03\x12\x34\x50\x12")
 }
 
 fn unpack() -> bool {
@@ -37,7 +37,7 @@ fn unpack() -> bool {
     let number = mmu::mmu_unpack(0x86380E43, 0x12345192, &mut fields);
     let expected =
         b"\x00\x00\x00\x01\x00\x0C\x70\x1C\x00\x00\x00\x01\x00\x00\x00\x03\x00\x01\x23\x45\x00\x00\x00\x01\x00\x00\x00\x01\x00\x00\x00\x02\x00\x00\x00\x02";
-    (number == 0) & check::same(&fields, expected)
+    (number == 0) & (&fields == expected)
 }
 
 // Calls on a register page. Source: rules 3.

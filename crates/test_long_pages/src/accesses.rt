@@ -105,7 +105,7 @@ fn by_page(page: [u8; 196], address: u32, length: u32, twelve: [u32; 12], marked
     let number = mmu::mmu_access(&page, 3, 1, address, length, &mut table, &mut answer);
     let mut expected = [0u8; 48];
     words::write_words(&mut expected, &twelve);
-    (number == twelve[0]) & check::same(&answer, &expected) & check::same(&table, &pages(marked, 0))
+    (number == twelve[0]) & (answer == expected) & (table == pages(marked, 0))
 }
 
 // Pages beside blocks.

@@ -114,7 +114,7 @@ fn access_is(page: &[u8], byte: Byte, twelve: [u32; 12]) -> bool {
     );
     let mut expected = [0u8; 48];
     words::write_words(&mut expected, &twelve);
-    (number == twelve[0]) & check::same(&answer, &expected) & check::same(&table, &[0; 65536])
+    (number == twelve[0]) & (answer == expected) & (table == [0; 65536])
 }
 
 // The same with a long page.
@@ -151,14 +151,14 @@ pub fn refused(number: u32) -> [u32; 12] {
 pub fn set_refused(page: [u8; 196], number: u32, word: u32) -> u32 {
     let mut lent = page;
     let result = mmu::mmu_set_register(&mut lent, number, word);
-    kept(result, check::same(&lent, &page))
+    kept(result, lent == page)
 }
 
 // The same on a short page.
 pub fn short_set_refused(page: [u8; 132], number: u32, word: u32) -> u32 {
     let mut lent = page;
     let result = mmu::mmu_set_register(&mut lent, number, word);
-    kept(result, check::same(&lent, &page))
+    kept(result, lent == page)
 }
 
 // Whether a word of a long page is replaced, and every other byte is as it was.
@@ -168,5 +168,5 @@ pub fn set_done(page: [u8; 196], number: usize, word: u32) -> bool {
         return false;
     }
     let result = mmu::mmu_set_register(&mut lent, number as u32, word);
-    (result == 0) & check::same(&lent, &with(page, number, word))
+    (result == 0) & (lent == with(page, number, word))
 }

@@ -32,7 +32,7 @@ fn set_part(page: &mut [u8], length: usize, number: u32) -> u32 {
 fn set_at(length: usize, number: u32) -> u32 {
     let mut lent = page();
     let result = set_part(&mut lent, length, number);
-    kept(result, check::same(&lent, &page()))
+    kept(result, lent == page())
 }
 
 // An access in real mode lent so many bytes.
@@ -46,11 +46,8 @@ fn access_at(length: usize) -> u32 {
     let mut table = [0u8; 65536];
     let mut answer = [0xAAu8; 48];
     let result = access_part(&page(), length, &mut table, &mut answer);
-    let written = (result == 11) & check::same(&answer, &[0xAA; 48]);
-    kept(
-        result,
-        ((result == 0) | written) & check::same(&table, &[0; 65536]),
-    )
+    let written = (result == 11) & (answer == [0xAA; 48]);
+    kept(result, ((result == 0) | written) & (table == [0; 65536]))
 }
 
 // Check.

@@ -123,10 +123,7 @@ fn access_is(one: Set, same: Set, byte: Byte, res: u32) -> bool {
         &mut other_table,
         &mut other_answer,
     );
-    (number == res)
-        & (other_number == res)
-        & check::same(&answer, &other_answer)
-        & check::same(&table, &other_table)
+    (number == res) & (other_number == res) & (answer == other_answer) & (table == other_table)
 }
 
 // A byte's mode, kind and address.
@@ -177,10 +174,10 @@ fn set_is(number: u32, other: u32, word: u32, res: u32) -> bool {
         & (other_got == res)
         & (mmu::mmu_check(&one) == 0)
         & (mmu::mmu_check(&same) == 0)
-        & check::same(&one[0..100], &same[0..100])
-        & check::same(&one[100..132], &same[132..164])
-        & check::same(&same[100..132], &[0; 32])
-        & check::same(&same[164..196], &[0; 32])
+        & (&one[0..100] == &same[0..100])
+        & (&one[100..132] == &same[132..164])
+        & (&same[100..132] == [0; 32].as_slice())
+        & (&same[164..196] == [0; 32].as_slice())
 }
 
 // Replaced words.

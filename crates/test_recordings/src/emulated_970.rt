@@ -29,7 +29,7 @@ fn fetch(segment: u32, mode: u32, second: u32, res: u32, word: u32, after: u32) 
         & (words::read_word(&answer, 4) == word)
         & ((res == 0) | (words::read_word(&answer, 8) == 0x400))
         & (words::read_word(&answer, 12) == 0x30123F40)
-        & check::same(&table, &with_entry(after))
+        & (table == with_entry(after))
 }
 
 // Lines 1 to 16.

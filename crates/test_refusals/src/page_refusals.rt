@@ -15,14 +15,14 @@ fn clear(sdr1: u32, length: usize) -> u32 {
     let before = table_of(Scene::Full);
     let mut table = before;
     let result = clear_part(sdr1, &mut table, length);
-    kept(result, check::same(&table, &before))
+    kept(result, table == before)
 }
 
 // Whether a clear zeroes the table.
 fn clear_done(sdr1: u32) -> bool {
     let mut table = [0xFFu8; 65536];
     let result = mmu::mmu_clear(sdr1, &mut table);
-    (result == 0) & check::same(&table, &[0; 65536])
+    (result == 0) & (table == [0; 65536])
 }
 
 // The clear's refusals.
@@ -58,14 +58,14 @@ fn map(scene: Scene, rpn: u32, sdr1: u32, length: usize) -> u32 {
     let before = table_of(scene);
     let mut table = before;
     let result = map_part(sdr1, INDEX, rpn, &mut table, length);
-    kept(result, check::same(&table, &before))
+    kept(result, table == before)
 }
 
 // The number of a map refused by its arguments.
 fn map_with(vsid: u32, index: u32, rpn: u32, wimg: u32, pp: u32) -> u32 {
     let mut table = [0u8; 65536];
     let result = mmu::mmu_map(SDR1, vsid, index, rpn, wimg, pp, &mut table);
-    kept(result, check::same(&table, &[0; 65536]))
+    kept(result, table == [0; 65536])
 }
 
 // Map's arguments out of range.
@@ -136,10 +136,7 @@ fn unmap(scene: Scene, answer_length: usize, index: u32, sdr1: u32, length: usiz
     let mut table = before;
     let mut answer = [0xAAu8; 20];
     let result = unmap_part(sdr1, index, &mut table, length, &mut answer, answer_length);
-    kept(
-        result,
-        check::same(&table, &before) & answer_refused(&answer, result),
-    )
+    kept(result, (table == before) & answer_refused(&answer, result))
 }
 
 // Unmap's refusals.
@@ -210,7 +207,7 @@ fn protect(scene: Scene, vsid: u32, pp: u32, sdr1: u32, length: usize) -> u32 {
     let before = table_of(scene);
     let mut table = before;
     let result = protect_part(sdr1, vsid, pp, &mut table, length);
-    kept(result, check::same(&table, &before))
+    kept(result, table == before)
 }
 
 // Protect's refusals.

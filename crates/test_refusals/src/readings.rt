@@ -24,7 +24,7 @@ fn access(mode: u32, kind: u32, table: [u8; 65536], words: [u32; 3], after: [u8;
     let number = mmu::mmu_access(&page, mode, kind, 0x00FFA01B, 1, &mut lent, &mut answer);
     (number == words[0])
         & byte_answer_is(&answer, words[0], words[1], words[2], 0x00FFA01B)
-        & check::same(&lent, &after)
+        & (lent == after)
 }
 
 // A page whose one entry is in the secondary group.
@@ -150,9 +150,7 @@ fn fetch_no_execute() -> bool {
     let mut lent = table;
     let mut answer = [0xAAu8; 48];
     let number = mmu::mmu_access(&page, 2, 0, 0x00FFA01B, 1, &mut lent, &mut answer);
-    (number == 65)
-        & byte_answer_is(&answer, 65, 0x10000000, 0x400, 0x00FFA01B)
-        & check::same(&lent, &table)
+    (number == 65) & byte_answer_is(&answer, 65, 0x10000000, 0x400, 0x00FFA01B) & (lent == table)
 }
 
 // Ignored bits, and W with I in an entry.

@@ -61,7 +61,7 @@ fn set_part(page: &mut [u8], length: usize, number: u32, word: u32) -> u32 {
 fn set(page: [u8; 136], length: usize, number: u32, word: u32) -> u32 {
     let mut lent = page;
     let result = set_part(&mut lent, length, number, word);
-    kept(result, check::same(&lent, &page))
+    kept(result, lent == page)
 }
 
 // Whether a word is taken: the page has it, and every other byte is as it was.
@@ -73,7 +73,7 @@ fn set_done(page: [u8; 136], number: u32, word: u32) -> bool {
     }
     let mut expected = page;
     words::write_word(&mut expected, 4 * (number as usize), word);
-    (result == 0) & check::same(&lent, &expected)
+    (result == 0) & (lent == expected)
 }
 
 // Words that are taken, and broken pages repaired.

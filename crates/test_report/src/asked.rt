@@ -34,7 +34,7 @@ pub fn answers(
     let mut lent = table;
     let mut answer = [0xAAu8; 48];
     let number = access(&page, asked, &mut lent, &mut answer);
-    (number == eight[0]) & access_answer_is(&answer, eight) & check::same(&lent, &after)
+    (number == eight[0]) & access_answer_is(&answer, eight) & (lent == after)
 }
 
 // Whether an access has this result and shows this record of the rule that decided.

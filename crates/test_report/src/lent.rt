@@ -165,7 +165,7 @@ pub fn answer_is(answer: &[u8], a: u32, b: u32, c: u32, d: u32) -> bool {
     let four = [a, b, c, d];
     let mut expected = [0u8; 16];
     words::write_words(&mut expected, &four);
-    check::same(answer, &expected)
+    answer == expected.as_slice()
 }
 
 // Whether these eight words begin the answer of an access.
@@ -173,7 +173,7 @@ pub fn access_answer_is(answer: &[u8; 48], eight: [u32; 8]) -> bool {
     let mut expected = [0u8; 32];
     words::write_words(&mut expected, &eight);
     let whole = &answer[..];
-    check::same(&whole[0..32], &expected)
+    &whole[0..32] == expected.as_slice()
 }
 
 // Whether it begins with this result and ends with these four words, the record of the rule that decided.
@@ -192,27 +192,27 @@ pub fn byte_answer_is(answer: &[u8; 48], a: u32, b: u32, c: u32, d: u32) -> bool
 // Whether a refusal left 20 bytes, of which an answer was lent, as it should: at 11 as they were, else the number and three zero words.
 pub fn answer_refused(answer: &[u8], number: u32) -> bool {
     if number == 11 {
-        return check::same(answer, &[0xAA; 20]);
+        return answer == [0xAA; 20].as_slice();
     }
     let mut expected = [0xAAu8; 20];
     words::write_word(&mut expected, 0, number);
     words::write_word(&mut expected, 4, 0);
     words::write_word(&mut expected, 8, 0);
     words::write_word(&mut expected, 12, 0);
-    check::same(answer, &expected)
+    answer == expected.as_slice()
 }
 
 // The same of 52 bytes, of which the answer of an access was lent: at 11 as they were, else the number and eleven zero words.
 pub fn access_refused(answer: &[u8], number: u32) -> bool {
     if number == 11 {
-        return check::same(answer, &[0xAA; 52]);
+        return answer == [0xAA; 52].as_slice();
     }
     if answer.len() != 52 {
         return false;
     }
     let mut expected = [0u8; 48];
     words::write_word(&mut expected, 0, number);
-    check::same(&answer[0..48], &expected) & check::same(&answer[48..52], &[0xAA; 4])
+    (&answer[0..48] == expected.as_slice()) & (&answer[48..52] == [0xAA; 4].as_slice())
 }
 
 // The number, or 99 where something lent is not as it should be.
@@ -233,7 +233,5 @@ pub fn access_is(
     let mut table = [0u8; 65536];
     let mut answer = [0xAAu8; 48];
     let number = mmu::mmu_access(&page, mode, kind, address, 1, &mut table, &mut answer);
-    (number == res)
-        & byte_answer_is(&answer, res, word, third, address)
-        & check::same(&table, &[0; 65536])
+    (number == res) & byte_answer_is(&answer, res, word, third, address) & (table == [0; 65536])
 }

@@ -95,8 +95,5 @@ pub fn refused(
     let mut lent = table;
     let mut answer = [0xAAu8; 52];
     let result = access_part(&page, lengths, mode, kind, length, &mut lent, &mut answer);
-    kept(
-        result,
-        check::same(&lent, &table) & access_refused(&answer, result),
-    )
+    kept(result, (lent == table) & access_refused(&answer, result))
 }

@@ -20,7 +20,7 @@ fn refuses_length(registers: &[u8], length: usize, mode: u32) -> bool {
         return false;
     }
     let number = mmu::mmu_rights(registers, mode, ADDRESS, &lent, &mut whole[0..length]);
-    (number == 11) & check::same(&answer, &[0xAA; 160])
+    (number == 11) & (answer == [0xAA; 160])
 }
 
 // Lengths of the register page.
@@ -82,7 +82,7 @@ fn refuses(
         &whole[0..bytes],
         &mut answer,
     );
-    (result == number) & check::same(&answer, &told_refused(number))
+    (result == number) & (answer == told_refused(number))
 }
 
 // Each refusal alone, translated and in real mode.

@@ -10,7 +10,7 @@ fn packs(fields: [u32; 9], number: u32, first: u32, second: u32) -> bool {
     let two = [first, second];
     let mut expected = [0u8; 8];
     words::write_words(&mut expected, &two);
-    (result == number) & check::same(&entry, &expected)
+    (result == number) & (entry == expected)
 }
 
 // A pack of fields into an entry.
@@ -24,7 +24,7 @@ fn unpacks(first: u32, second: u32, fields: [u32; 9]) -> bool {
     let result = mmu::mmu_unpack(first, second, &mut lent);
     let mut expected = [0u8; 36];
     words::write_words(&mut expected, &fields);
-    (result == 0) & check::same(&lent, &expected)
+    (result == 0) & (lent == expected)
 }
 
 // One field at a time, and all.
@@ -124,7 +124,7 @@ pub fn refused_2(rt: &impl Print) -> io::Result<()> {
 fn pack_part(v: u32, length: usize) -> u32 {
     let mut entry = [0xAAu8; 12];
     let result = pack_some(v, &mut entry, length);
-    kept(result, check::same(&entry, &[0xAA; 12]))
+    kept(result, entry == [0xAA; 12])
 }
 
 // A pack of V alone lent so many bytes of an entry.
@@ -137,7 +137,7 @@ fn pack_some(v: u32, entry: &mut [u8], length: usize) -> u32 {
 fn unpack_part(length: usize) -> u32 {
     let mut fields = [0xAAu8; 40];
     let result = unpack_some(&mut fields, length);
-    kept(result, check::same(&fields, &[0xAA; 40]))
+    kept(result, fields == [0xAA; 40])
 }
 
 // An unpack lent so many bytes of fields.

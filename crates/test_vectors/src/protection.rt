@@ -28,7 +28,7 @@ fn access(
     };
     (number == res)
         & byte_answer_is(&answer, res, word, third, 0x00FFA01B)
-        & check::same(&lent, &with_entry(after))
+        & (lent == with_entry(after))
 }
 
 // A table with one entry for the page.

@@ -7,7 +7,8 @@
 
 Promises are the contracts of functions, statements (the files that tools/definitions.py places as such) and rows. A text moved where it is another once comments,
 imports and white space are left out, so a rename shows and a new layout does not. Proofs are told by file; a file that only moved is not told.
-Program crates (those with src/main.rt) count as tests and are left out, with the crates that only they use (PROGRAMS).
+Program crates (those with src/main.rt) count as tests and are left out, with the crates that only they use and with `mmu_c`, which repeats the contracts of
+`mmu` (PROGRAMS). Not for two revisions between which the kit's spelling changed: every text would have moved.
 What tools/renamed.txt names is told under its new name on both sides, so that a renamed crate or module did not move.
 """
 import os
@@ -20,7 +21,7 @@ sys.path.insert(0, os.path.dirname(os.path.abspath(__file__)))
 from definitions import HEAD, ORDER, ROWS, STATEMENTS, blocks_of, is_text  # noqa: E402
 
 TOP = os.path.join(os.path.dirname(os.path.abspath(__file__)), "..")
-PROGRAMS = {"test_report"}
+PROGRAMS = {"test_report", "mmu_c"}
 STATED = {place for title, places in ORDER if title == STATEMENTS for place in places}
 FUNCTION = re.compile(r"^impl (?P<owner>\w+)|^(?P<indent> *)(?:pub )?(?:extern \"C\" )?fn (?P<name>\w+)(?P<head>.*?)^(?P=indent)\{\n(?P<body>.*?)^(?P=indent)\}", re.M | re.S)
 KINDS = ["definitions", "statements", "rows", "contracts", "code", "proofs"]
@@ -130,7 +131,7 @@ def tree_of(revision, folder):
 
 def self_test():
     """Two small trees: each kind of change is told as what it is."""
-    source = "// Why.\npub fn f(x: u32) -> u32\n    ensures {{ λ r. ⌜ r ≡ {0} ⌝ }}\n{{\n    {1}\n}}\n"
+    source = "// Why.\npub fn f(x: u32) -> u32\n    ensures {{ result ≡ {0} }}\n{{\n    {1}\n}}\n"
     specs = "-- a comment\nunfoldable pub one : ℕ\none = {0}\n\n{1}"
     stated = "pub record Stated : Type 0 where\n  pub fact : one ≡ 1\n"
     crate, module = sorted(STATED)[0].split("/")

@@ -1,6 +1,5 @@
 -- `cases::case1` is safe: SDR1 0F980007 has its shape, and the page's groups lie in its table.
 use lib.Ieee.{size, span, climb}
-use borrow.Author.Rules.{rules}
 use mathlib.Core.Path.{◌≡◌, refl}
 use mathlib.Core.Bool.{true}
 use Rattle.words.specs.Ones.{low_ones}

@@ -1,5 +1,4 @@
 -- `recordings::recorded::put_entries` is safe and ends: the place in the text stays within it, and the entries are counted.
-use borrow.Author.Rules.{rules}
 use Prim.Native.Nat.{◌-◌, ◌≤◌}
 use lib.ListN.{length}
 use Rattle.test_recordings.proofs.recorded.put_entries.Given as goal

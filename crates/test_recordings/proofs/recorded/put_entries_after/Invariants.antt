@@ -1,5 +1,4 @@
 -- `recordings::recorded::put_entries_after` is safe and ends: both places in the text stay within it, and the entries are counted.
-use borrow.Author.Rules.{rules}
 use Prim.Native.Nat.{◌-◌, ◌≤◌}
 use lib.ListN.{length}
 use Rattle.test_recordings.proofs.recorded.put_entries_after.Given as goal

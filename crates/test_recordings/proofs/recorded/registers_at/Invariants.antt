@@ -1,5 +1,4 @@
 -- `recordings::recorded::registers_at` is safe and ends: the place in the text stays within it, and the page keeps its 132 bytes, 33 words.
-use borrow.Author.Rules.{rules}
 use mathlib.Core.Path.{◌≡◌}
 use Prim.Native.Nat.{◌-◌, ◌≤◌}
 use lib.ListN.{length}

@@ -1,5 +1,4 @@
 -- `recordings::text::number_at` is safe and ends: the place in the text stays within it, and at most eight digits are read.
-use borrow.Author.Rules.{rules}
 use Prim.Native.Nat.{◌-◌, ◌≤◌}
 use lib.ListN.{length}
 use Rattle.test_recordings.proofs.text.number_at.Given as goal

@@ -17,14 +17,14 @@ fn lent_cache() -> [u8; 2052] {
 // The lengths that an access is lent: of the register page, the table, the cache and the answer.
 #[derive(Clone, Copy)]
 pub struct Sizes {
-    pub page: usize,
-    pub table: usize,
-    pub cache: usize,
-    pub answer: usize,
+    pub page: isize,
+    pub table: isize,
+    pub cache: isize,
+    pub answer: isize,
 }
 
 // Those lengths.
-fn lent(page: usize, table: usize, cache: usize, answer: usize) -> Sizes {
+fn lent(page: isize, table: isize, cache: isize, answer: isize) -> Sizes {
     Sizes {
         page,
         table,
@@ -43,10 +43,10 @@ fn access_part(
     cache: &mut [u8],
     answer: &mut [u8],
 ) -> u32 {
-    let k = lengths.page.min(page.len());
-    let n = lengths.table.min(table.len());
-    let c = lengths.cache.min(cache.len());
-    let m = lengths.answer.min(answer.len());
+    let k = test_report::count(lengths.page, page);
+    let n = test_report::count(lengths.table, table);
+    let c = test_report::count(lengths.cache, cache);
+    let m = test_report::count(lengths.answer, answer);
     mmu::mmu_access_cached(
         &page[..k],
         mode,
@@ -118,13 +118,13 @@ fn zeroed(at: usize) -> [u8; 2048] {
 }
 
 // An invalidate lent a part of this length.
-fn invalidate_part(index: u32, length: usize, cache: &mut [u8]) -> u32 {
-    let n = length.min(cache.len());
+fn invalidate_part(index: u32, length: isize, cache: &mut [u8]) -> u32 {
+    let n = test_report::count(length, cache);
     mmu::mmu_invalidate(index, &mut cache[..n])
 }
 
 // Whether an invalidate of this page index, lent so many bytes of a cache, answers this number and leaves this cache.
-fn invalidate(index: u32, length: usize, res: u32, after: [u8; 2048]) -> bool {
+fn invalidate(index: u32, length: isize, res: u32, after: [u8; 2048]) -> bool {
     let mut cache = [0x55u8; 2048];
     let number = invalidate_part(index, length, &mut cache);
     (number == res) & (cache == after)

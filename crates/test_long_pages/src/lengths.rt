@@ -12,37 +12,37 @@ fn page() -> [u8; 200] {
 }
 
 // A check lent so many bytes.
-fn check_part(page: &[u8], length: usize) -> u32 {
-    let n = length.min(page.len());
+fn check_part(page: &[u8], length: isize) -> u32 {
+    let n = test_report::count(length, page);
     mmu::mmu_check(&page[..n])
 }
 
 // Its number.
-fn check_at(length: usize) -> u32 {
+fn check_at(length: isize) -> u32 {
     check_part(&page(), length)
 }
 
 // A set register lent so many bytes.
-fn set_part(page: &mut [u8], length: usize, number: u32) -> u32 {
-    let n = length.min(page.len());
+fn set_part(page: &mut [u8], length: isize, number: u32) -> u32 {
+    let n = test_report::count(length, page);
     mmu::mmu_set_register(&mut page[..n], number, SEGMENT)
 }
 
 // Its number, for a segment register that has the word already; 99 where a byte changes.
-fn set_at(length: usize, number: u32) -> u32 {
+fn set_at(length: isize, number: u32) -> u32 {
     let mut lent = page();
     let result = set_part(&mut lent, length, number);
     kept(result, lent == page())
 }
 
 // An access in real mode lent so many bytes.
-fn access_part(page: &[u8], length: usize, table: &mut [u8], answer: &mut [u8]) -> u32 {
-    let n = length.min(page.len());
+fn access_part(page: &[u8], length: isize, table: &mut [u8], answer: &mut [u8]) -> u32 {
+    let n = test_report::count(length, page);
     mmu::mmu_access(&page[..n], 0, 1, 0x00FFA01B, 1, table, answer)
 }
 
 // Its number; 99 where the table changes, or where the answer changes at 11.
-fn access_at(length: usize) -> u32 {
+fn access_at(length: isize) -> u32 {
     let mut table = [0u8; 65536];
     let mut answer = [0xAAu8; 48];
     let result = access_part(&page(), length, &mut table, &mut answer);

@@ -5,13 +5,13 @@ use test_report::lent::{BAD_SDR1, INDEX, SDR1, Scene, VSID, answer_refused, kept
 use test_report::line;
 
 // A clear lent so many bytes of a table.
-fn clear_part(sdr1: u32, table: &mut [u8], length: usize) -> u32 {
-    let n = length.min(table.len());
+fn clear_part(sdr1: u32, table: &mut [u8], length: isize) -> u32 {
+    let n = test_report::count(length, table);
     mmu::mmu_clear(sdr1, &mut table[..n])
 }
 
 // The number of a refused clear.
-fn clear(sdr1: u32, length: usize) -> u32 {
+fn clear(sdr1: u32, length: isize) -> u32 {
     let before = table_of(Scene::Full);
     let mut table = before;
     let result = clear_part(sdr1, &mut table, length);
@@ -48,13 +48,13 @@ pub fn clears_2(rt: &impl Print) -> io::Result<()> {
 }
 
 // A map lent so many bytes of a table.
-fn map_part(sdr1: u32, index: u32, rpn: u32, table: &mut [u8], length: usize) -> u32 {
-    let n = length.min(table.len());
+fn map_part(sdr1: u32, index: u32, rpn: u32, table: &mut [u8], length: isize) -> u32 {
+    let n = test_report::count(length, table);
     mmu::mmu_map(sdr1, VSID, index, rpn, 2, 2, &mut table[..n])
 }
 
 // The number of a refused map of the page.
-fn map(scene: Scene, rpn: u32, sdr1: u32, length: usize) -> u32 {
+fn map(scene: Scene, rpn: u32, sdr1: u32, length: isize) -> u32 {
     let before = table_of(scene);
     let mut table = before;
     let result = map_part(sdr1, INDEX, rpn, &mut table, length);
@@ -121,17 +121,17 @@ fn unmap_part(
     sdr1: u32,
     index: u32,
     table: &mut [u8],
-    length: usize,
+    length: isize,
     answer: &mut [u8],
-    answer_length: usize,
+    answer_length: isize,
 ) -> u32 {
-    let n = length.min(table.len());
-    let m = answer_length.min(answer.len());
+    let n = test_report::count(length, table);
+    let m = test_report::count(answer_length, answer);
     mmu::mmu_unmap(sdr1, VSID, index, &mut table[..n], &mut answer[..m])
 }
 
 // The number of a refused unmap.
-fn unmap(scene: Scene, answer_length: usize, index: u32, sdr1: u32, length: usize) -> u32 {
+fn unmap(scene: Scene, answer_length: isize, index: u32, sdr1: u32, length: isize) -> u32 {
     let before = table_of(scene);
     let mut table = before;
     let mut answer = [0xAAu8; 20];
@@ -197,13 +197,13 @@ pub fn unmaps_3(rt: &impl Print) -> io::Result<()> {
 }
 
 // A protect lent so many bytes of a table.
-fn protect_part(sdr1: u32, vsid: u32, pp: u32, table: &mut [u8], length: usize) -> u32 {
-    let n = length.min(table.len());
+fn protect_part(sdr1: u32, vsid: u32, pp: u32, table: &mut [u8], length: isize) -> u32 {
+    let n = test_report::count(length, table);
     mmu::mmu_protect(sdr1, vsid, INDEX, pp, &mut table[..n])
 }
 
 // The number of a refused protect.
-fn protect(scene: Scene, vsid: u32, pp: u32, sdr1: u32, length: usize) -> u32 {
+fn protect(scene: Scene, vsid: u32, pp: u32, sdr1: u32, length: isize) -> u32 {
     let before = table_of(scene);
     let mut table = before;
     let result = protect_part(sdr1, vsid, pp, &mut table, length);
@@ -261,17 +261,17 @@ fn look_part(
     sdr1: u32,
     index: u32,
     table: &[u8],
-    length: usize,
+    length: isize,
     answer: &mut [u8],
-    answer_length: usize,
+    answer_length: isize,
 ) -> u32 {
-    let n = length.min(table.len());
-    let m = answer_length.min(answer.len());
+    let n = test_report::count(length, table);
+    let m = test_report::count(answer_length, answer);
     mmu::mmu_look(sdr1, VSID, index, &table[..n], &mut answer[..m])
 }
 
 // The number of a refused look.
-fn look(scene: Scene, answer_length: usize, index: u32, sdr1: u32, length: usize) -> u32 {
+fn look(scene: Scene, answer_length: isize, index: u32, sdr1: u32, length: isize) -> u32 {
     let table = table_of(scene);
     let mut answer = [0xAAu8; 20];
     let result = look_part(sdr1, index, &table, length, &mut answer, answer_length);

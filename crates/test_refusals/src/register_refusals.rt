@@ -6,13 +6,13 @@ use test_report::lent::{
 use test_report::line;
 
 // A check lent so many bytes of a page.
-fn check_part(page: &[u8], length: usize) -> u32 {
-    let n = length.min(page.len());
+fn check_part(page: &[u8], length: isize) -> u32 {
+    let n = test_report::count(length, page);
     mmu::mmu_check(&page[..n])
 }
 
 // The number of a check.
-fn check(length: usize, sdr1: u32, instruction: u32, data: u32, segment: u32) -> u32 {
+fn check(length: isize, sdr1: u32, instruction: u32, data: u32, segment: u32) -> u32 {
     let page = page_of(sdr1, segment, instruction, data);
     check_part(&page, length)
 }
@@ -52,13 +52,13 @@ pub fn checks_3(rt: &impl Print) -> io::Result<()> {
 }
 
 // A set register lent so many bytes of a page.
-fn set_part(page: &mut [u8], length: usize, number: u32, word: u32) -> u32 {
-    let n = length.min(page.len());
+fn set_part(page: &mut [u8], length: isize, number: u32, word: u32) -> u32 {
+    let n = test_report::count(length, page);
     mmu::mmu_set_register(&mut page[..n], number, word)
 }
 
 // The number of a refused set register on a page.
-fn set(page: [u8; 136], length: usize, number: u32, word: u32) -> u32 {
+fn set(page: [u8; 136], length: isize, number: u32, word: u32) -> u32 {
     let mut lent = page;
     let result = set_part(&mut lent, length, number, word);
     kept(result, lent == page)

@@ -2,12 +2,21 @@
 // (`asked`) and of a page call (`called`), and a refused access (`refused`).
 #![tactic(auto)]
 
+ghost use Rattle.std.specs.Prelude.{◌≤◌, length};
+
 pub mod asked;
 pub mod called;
 pub mod lent;
 pub mod refused;
 
 use std::io;
+
+// How many of a slice's bytes a length takes: none where it is negative, and never more than there are.
+pub fn count(asked: isize, s: &[u8]) -> usize
+    ensures { result ≤ length s.now }
+{
+    usize::try_from(asked).unwrap_or(0).min(s.len())
+}
 
 // Writes a case's number, a space and `ok` or `bad`.
 pub fn line(rt: &impl Print, number: u64, good: bool) -> io::Result<()> {

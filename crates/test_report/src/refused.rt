@@ -4,9 +4,9 @@ use super::lent::{Scene, access_refused, kept, table_of};
 // The lengths that an access is lent: of the register page, the answer and the table.
 #[derive(Clone, Copy)]
 pub struct Lengths {
-    pub page: usize,
-    pub answer: usize,
-    pub table: usize,
+    pub page: isize,
+    pub answer: isize,
+    pub table: isize,
 }
 
 pub const RIGHT: Lengths = Lengths {
@@ -67,9 +67,9 @@ fn access_part(
     table: &mut [u8],
     answer: &mut [u8],
 ) -> u32 {
-    let k = lengths.page.min(page.len());
-    let m = lengths.answer.min(answer.len());
-    let n = lengths.table.min(table.len());
+    let k = super::count(lengths.page, page);
+    let m = super::count(lengths.answer, answer);
+    let n = super::count(lengths.table, table);
     mmu::mmu_access(
         &page[..k],
         mode,

@@ -39,13 +39,13 @@ fn sdr1(word: u32) -> u32 {
 }
 
 // A clear lent so many bytes of a table.
-fn clear_part(sdr1: u32, table: &mut [u8], length: usize) -> u32 {
-    let n = length.min(table.len());
+fn clear_part(sdr1: u32, table: &mut [u8], length: isize) -> u32 {
+    let n = test_report::count(length, table);
     mmu::mmu_clear(sdr1, &mut table[..n])
 }
 
 // The number of a clear lent so many bytes.
-fn clears(word: u32, length: usize) -> u32 {
+fn clears(word: u32, length: isize) -> u32 {
     let mut table = [0xFFu8; 131076];
     clear_part(word, &mut table, length)
 }

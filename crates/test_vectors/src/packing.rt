@@ -121,28 +121,28 @@ pub fn refused_2(rt: &impl Print) -> io::Result<()> {
 }
 
 // The number of a pack of V alone lent so many bytes, which 11 leaves.
-fn pack_part(v: u32, length: usize) -> u32 {
+fn pack_part(v: u32, length: isize) -> u32 {
     let mut entry = [0xAAu8; 12];
     let result = pack_some(v, &mut entry, length);
     kept(result, entry == [0xAA; 12])
 }
 
 // A pack of V alone lent so many bytes of an entry.
-fn pack_some(v: u32, entry: &mut [u8], length: usize) -> u32 {
-    let n = length.min(entry.len());
+fn pack_some(v: u32, entry: &mut [u8], length: isize) -> u32 {
+    let n = test_report::count(length, entry);
     mmu::mmu_pack(v, 0, 0, 0, 0, 0, 0, 0, 0, &mut entry[..n])
 }
 
 // The number of an unpack lent so many bytes, which 11 leaves.
-fn unpack_part(length: usize) -> u32 {
+fn unpack_part(length: isize) -> u32 {
     let mut fields = [0xAAu8; 40];
     let result = unpack_some(&mut fields, length);
     kept(result, fields == [0xAA; 40])
 }
 
 // An unpack lent so many bytes of fields.
-fn unpack_some(fields: &mut [u8], length: usize) -> u32 {
-    let n = length.min(fields.len());
+fn unpack_some(fields: &mut [u8], length: isize) -> u32 {
+    let n = test_report::count(length, fields);
     mmu::mmu_unpack(0x86380E03, 0x12345012, &mut fields[..n])
 }
 

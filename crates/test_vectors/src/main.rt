@@ -5,7 +5,7 @@
 mod blocks;
 mod manual;
 mod packing;
-mod protection;
+mod page_protection;
 
 use std::io;
 
@@ -40,20 +40,20 @@ fn run_blocks(rt: &impl Print) -> io::Result<()> {
     blocks::shared_2(rt)
 }
 
-// Runs the cases of the module `protection`.
+// Runs the cases of the module `page_protection`.
 fn run_protection(rt: &impl Print) -> io::Result<()> {
-    protection::key_0_1(rt)?;
-    protection::key_0_2(rt)?;
-    protection::key_1_1(rt)?;
-    protection::key_1_2(rt)?;
-    protection::user_and_supervisor_1(rt)?;
-    protection::user_and_supervisor_2(rt)?;
-    protection::keys_exchanged_1(rt)?;
-    protection::keys_exchanged_2(rt)?;
-    protection::marks_1(rt)?;
-    protection::marks_2(rt)?;
-    protection::exceptions_1(rt)?;
-    protection::exceptions_2(rt)
+    page_protection::key_0_1(rt)?;
+    page_protection::key_0_2(rt)?;
+    page_protection::key_1_1(rt)?;
+    page_protection::key_1_2(rt)?;
+    page_protection::user_and_supervisor_1(rt)?;
+    page_protection::user_and_supervisor_2(rt)?;
+    page_protection::keys_exchanged_1(rt)?;
+    page_protection::keys_exchanged_2(rt)?;
+    page_protection::marks_1(rt)?;
+    page_protection::marks_2(rt)?;
+    page_protection::exceptions_1(rt)?;
+    page_protection::exceptions_2(rt)
 }
 
 // Runs the cases of the module `packing`.

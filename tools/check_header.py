@@ -219,13 +219,26 @@ def comment_differences(header, tally):
     return lines
 
 
+def code_numbers(code):
+    """The numbers of the code by name: its constants, and the variants of Refusal, `TableLength` as REFUSED_TABLE_LENGTH."""
+    numbers = {name: int(value, 0) for name, value in re.findall(r"^pub const (\w+): \w+ = (0x[0-9A-Fa-f]+|\d+);", code, re.M)}
+    refusals = re.search(r"^pub enum Refusal \{\n(.*?)^\}", code, re.M | re.S)
+    if not refusals:
+        raise Unreadable("crates/numbers: no enum Refusal")
+    for line in refusals[1].splitlines():
+        variant = re.fullmatch(r"    (\w+) = (\d+),", line)
+        if not variant:
+            raise Unreadable(f"crates/numbers: a refusal without its number: {line.strip()}")
+        numbers["REFUSED" + re.sub(r"(?=[A-Z])", "_", variant[1]).upper()] = int(variant[2])
+    return numbers
+
+
 def number_differences(header, code, definitions):
     """A line for each number of the code that header or definitions do not have, under its name and with its value."""
     macros = {name: int(value, 0) for name, value in re.findall(r"^#define MMU_(\w+) (0x[0-9A-Fa-f]+|\d+)u", header, re.M)}
-    consts = {name: int(value, 0) for name, value in re.findall(r"^pub const (\w+): \w+ = (0x[0-9A-Fa-f]+|\d+);", code, re.M)}
     defined = {name: int(value, 0) for name, value in re.findall(r"^(\w+) = (0x[0-9A-Fa-f]+|\d+)$", definitions, re.M)}
     lines = []
-    for name, value in consts.items():
+    for name, value in code_numbers(code).items():
         other = name.lower()
         if macros.get(name) != value:
             lines.append(f"MMU_{name}: {macros.get(name, 'none')} in the header, {value} in the crate numbers")
@@ -244,9 +257,10 @@ def kept_differences(header):
     return lines
 
 
-SAMPLE_CODE = "pub const REFUSED_SDR1: u32 = 2;\n\npub const REFUSED_LENT_LENGTH: u32 = 11;\n"
+SAMPLE_CODE = "pub const REGISTERS_SIZE_SHORT: usize = 132;\n\npub enum Refusal {\n    Sdr1 = 2,\n    LentLength = 11,\n}\n"
 
-SAMPLE_DEFINITIONS = "abbrev pub refused_sdr1 : ℕ\nrefused_sdr1 = 2\n\nabbrev pub refused_lent_length : ℕ\nrefused_lent_length = 11\n"
+SAMPLE_DEFINITIONS = ("abbrev pub registers_size_short : ℕ\nregisters_size_short = 132\n\nabbrev pub refused_sdr1 : ℕ\nrefused_sdr1 = 2\n\n"
+                      "abbrev pub refused_lent_length : ℕ\nrefused_lent_length = 11\n")
 
 SAMPLE_TALLY = 'const NUMBERS: [(&str, &[u32]); 2] = [\n    ("look", &[0, 11, 2, 8]),\n    ("clear", &[0, 2]),\n];\n'
 
@@ -378,6 +392,9 @@ def self_test():
         failed.append("not refused: another version in the guide")
     if not number_differences(SAMPLE_HEADER, SAMPLE_CODE, SAMPLE_DEFINITIONS.replace("= 11", "= 12")):
         failed.append("not refused: another number in the definitions")
+    for label, code in (("of a refusal", SAMPLE_CODE.replace("= 11", "= 12")), ("of a constant", SAMPLE_CODE.replace("132", "131"))):
+        if not number_differences(SAMPLE_HEADER, code, SAMPLE_DEFINITIONS):
+            failed.append(f"not refused: another number {label} in the code")
     failed += [f"the right source is refused: {line}" for line in thin_differences(SAMPLE_SOURCE, SAMPLE_OFFERED)]
     for label, (old, new) in WRONG_SOURCES.items():
         if SAMPLE_SOURCE.count(old) != 1 or not thin_differences(SAMPLE_SOURCE.replace(old, new), SAMPLE_OFFERED):
@@ -388,7 +405,7 @@ def self_test():
     if not differences(SAMPLE_HEADER, SAMPLE_SOURCE, symbols | {"mmu_extra"}):
         failed.append("not refused: mmu_extra is in the archive alone")
     print("\n".join(failed) or f"self test: the right header passes, {len(WRONG_HEADERS)} wrong ones, 3 wrong archives,"
-          f" {len(WRONG_SOURCES)} wrong sources, a wrong CHANGELOG.md, a wrong guide and a wrong definition are refused")
+          f" {len(WRONG_SOURCES)} wrong sources, a wrong CHANGELOG.md, a wrong guide, a wrong definition and two wrong numbers of the code are refused")
     return 1 if failed else 0
 
 

@@ -21,7 +21,7 @@ def recorded():
 
 def main():
     source = (ROOT / "crates/test_recordings/src/emulated_750.rt").read_text()
-    found = [(int(number), text) for number, text in re.findall(r'replay_line\(\s*rt,\s*(\d+),\s*b"([^"]*)"', source)]
+    found = list(enumerate(re.findall(r'b"([^"]*)"', source), FIRST))
     wanted = list(enumerate(recorded(), FIRST))
     if found != wanted:
         wrong = [number for number, text in wanted if (number, text) not in found]

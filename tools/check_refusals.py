@@ -7,8 +7,9 @@
     check_refusals.py --self-test               shows that it tells such edits and such lines of rt from others
 
 The rule (docs/EVIDENCE.md). An edit begins with a sentence that says what the wrong machine does, and changes the code alone or definitions alone.
-  - Of the code: it says with `call: mmu_..` whose wrong program it is, with `machine: 1` to `6` or `reading: 1` to `5` which of document 01's, or with
-    `quick: ..` which quick path lets something through. Each exported call has two, at least one of them outside the crate `mmu`.
+  - Of the code: it says with `call: mmu_..` whose wrong program it is, with `machine: 1` to `6` or `reading: 1` to `5` which of document 01's, with
+    `quick: ..` which quick path lets something through, or with `function: NAME` of which public function of its crate the contract refuses it. Each
+    exported call has two with `call`, at least one of them outside the crate `mmu`.
   - Of definitions: it says with `by: NAME` which statement of specs/ refuses it: a record of rows, a law over all tables, a theorem.
   - Each machine and each reading of document 01 has a wrong program and a wrong definition.
 An edit shows nothing where the wrong program or definition was never judged. So it is named, and the tool fails,
@@ -113,7 +114,7 @@ def whole(part):
     return depth == 0
 
 
-KEYS = ("file", "old", "new", "by", "shape", "call", "machine", "reading", "quick")
+KEYS = ("file", "old", "new", "by", "shape", "call", "machine", "reading", "quick", "function")
 
 
 class Edit:
@@ -162,7 +163,7 @@ def breach(edit, known):
     if len(edit.areas) != 1:
         return "changes code and definitions at once"
     if edit.of_code:
-        return None if set(edit.said) & {"call", "machine", "reading", "quick"} else "does not say whose wrong program it is"
+        return None if set(edit.said) & {"call", "machine", "reading", "quick", "function"} else "does not say whose wrong program it is"
     if edit.said.get("by") not in known:
         return f"names no statement of specs/ that refuses it: {edit.said.get('by')}"
     return None
@@ -210,6 +211,7 @@ RULES = [
     (False, "It is wrong.\nby: a-lemma\nfile: specs/A.antt\nold: a\nnew: b\n"),
     (True, "It is wrong.\nby: Rows\nfile: specs/A.antt\nold: a\nnew: b\n"),
     (True, "It is wrong.\ncall: mmu_map\nfile: src/lib.rt\nold: a\nnew: b\n"),
+    (True, "It is wrong.\nfunction: result_of\nfile: src/lib.rt\nold: a\nnew: b\n"),
 ]
 
 
@@ -292,7 +294,7 @@ def listed():
     for edit in edits_of(["*"]):
         name, says = f"`{edit.crate}/{edit.label}`", edit.sentence.rstrip(".")
         if edit.of_code:
-            of = [f"`{edit.said['call']}`" if "call" in edit.said else ""] + marks(edit) + [edit.said.get("quick", "")]
+            of = [f"`{edit.said[key]}`" for key in ("call", "function") if key in edit.said] + marks(edit) + [edit.said.get("quick", "")]
             programs.append(f"| {says} | {name} | {', '.join(part for part in of if part)} |")
         else:
             definitions.append(f"| {says}{''.join(f' ({mark})' for mark in marks(edit))} | {name} | `{edit.said.get('by', '')}` |")

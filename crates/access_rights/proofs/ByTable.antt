@@ -1,26 +1,23 @@
--- A part by what the search of a table alone finds: what it answers, what decided it, and that its entry is the page's first match.
+-- A part by what the search of a table alone finds: what it answers, what decided it, and what was found of its page.
 use Prim.Native.Nat.{ℕ}
 use mathlib.Core.Path.{◌≡◌, refl, sym, ap, ◌∙◌}
-use mathlib.Core.List.{List, ◌∷◌}
-use Rattle.numbers.specs.Numbers.{group_entries}
-use Rattle.theory_tables.specs.Matches.{Match}
-use Rattle.theory_tables.specs.Layout.{matches_of}
+use mathlib.Core.List.{List}
 use Rattle.translation.specs.Steps.{after_search, outcome_of, answer_of}
 use Rattle.translation.specs.Decision.{decision_of}
 use Rattle.translation.specs.declared.Early.{Early}
 use Rattle.translation.specs.declared.Early.TheVariants.{Decided, Search}
 use Rattle.translation.proofs.Steps.{outcome_decided, outcome_searched}
-use Rattle.theory_calls.specs.OnBytes.{layout, used_by, wanted_page, search_in, first_place_in}
+use Rattle.theory_calls.specs.OnBytes.{used_by, search_in, first_place_in}
 use Rattle.table_access.specs.Part.{table_found, part_by}
 use Rattle.table_access.specs.declared.Found.{Found}
+use Rattle.table_access.specs.declared.Found.TheVariants.{Unmatched}
 use Rattle.table_access.specs.declared.Part.{Part}
-use Rattle.table_access.proofs.Finds.{in_first, in_searched, in_decides}
+use Rattle.table_access.proofs.Finds.{in_searched, in_decides}
 
--- which entry it is: that of the page's first match, and none for a part that no search decides
+-- what is found of its page: nothing of a part that no search decides
 unfoldable pub OfFirst : ℕ → Early → List ℕ → Found → Type 0
-OfFirst k (Decided outcome) t found = found.entry ≡ group_entries
-OfFirst k (Search wanted) t found =
-    (x : Match) (xs : List Match) → matches_of (layout k) t (wanted_page wanted) ≡ x ∷ xs → (found.entry ≡ x.entry) × (found.second ≡ x.second)
+OfFirst k (Decided outcome) t found = found ≡ Unmatched
+OfFirst k (Search wanted) t found = found ≡ table_found k t wanted
 
 pub record ByTable (k : ℕ) (t : List ℕ) (kind address : ℕ) (early : Early) (part : Part) : Type 0 where
   pub answers : part.answer ≡ answer_of kind address (outcome_of kind (search_in k t) early)
@@ -38,5 +35,5 @@ by_table k t kind address (Search wanted) =
     record {
       answers = ap (answer_of kind address) (searched ∙ sym late);
       decides = ap (decision_of _) searched ∙ in_decides k t wanted kind ∙ ap (decision_of _) (sym late);
-      first = λ x xs e. let f = in_first k t wanted x xs e in (f.entry, f.second);
+      first = refl;
     }

@@ -3,6 +3,8 @@ use Prim.Native.Nat.{ℕ}
 use mathlib.Core.Path.{◌≡◌, refl, ap, ◌∙◌}
 use mathlib.Core.Bool.{Bool, true, false, ◌&&◌, true≢false}
 use mathlib.Core.List.{List, [], ◌∷◌, ◌++◌}
+use Rattle.std.specs.Prelude.{Result}
+use Rattle.numbers.specs.declared.Refusal.{Refusal}
 use lib.Dec.{eqb}
 use lib.ListN.{length}
 use Rattle.words.specs.Words.{bytes_of}
@@ -13,7 +15,7 @@ use Rattle.theory_calls.specs.Rules.{rules, refusal}
 use Rattle.theory_calls.specs.Answers.{access_answer}
 use Rattle.theory_calls.proofs.Access.{then_not_11}
 use Rattle.access_rights.specs.Rights.{RightsCall, asking, rights_told, rights_refusal, rights_call}
-use Rattle.access_rights.specs.Held.{TellsAll}
+use Rattle.access_rights.specs.Held.{rights_of, TellsAll}
 use Rattle.access_rights.specs.declared.Rights.{Rights}
 use Rattle.access_rights.proofs.Shared.{own_rules_law}
 
@@ -41,8 +43,9 @@ module _ (c : RightsCall) (answer t : List ℕ) where
         rw (right_refusal, other)
 
 -- the bytes that the code writes
-pub told_is : (c : RightsCall) (t : List ℕ) (r : Rights) → TellsAll c t r
-    → access_answer r.fetch.told ++ (access_answer r.load.told ++ (access_answer r.store.told ++ bytes_of (r.fetch.marks ∷ r.load.marks ∷ r.store.marks ∷ [])))
+pub told_is : (c : RightsCall) (t : List ℕ) (r : Result Rights Refusal) → TellsAll c t r →
+    let all = rights_of r in
+    access_answer all.fetch.told ++ (access_answer all.load.told ++ (access_answer all.store.told ++ bytes_of (all.fetch.marks ∷ all.load.marks ∷ all.store.marks ∷ [])))
     ≡ rights_told c t
 unfolding rights_told
 told_is c t r all =

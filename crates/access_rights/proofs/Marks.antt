@@ -6,9 +6,8 @@ use mathlib.Core.Bool.{Bool, true, false, cond, true≢false}
 use mathlib.Core.List.{List, ◌∷◌}
 use lib.Pow.{pow_mono}
 use native.Mathlib.Omega.{arith}
-use lib.Dec.{leb, ltb, lit<}
+use lib.Dec.{leb, lit<}
 use lib.ListN.{length}
-use borrow.Author.Tests.{lt-ltb}
 use Rattle.words.specs.Words.{word_bytes, word_at, bytes_of}
 use Rattle.words.proofs.Words.{own_bytes}
 use Rattle.entry.specs.Entry.{set_if, with_marks}
@@ -27,7 +26,7 @@ use Rattle.translation.specs.declared.operand.OperandAnswer.{OperandAnswer}
 use Rattle.translation.specs.declared.Early.{Early}
 use Rattle.translation.specs.declared.Early.TheVariants.{Decided, Search}
 use Rattle.translation.specs.declared.Outcome.{Outcome}
-use Rattle.translation.specs.declared.Searched.TheVariants.{Nothing, At}
+use Rattle.translation.specs.declared.Searched.TheVariants.{Nothing, At, Contradicting}
 use Rattle.translation.specs.declared.Wanted.{Wanted}
 use Rattle.translation.proofs.Steps.{done_passes}
 use Rattle.translation.proofs.Parts.{first_stops, one_done}
@@ -43,7 +42,13 @@ use Rattle.theory_calls.proofs.AnyEntries.{by_matches_law, own, first_of_law}
 use Rattle.theory_calls.proofs.TwoMarks.{mark_reads, own_match}
 use Rattle.access_rights.proofs.ByTable.{OfFirst, ByTable}
 use Rattle.table_access.specs.declared.Part.{Part}
+use Rattle.table_access.specs.Part.{table_found}
+use Rattle.table_access.specs.declared.Found.TheVariants.{Unmatched, Contradicted}
+use Rattle.table_access.proofs.Finds.{first_found, in_some}
+use Rattle.matches.specs.Search.{contradict}
+use Rattle.words.proofs.Tests.{by_test}
 use Rattle.access_rights.specs.Rights.{new_marks}
+use Rattle.access_rights.specs.Held.{newly_marked}
 
 -- ---- the marks of a word
 
@@ -157,7 +162,7 @@ module _ (c : AccessCall (List ℕ)) (t : List ℕ) (taken : Taken (access c) t)
 
   -- what a part holds of its entry tells the marks of a done access
   pub part_marks : (p : Part) → ByTable k t c.kind (start_of c false) (early_of c false) p → p.answer.result ≡ 0
-      → cond (ltb p.found.entry 8) (with_marks true (storing c.kind) p.found.second - p.found.second) 0 ≡ new_marks t (on_bytes (access c) t)
+      → newly_marked c.kind p.found ≡ new_marks t (on_bytes (access c) t)
   unfolding OfFirst searched outcome_of
   part_marks p is done = by_early (early_of c false) decided searching
     where
@@ -168,22 +173,27 @@ module _ (c : AccessCall (List ℕ)) (t : List ℕ) (taken : Taken (access c) t)
       left u e = state_of (ends_done z) ∙ e
 
       decided : (outcome : Outcome) → early_of c false ≡ Decided outcome
-          → cond (ltb p.found.entry 8) (with_marks true (storing c.kind) p.found.second - p.found.second) 0 ≡ new_marks t (on_bytes (access c) t)
+          → newly_marked c.kind p.found ≡ new_marks t (on_bytes (access c) t)
       decided outcome e =
-          let none : p.found.entry ≡ 8 = rw e at is.first in
+          let none : p.found ≡ Unmatched = rw e at is.first in
           rw none (sym (unchanged_none t (on_bytes (access c) t) (left t (rw e (unmarked_decided k c.kind outcome 0 t)))))
 
       searching : (wanted : Wanted) → early_of c false ≡ Search wanted
-          → cond (ltb p.found.entry 8) (with_marks true (storing c.kind) p.found.second - p.found.second) 0 ≡ new_marks t (on_bytes (access c) t)
+          → newly_marked c.kind p.found ≡ new_marks t (on_bytes (access c) t)
       searching wanted e =
-          by_matches_law (own k t (wanted_page wanted))
-          (λ none.
-          let result = sym (ap (λ (x : Early). (answer_of c.kind (start_of c false) (outcome_of c.kind (search_in k t) x)).result) e) ∙ z in
-          let (second, told) = late_done c.kind wanted.key (start_of c false) (search_in k t wanted) result in
-          let found = (done_passes c.kind wanted.key (search_in k t wanted) second told).found in
-          let other : Nothing ≡ At second = sym (ap searched none) ∙ found in
-          absurd (true≢false (cc)))
+          by_matches_law (own k t (wanted_page wanted)) (λ none. absurd (let other : Nothing ≡ At at_word.0 = sym (ap searched none) ∙ at_word.1 in true≢false (cc)))
           (λ x xs are.
-          let (entry, second) = (rw e at is.first) x xs are in
-          let small : x.entry < 8 = (own_match k c.kind wanted t x xs are).in_range_law in
-          rw (entry, second, lt-ltb x.entry 8 small) (sym (page_marks wanted e z x xs are)))
+          let told : (b : Bool) → contradict x xs ≡ b → cond b Contradicting (At x.second) ≡ At at_word.0
+          = λ b d. sym (ap searched are ∙ ap (λ (b : Bool). cond b Contradicting (At x.second)) d) ∙ at_word.1 in
+          let found : p.found ≡ table_found k t wanted = rw e at is.first in
+          by_test (contradict x xs) (λ d. absurd (let other = told true d in true≢false (cc)))
+          (λ d.
+          rw (found ∙ in_some k t wanted x xs are ∙ ap (λ (b : Bool). cond b Contradicted (first_found k t wanted x xs are)) d)
+          (sym (page_marks wanted e z x xs are))))
+        where
+          -- a done part was found by a second word
+          at_word : (second : ℕ) × (searched (own k t (wanted_page wanted)) ≡ At second)
+          at_word =
+              let result = sym (ap (λ (x : Early). (answer_of c.kind (start_of c false) (outcome_of c.kind (search_in k t) x)).result) e) ∙ z in
+              let (second, told) = late_done c.kind wanted.key (start_of c false) (search_in k t wanted) result in
+              (second, (done_passes c.kind wanted.key (search_in k t wanted) second told).found)

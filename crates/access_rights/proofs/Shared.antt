@@ -1,17 +1,14 @@
 -- The access of each kind: its rules after 11 by the page's own limits, what it ends in where one is broken, and what a part of its own comes to.
-use Prim.Native.Nat.{ℕ, ◌-◌, ◌<◌, ◌^◌}
+use Prim.Native.Nat.{ℕ, ◌<◌, ◌^◌}
 use mathlib.Core.Path.{◌≡◌, refl, sym, ap, ap₂, subst, ◌∙◌}
-use mathlib.Core.Bool.{Bool, true, false, cond}
+use mathlib.Core.Bool.{Bool, true, false}
 use mathlib.Core.List.{List}
 use native.Mathlib.Omega.{arith}
-use lib.Dec.{ltb}
 use lib.ListN.{length, get_or}
-use Rattle.entry.specs.Entry.{with_marks}
 use Rattle.registers.specs.Rules.{first_broken}
 use Rattle.register_words.specs.Sdr1.{sdr1_shape, table_length, mask_ones}
 use Rattle.register_words.specs.Block.{bl_width}
 use Rattle.registers.specs.Set.{is_page, is_long, block_pairs, sdr1_of, check_words, register_words, set_words}
-use Rattle.protection.specs.Access.{storing}
 use Rattle.translation.specs.Steps.{before_search, refused_answer}
 use Rattle.translation.specs.Decision.{decided}
 use Rattle.translation.specs.Operand.{over_edge, part_start, stopped, within}
@@ -29,7 +26,7 @@ use Rattle.theory_calls.proofs.Pages.{sdr1_set, early_set}
 use Rattle.groups.specs.Hash.{TableOf}
 use Rattle.table_access.specs.declared.Part.{Part}
 use Rattle.access_rights.specs.Rights.{RightsCall, asking, would_end}
-use Rattle.access_rights.specs.Held.{Tells}
+use Rattle.access_rights.specs.Held.{newly_marked, Tells}
 use Rattle.access_rights.specs.declared.Right.{Right}
 use Rattle.access_rights.proofs.ByTable.{ByTable}
 use Rattle.access_rights.proofs.Marks.{unchanged_none, ends_done, ends_stopped, part_marks}
@@ -89,7 +86,7 @@ module _ (c : RightsCall) (page : is_page (length c.registers) ≡ true) (kind :
 
         -- a part that is done
         pub done_tells : p.answer.result ≡ 0 → (right : Right) → right.told ≡ within p.answer p.decision 1
-            → right.marks ≡ cond (ltb p.found.entry 8) (with_marks true (storing kind) p.found.second - p.found.second) 0 → Tells t (would_end c t kind) right
+            → right.marks ≡ newly_marked kind p.found → Tells t (would_end c t kind) right
         done_tells z right told marks =
             let ends = ends_done (asking c kind) t taken (one_byte c.address) (sym (ap (λ (x : Answer). x.result) own_part_law.answers) ∙ z) in
             record {

@@ -1,33 +1,31 @@
-// What a fetch, a load and a store of one byte would come to on a lent table, which is only read.
+// What a fetch, a load and a store of one byte would come to on a lent table, which is only read. The steps of a part are inlined, so that what they
+// hand on stays in registers.
 #![tactic(auto)]
 
-ghost use Rattle.std.specs.Prelude.{◌≡◌, true, cond, List, ℕ, ◌-◌, ltb, length};
-ghost use Rattle.numbers.specs.Numbers.{group_entries};
-ghost use Rattle.entry.specs.Entry.{with_marks};
+ghost use Rattle.std.specs.Prelude.{◌≡◌, true, List, ℕ, length};
 ghost use Rattle.register_words.specs.Sdr1.{mask_ones};
 ghost use Rattle.register_words.specs.Block.{bl_width};
 ghost use Rattle.registers.specs.Set.{is_page, block_pairs, sdr1_of, set_words};
-ghost use Rattle.protection.specs.Access.{storing};
-ghost use Rattle.translation.specs.Steps.{before_search, refused_answer};
-ghost use Rattle.translation.specs.Decision.{decided};
-ghost use Rattle.translation.specs.Operand.{stopped};
+ghost use Rattle.translation.specs.Steps.{before_search};
 ghost use Rattle.theory_calls.specs.Request.{access, fed};
 ghost use Rattle.theory_calls.specs.Rules.{refusal};
 ghost use Rattle.table_access.specs.Part.{PageAndTable, table_found, part_by};
 ghost use Rattle.access_rights.specs.Rights.{asking, would_end};
-ghost use Rattle.access_rights.specs.Held.{stands_at, StandsIn, Tells, TellsAll};
+ghost use Rattle.access_rights.specs.Held.{right_refused, rights_refused, stands_at, StandsIn, newly_marked, Tells, TellsAll};
 
-use table_access::{Access, Begun, Found, Part};
+use numbers::Refusal;
+use std::ops::ControlFlow;
+use table_access::{Access, Found, Part};
 use translation::operand::OperandAnswer;
 
 // The length of what is told: three answers of an access and three words.
 pub const SIZE: usize = 156;
 
-// What stands at an address: the pair of each side that covers it, or 8, and what the search of its page finds.
+// What stands at an address: the pair of each side that covers it, and what the search of its page finds.
 #[derive(Clone, Copy)]
 pub struct Standing {
-    pub ibat: usize,
-    pub dbat: usize,
+    pub ibat: Option<usize>,
+    pub dbat: Option<usize>,
     pub found: Found,
 }
 
@@ -38,16 +36,42 @@ pub struct Right {
     pub marks: u32,
 }
 
-// The first broken rule that the three accesses share, or 0, and what each comes to.
+impl Right {
+    // What an access that is refused would come to.
+    fn refused(refusal: Refusal) -> Self
+        ensures { result ≡ right_refused refusal }
+    {
+        Self {
+            told: table_access::refused(refusal),
+            marks: 0,
+        }
+    }
+}
+
+// What a fetch, a load and a store would come to.
 #[derive(Clone, Copy)]
 pub struct Rights {
-    pub number: u32,
     pub fetch: Right,
     pub load: Right,
     pub store: Right,
 }
 
+impl Rights {
+    // What three accesses that are refused alike would come to.
+    pub fn refused(refusal: Refusal) -> Self
+        ensures { result ≡ rights_refused refusal }
+    {
+        let right = Right::refused(refusal);
+        Self {
+            fetch: right,
+            load: right,
+            store: right,
+        }
+    }
+}
+
 // What stands at an address, by one search for the three kinds.
+#[tactic(auto, using(table_access::proofs::Parts::covered_is, entry::proofs::Addresses::index_lt), unfolding(register_words::specs::Segment::segment_vsid))]
 fn standing_at(registers: &[u8], mode: u32, address: u32, table: &[u8]) -> Standing
     requires { PageAndTable registers.now table.now }
     ensures { result ≡ stands_at (set_words registers.now) mode address (mask_ones (sdr1_of (set_words registers.now))) table.now }
@@ -55,57 +79,58 @@ fn standing_at(registers: &[u8], mode: u32, address: u32, table: &[u8]) -> Stand
     let user = protection::user_mode(mode);
     let segment = register_pages::segment(registers, (address >> 28) as usize);
     let wanted = translation::wanted_of(user, segment, address);
-    let page = groups::locate(table.len(), wanted.vsid, wanted.index);
-    let primary = matches::in_primary(table, page);
-    let told = matches::in_secondary(table, page, primary);
     Standing {
         ibat: register_pages::covering_pair(registers, false, user, address),
         dbat: register_pages::covering_pair(registers, true, user, address),
-        found: table_access::found_in(page, told),
+        found: table_access::search(table, wanted),
     }
 }
 
-// Steps 1 to 6 of the access of a kind, by what stands at its address.
-fn part_at(registers: &[u8], mode: u32, kind: u32, address: u32, at: Standing) -> Part
+// Steps 1 to 6 of an access, by what stands at its address.
+#[inline(always)]
+#[tactic(auto, using(translation::proofs::Steps::before_real, translation::proofs::Steps::searches), unfolding(table_access::specs::Part::begun_by, table_access::specs::Part::part_by, protection::specs::Access::side_of))]
+fn part_at(registers: &[u8], asked: Access, at: Standing) -> Part
     requires { (is_page (length registers.now) ≡ true)
-        × ((k : ℕ) × ((t : List ℕ) × (at ≡ stands_at (set_words registers.now) mode address k t))) }
-    ensures { (k : ℕ) (t : List ℕ) → at ≡ stands_at (set_words registers.now) mode address k t
-        → result ≡ part_by kind address (table_found k t) (before_search (block_pairs true) (bl_width true) (set_words registers.now) mode kind address) }
+        × ((k : ℕ) × ((t : List ℕ) × (at ≡ stands_at (set_words registers.now) asked.mode asked.address k t))) }
+    ensures { (k : ℕ) (t : List ℕ) → at ≡ stands_at (set_words registers.now) asked.mode asked.address k t
+        → result ≡ part_by asked.kind asked.address (table_found k t)
+        (before_search (block_pairs true) (bl_width true) (set_words registers.now) asked.mode asked.kind asked.address) }
 {
-    if !protection::is_relocated(mode, kind) {
-        return table_access::real_part(address);
+    if !protection::is_relocated(asked.mode, asked.kind) {
+        return table_access::real_part(asked.address);
     }
-    let pair = if protection::is_fetch(kind) {
+    let pair = if protection::is_fetch(asked.kind) {
         at.ibat
     } else {
         at.dbat
     };
-    match table_access::before_search(registers, mode, kind, address, pair) {
-        Begun::Told(part) => part,
-        Begun::Wants(wanted) => table_access::after_search(kind, address, wanted.key, at.found),
+    match table_access::before_search(registers, asked, pair) {
+        ControlFlow::Break(part) => part,
+        ControlFlow::Continue(wanted) => table_access::after_search(asked, wanted.key, at.found),
     }
 }
 
-// The marks that a done part would newly set: none where no entry did it.
+// The marks that a done part would newly set: none where no entry of the table did it.
+#[tactic(auto, using(crate::proofs::Marks::marks_grow))]
 fn new_marks(kind: u32, found: Found) -> u32
-    ensures { result ≡ cond (ltb found.entry group_entries) (with_marks true (storing kind) found.second - found.second) 0 }
+    ensures { result ≡ newly_marked kind found }
 {
-    if found.entry < table_access::NO_ENTRY {
-        let second = found.second;
+    if let Found::InTable { second, .. } = found {
         return entry::with_marks(second, true, protection::is_store(kind)) - second;
     }
     0
 }
 
-// What the access of a kind that its arguments do not refuse would come to.
-fn right_of(registers: &[u8], mode: u32, kind: u32, address: u32, at: Standing) -> Right
+// What an access of one byte that its arguments do not refuse would come to.
+#[inline(always)]
+fn right_of(registers: &[u8], asked: Access, at: Standing) -> Right
     requires { (is_page (length registers.now) ≡ true)
-        × ((t : List ℕ) × StandsIn (record { registers = registers.now; mode = mode; address = address }) t at) }
-    ensures { (t : List ℕ) → StandsIn (record { registers = registers.entry.now; mode = mode; address = address }) t at
-        → refusal (fed (access (asking (record { registers = registers.entry.now; mode = mode; address = address }) kind))) (length t) ≡ 0
-        → Tells t (would_end (record { registers = registers.entry.now; mode = mode; address = address }) t kind) result }
+        × ((t : List ℕ) × StandsIn (record { registers = registers.now; mode = asked.mode; address = asked.address }) t at) }
+    ensures { (t : List ℕ) → StandsIn (record { registers = registers.entry.now; mode = asked.mode; address = asked.address }) t at
+        → refusal (fed (access (asking (record { registers = registers.entry.now; mode = asked.mode; address = asked.address }) asked.kind))) (length t) ≡ 0
+        → Tells t (would_end (record { registers = registers.entry.now; mode = asked.mode; address = asked.address }) t asked.kind) result }
 {
-    let part = part_at(registers, mode, kind, address, at);
+    let part = part_at(registers, asked, at);
     let answer = part.answer;
     if answer.result != numbers::DONE {
         return Right {
@@ -115,48 +140,34 @@ fn right_of(registers: &[u8], mode: u32, kind: u32, address: u32, at: Standing) 
     }
     Right {
         told: translation::operand::within(answer, part.decision, 1),
-        marks: new_marks(kind, part.found),
+        marks: new_marks(asked.kind, part.found),
     }
 }
 
-// What an access that is refused would come to, whatever its kind.
-fn refused(number: u32) -> Right
-    ensures { (result.told ≡ stopped (refused_answer number) (decided 0 0)) × (result.marks ≡ 0) }
-{
-    let answer = translation::refused_answer(number);
-    let none = translation::decision::decided(0, 0);
-    Right {
-        told: translation::operand::stopped(answer, none),
-        marks: 0,
-    }
-}
-
-// What the three accesses of one byte would come to, where the lent lengths are right.
-pub fn tell(registers: &[u8], mode: u32, address: u32, table: &[u8]) -> Rights
+// What the three accesses of one byte would come to, where the lent lengths are right, or the rule that refuses each of them.
+pub fn tell(registers: &[u8], mode: u32, address: u32, table: &[u8]) -> Result<Rights, Refusal>
     requires { is_page (length registers.now) ≡ true }
     ensures { TellsAll (record { registers = registers.entry.now; mode = mode; address = address }) table.now result }
 {
-    let asked = Access {
+    let fetch = Access {
         mode,
         kind: numbers::FETCH,
         address,
         length: 1,
     };
-    let number = table_access::refusal(registers, asked, table.len());
-    if number != numbers::DONE {
-        let right = refused(number);
-        return Rights {
-            number,
-            fetch: right,
-            load: right,
-            store: right,
-        };
-    }
+    table_access::check(registers, fetch, table.len())?;
+    let load = Access {
+        kind: numbers::LOAD,
+        ..fetch
+    };
+    let store = Access {
+        kind: numbers::STORE,
+        ..fetch
+    };
     let at = standing_at(registers, mode, address, table);
-    Rights {
-        number,
-        fetch: right_of(registers, mode, numbers::FETCH, address, at),
-        load: right_of(registers, mode, numbers::LOAD, address, at),
-        store: right_of(registers, mode, numbers::STORE, address, at),
-    }
+    Ok(Rights {
+        fetch: right_of(registers, fetch, at),
+        load: right_of(registers, load, at),
+        store: right_of(registers, store, at),
+    })
 }

@@ -1,8 +1,8 @@
 -- What the functions' proofs cite: the test of a place as the code makes it, what a hit, a load and a zeroed set are by what the code found.
-use mathlib.Core.Bool.{Bool, true, false, cond, not, ◌&&◌, ◌||◌}
+use mathlib.Core.Bool.{Bool, true, false, not, ◌&&◌}
 use mathlib.Core.List.{List, ◌++◌, append_assoc}
-use mathlib.Core.Option.{Option, none, some}
-use mathlib.Core.Path.{◌≡◌, refl, sym, ap, ap₂, ◌∙◌}
+use mathlib.Core.Option.{none, some}
+use mathlib.Core.Path.{◌≡◌, sym, ap, ap₂, ◌∙◌}
 use Prim.Native.Nat.{ℕ, ◌+◌, ◌-◌, ◌*◌, ◌/◌, ◌^◌, ◌<◌, ◌≤◌}
 use native.Mathlib.Omega.{arith}
 use borrow.Author.Tests.{eqb-true, eq-eqb}
@@ -17,7 +17,7 @@ use Rattle.words.proofs.Masks.{or_bit}
 use Rattle.words.proofs.Tests.{both, same_test}
 use Rattle.entry.specs.Entry.{changed}
 use Rattle.groups.specs.Page.{Page}
-use Rattle.cache.specs.Cache.{set_of, place_at, first_in, second_in, met, load_place, put_place, loaded, set_zeroed}
+use Rattle.cache.specs.Cache.{set_of, place_at, first_in, second_in, holds, met, load_place, put_place, loaded, set_zeroed}
 use Rattle.cache.proofs.Cache.{set_lt, place_0, place_1}
 
 -- ---- the test of a place
@@ -35,19 +35,26 @@ tag_same w vsid fits h =
     let same = eqb-true (bits 1 24 w) vsid s in
     eq-eqb (w / 2 ^ 7) (2 ^ 24 + vsid) (omega arith)))
 
+-- what the tests of the two places, by where the set begins, said of a page
+module _ (s : List ℕ) (page : Page) (start : ℕ) (told : Bool) (at : start ≡ 32 * set_of page.index) where
+  pub held_0 : ((place : Bool) → start ≡ place_at page.index place → told ≡ holds s page place) → told ≡ holds s page false
+  held_0 h = h false (at ∙ sym (place_0 _))
+
+  pub held_1 : ((place : Bool) → start + 16 ≡ place_at page.index place → told ≡ holds s page place) → told ≡ holds s page true
+  held_1 h = h true (omega (arith, at, place_1 page.index))
+
 -- ---- a hit
 
--- what is met in a place, by a test that says when there is a hit
-pub met_found : (storing : Bool) (cache : List ℕ) (index : ℕ) (place : Bool)
-    → met storing cache index place
-    ≡ cond (not storing || changed (second_in cache index place)) (some (first_in cache index place, second_in cache index place)) none
-unfolding met
-met_found storing cache index place = by_cases storing (changed (second_in cache index place)) (some (first_in cache index place, second_in cache index place))
-  where
-    by_cases : (s c : Bool) (x : Option (ℕ × ℕ)) → cond (s && not c) none x ≡ cond (not s || c) x none
-    by_cases true true x = refl
-    by_cases true false x = refl
-    by_cases false c x = refl
+-- what is met in a place that holds the page: its two words, but none to a store that meets C clear
+module _ (storing : Bool) (cache : List ℕ) (index : ℕ) (place : Bool) where
+  pub met_clear : (storing && not (changed (second_in cache index place))) ≡ true → met storing cache index place ≡ none
+  unfolding met
+  met_clear e = rw e
+
+  pub met_set : (storing && not (changed (second_in cache index place))) ≡ false
+      → met storing cache index place ≡ some (first_in cache index place, second_in cache index place)
+  unfolding met
+  met_set e = rw e
 
 -- ---- what a load writes, by its place
 

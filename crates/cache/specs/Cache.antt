@@ -1,11 +1,12 @@
 -- The cache of translations (request 7): 2,048 bytes, 64 sets of two places, four big-endian words a place: an entry's two words, a page index,
 -- and 1 for the newer load of the set, else 0. In what follows false is place 0 of a set and true is place 1.
-use Rattle.std.specs.Prelude.{ℕ, ◌+◌, ◌*◌, ◌%◌, Bool, true, false, cond, not, ◌&&◌, List, eqb, replicate}
+use Rattle.std.specs.Prelude.{ℕ, ◌+◌, ◌*◌, ◌%◌, Bool, true, false, cond, not, ◌&&◌, List, eqb, replicate, Option as Found, Some, None}
 use Rattle.std.proofs.Math.Option.{Option, none, some}
 use Rattle.std.proofs.lemmas.List.Edits.{sets}
 use Rattle.words.specs.Bits.{bits}
 use Rattle.words.specs.Words.{word_at, with_word}
 use Rattle.entry.specs.Entry.{changed}
+use Rattle.entry.specs.declared.Words.{Words}
 use Rattle.groups.specs.Page.{Page}
 
 -- the length of a cache
@@ -50,6 +51,11 @@ unfoldable pub hit : Bool → List ℕ → Page → Option (ℕ × ℕ)
 hit storing cache page =
     cond (holds cache page false) (met storing cache page.index false)
     (cond (holds cache page true) (met storing cache page.index true) none)
+
+-- the same of what `find` hands back
+abbrev pub found : Found Words → Option (ℕ × ℕ)
+found None = none
+found (Some words) = some (words.first, words.second)
 
 -- the place that a load replaces: 1 if only place 0's fourth word is 1, else 0
 unfoldable pub older_place : List ℕ → ℕ → Bool

@@ -1,8 +1,11 @@
 -- A page table entry (rules 4): two words, the fields in them, and what is read and changed there.
-use Rattle.std.specs.Prelude.{ℕ, ◌+◌, ◌/◌, ◌^◌, Bool, cond, ◌&&◌, List, [], ◌∷◌, eqb, ltb}
+use Rattle.std.specs.Prelude.{ℕ, ◌+◌, ◌/◌, ◌^◌, Bool, cond, ◌&&◌, List, [], ◌∷◌, eqb, ltb, Result, Ok, Err}
 use Rattle.numbers.specs.Numbers.{done, refused_argument}
+use Rattle.numbers.specs.Refused.{refusal_number}
+use Rattle.numbers.specs.declared.Refusal.{Refusal}
 use Rattle.words.specs.Bits.{bits, placed, with_bits}
 use Rattle.entry.specs.declared.Fields.{Fields}
+use Rattle.entry.specs.declared.Words.{Words}
 
 -- the first word: V bit 0, VSID bits 1 to 24, H bit 25, API bits 26 to 31
 unfoldable pub first_word : ℕ → ℕ → ℕ → ℕ → ℕ
@@ -25,6 +28,11 @@ within_widths f =
 -- packing: done and the two words of fields each within its width; else a refused argument and zero words
 unfoldable pub packed : Fields → ℕ × (ℕ × ℕ)
 packed f = cond (within_widths f) (done, (first_word f.v f.vsid f.h f.api, second_word f.rpn f.r f.c f.wimg f.pp)) (refused_argument, (0, 0))
+
+-- the same of what `pack` hands back: done and the words, or the refusal's number and zero words
+abbrev pub packed_words : Result Words Refusal → ℕ × (ℕ × ℕ)
+packed_words (Ok words) = (done, (words.first, words.second))
+packed_words (Err refusal) = (refusal_number refusal, (0, 0))
 
 -- the fields of a second word that an access reads
 abbrev pub rpn_of : ℕ → ℕ

@@ -4,11 +4,13 @@
 ghost use Rattle.std.specs.Prelude.{◌≡◌, cond, ℕ, ◌<◌, ◌^◌, eqb};
 ghost use Rattle.words.specs.Words.{swapped};
 ghost use Rattle.words.specs.Bits.{bits};
-ghost use Rattle.entry.specs.Entry.{first_word, second_word, within_widths, packed, wimg_of, pp_of, unpacked, free};
+ghost use Rattle.entry.specs.Entry.{first_word, second_word, within_widths, packed, packed_words, wimg_of, pp_of, unpacked, free};
 ghost use Rattle.entry.specs.Entry.{referenced, changed, with_marks, with_pp, physical_address, page_index, api_of};
 
+use numbers::Refusal;
+
 // The fields of an entry.
-#[derive(Clone, Copy)]
+#[derive(Clone, Copy, PartialEq, Eq, Debug, Drop)]
 pub struct Fields {
     pub v: u32,
     pub vsid: u32,
@@ -22,20 +24,14 @@ pub struct Fields {
 }
 
 // The two words of an entry.
-#[derive(Clone, Copy)]
+#[derive(Clone, Copy, PartialEq, Eq, Debug, Drop)]
 pub struct Words {
     pub first: u32,
     pub second: u32,
 }
 
-// What packing answers: done and the words, or a refused argument and zero words where a field is past its width.
-#[derive(Clone, Copy)]
-pub struct Packed {
-    pub result: u32,
-    pub words: Words,
-}
-
 // The first word of an entry.
+// (Packing stays by shifts and masks, here and below: a form that the rules bind.)
 pub fn first_word(v: u32, vsid: u32, h: u32, api: u32) -> u32
     requires { (v < 2 ^ 1) × (vsid < 2 ^ 24) × (h < 2 ^ 1) × (api < 2 ^ 6) }
     ensures { result ≡ first_word v vsid h api }
@@ -63,33 +59,25 @@ pub fn within_widths(f: Fields) -> bool
         & (f.pp < 4)
 }
 
-// Packs fields into the two words of an entry.
-pub fn pack(f: Fields) -> Packed
-    ensures { (result.result, (result.words.first, result.words.second)) ≡ packed f }
+// Packs fields into the two words of an entry. A field past its width is a refused argument.
+pub fn pack(f: Fields) -> Result<Words, Refusal>
+    ensures { packed_words result ≡ packed f }
 {
-    if within_widths(f) {
-        Packed {
-            result: numbers::DONE,
-            words: Words {
-                first: first_word(f.v, f.vsid, f.h, f.api),
-                second: second_word(f.rpn, f.r, f.c, f.wimg, f.pp),
-            },
-        }
-    } else {
-        Packed {
-            result: numbers::REFUSED_ARGUMENT,
-            words: Words {
-                first: 0,
-                second: 0,
-            },
-        }
+    if !within_widths(f) {
+        return Err(Refusal::Argument);
     }
+    Ok(Words {
+        first: first_word(f.v, f.vsid, f.h, f.api),
+        second: second_word(f.rpn, f.r, f.c, f.wimg, f.pp),
+    })
 }
 
 // Unpacks any two words into fields.
-pub fn unpack(first: u32, second: u32) -> Fields
-    ensures { result ≡ unpacked first second }
+#[tactic(auto, unfolding(crate::specs::Entry::unpacked))]
+pub fn unpack(words: Words) -> Fields
+    ensures { result ≡ unpacked words.first words.second }
 {
+    let Words { first, second } = words;
     Fields {
         v: first >> 31,
         vsid: (first >> 7) & 0xFFFFFF,
@@ -133,6 +121,7 @@ pub fn first_in(secondary: bool, primary: u32) -> u32
 }
 
 // Whether the entry of a first word is free: V is 0.
+#[tactic(auto, unfolding(crate::specs::Entry::free))]
 pub fn is_free(first: u32) -> bool
     ensures { result ≡ free first }
 {
@@ -140,6 +129,7 @@ pub fn is_free(first: u32) -> bool
 }
 
 // Whether R is set in a second word.
+#[tactic(auto, unfolding(crate::specs::Entry::referenced))]
 pub fn is_referenced(second: u32) -> bool
     ensures { result ≡ referenced second }
 {
@@ -147,6 +137,7 @@ pub fn is_referenced(second: u32) -> bool
 }
 
 // Whether C is set in a second word.
+#[tactic(auto, unfolding(crate::specs::Entry::changed))]
 pub fn is_changed(second: u32) -> bool
     ensures { result ≡ changed second }
 {
@@ -169,6 +160,7 @@ pub fn with_pp(second: u32, pp: u32) -> u32
 }
 
 // The VSID of a first word.
+// (What is read of one word stays a function of it: a search and a cache read one word of the two, and a `Words` would have to be made for it.)
 pub fn vsid_of(first: u32) -> u32
     ensures { result ≡ bits 1 24 first }
 {
@@ -204,6 +196,7 @@ pub fn physical_address(second: u32, address: u32) -> u32
 }
 
 // The page index of an effective address.
+#[tactic(auto, unfolding(crate::specs::Entry::page_index))]
 pub fn page_index(address: u32) -> u32
     ensures { result ≡ page_index address }
 {
@@ -211,6 +204,7 @@ pub fn page_index(address: u32) -> u32
 }
 
 // The API of a page index.
+#[tactic(auto, unfolding(crate::specs::Entry::api_of))]
 pub fn api_of(index: u32) -> u32
     ensures { result ≡ api_of index }
 {

@@ -11,9 +11,9 @@ use lib.Bits.{bit_and, bit_or, and_mask, or_shifted}
 use lib.Pow.{pow_mono, shr-shr, high, low}
 use lib.Dec.{eqb, ltb}
 use borrow.Author.Tests.{lt-ltb, le-ltb, ltb-true, ltb-false}
-use Rattle.groups.specs.Group.{entry_free, first_free, first_free_place, free_to, free_after}
+use Rattle.std.specs.Prelude.{Option, Some, None}
+use Rattle.groups.specs.Group.{entry_free, place, first_free, first_free_place, free_to, free_after}
 use Rattle.groups.specs.declared.Place.{Place}
-use Rattle.groups.specs.declared.Place.TheVariants.{Entry, Full}
 
 -- ---- which entries are free
 
@@ -21,11 +21,11 @@ use Rattle.groups.specs.declared.Place.TheVariants.{Entry, Full}
 abbrev one : Bool → ℕ
 one b = cond b 1 0
 
-pub one_is : (b : Bool) → bool_byte b ≡ one b
+one_is : (b : Bool) → bool_byte b ≡ one b
 one_is true = refl
 one_is false = refl
 
-pub one_lt : (b : Bool) → one b < 2 ^ 1
+one_lt : (b : Bool) → one b < 2 ^ 1
 one_lt true = omega arith
 one_lt false = omega arith
 
@@ -94,48 +94,50 @@ free_asked p s free h i e hl l =
     is_one false = refl
 
 -- one entry more, as the code puts its bit in
-pub free_more : (before : ℕ) (group : List ℕ) (n free : ℕ) (b : Bool) → before < 2 ^ 8 → n < 8 → free ≡ free_to before group n → b ≡ entry_free group n
-    → bit_or ((free * 2) % 2 ^ 32) (bool_byte b) ≡ free_to before group (suc n)
+pub free_more : (before : ℕ) (group : List ℕ) (n free bit : ℕ) → before < 2 ^ 8 → n < 8 → free ≡ free_to before group n → bit ≡ bool_byte (entry_free group n)
+    → bit_or ((free * 2) % 2 ^ 32) bit ≡ free_to before group (n + 1)
 unfolding free_to
-free_more before group n free b l few is test =
+free_more before group n free bit l few is test =
     let wide = free_lt before group 8 n l in
     let few_bits : 8 + n ≤ 16 = omega arith in
     let fits : 2 ^ (8 + n) ≤ 2 ^ 16 = pow_mono few_bits in
     let kept : (free * 2) % 2 ^ 32 ≡ free_to before group n * 2 = omega (arith, is) in
-    ap₂ bit_or kept (one_is b ∙ ap one test) ∙ or_shifted (free_to before group n) 1 (one (entry_free group n)) (one_lt (entry_free group n))
+    ap₂ bit_or kept (test ∙ one_is (entry_free group n))
+    ∙ or_shifted (free_to before group n) 1 (one (entry_free group n)) (one_lt (entry_free group n))
+    ∙ ap (free_to before group) (sym (add-one n))
 
 module _ (p s : List ℕ) where
-  pub free_primary : (i : ℕ) → first_free p ≡ i → i < 8 → first_free_place p s ≡ Entry false i
+  pub free_primary : (i : ℕ) → first_free p ≡ i → i < 8 → first_free_place p s ≡ Some (place false i)
   unfolding first_free_place
   free_primary i e l = rw (e, lt-ltb i 8 l)
 
-  pub free_secondary : (j : ℕ) → 8 ≤ first_free p → first_free s ≡ j → j < 8 → first_free_place p s ≡ Entry true j
+  pub free_secondary : (j : ℕ) → 8 ≤ first_free p → first_free s ≡ j → j < 8 → first_free_place p s ≡ Some (place true j)
   unfolding first_free_place
   free_secondary j n e l = rw (le-ltb (first_free p) 8 n, e, lt-ltb j 8 l)
 
-  pub free_nowhere : 8 ≤ first_free p → 8 ≤ first_free s → first_free_place p s ≡ Full
+  pub free_nowhere : 8 ≤ first_free p → 8 ≤ first_free s → first_free_place p s ≡ None
   unfolding first_free_place
   free_nowhere n m = rw (le-ltb (first_free p) 8 n, le-ltb (first_free s) 8 m)
 
   -- the first of group h, where no group before it has one
   pub free_found : (h i : ℕ) → h < 2 → i < 8 → ((k : ℕ) → k < h → first_free (cond (eqb k 0) p s) ≡ 8) → first_free (cond (eqb h 0) p s) ≡ i
-      → Entry (eqb h 1) i ≡ first_free_place p s
+      → Some (place (eqb h 1) i) ≡ first_free_place p s
   free_found zero i hl l none e = sym (free_primary i e l)
   free_found (suc zero) i hl l none e = sym (free_secondary i (omega (arith, none 0 (omega arith))) e l)
   free_found (suc (suc h)) i hl l none e = absurd (omega arith)
 
   -- how the search can end
-  pub data PlaceCase : Place → Type 0 where
-    in_primary_law : (i : ℕ) → first_free p ≡ i → i < 8 → PlaceCase (Entry false i)
-    in_secondary_law : (j : ℕ) → 8 ≤ first_free p → first_free s ≡ j → j < 8 → PlaceCase (Entry true j)
-    nowhere : 8 ≤ first_free p → 8 ≤ first_free s → PlaceCase Full
+  pub data PlaceCase : Option Place → Type 0 where
+    in_primary_law : (i : ℕ) → first_free p ≡ i → i < 8 → PlaceCase (Some (place false i))
+    in_secondary_law : (j : ℕ) → 8 ≤ first_free p → first_free s ≡ j → j < 8 → PlaceCase (Some (place true j))
+    nowhere : 8 ≤ first_free p → 8 ≤ first_free s → PlaceCase None
 
   pub place_case : PlaceCase (first_free_place p s)
   unfolding first_free_place
   place_case = go (ltb (first_free p) 8) refl (ltb (first_free s) 8) refl
     where
       go : (a : Bool) → ltb (first_free p) 8 ≡ a → (b : Bool) → ltb (first_free s) 8 ≡ b
-          → PlaceCase (cond a (Entry false (first_free p)) (cond b (Entry true (first_free s)) Full))
+          → PlaceCase (cond a (Some (place false (first_free p))) (cond b (Some (place true (first_free s))) None))
       go true x b y = in_primary_law (first_free p) refl (ltb-true (first_free p) 8 x)
       go false x true y = in_secondary_law (first_free s) (ltb-false (first_free p) 8 x) refl (ltb-true (first_free s) 8 y)
       go false x false y = nowhere (ltb-false (first_free p) 8 x) (ltb-false (first_free s) 8 y)

@@ -17,10 +17,6 @@ lent_group t g =
     let from : g * 64 ≡ 64 * g = omega arith in
     rw width (ap (λ (a : ℕ). take 64 (drop a t)) from)
 
--- the same where its bytes are told
-pub lent_part : (t : List ℕ) (g size : ℕ) → size ≡ 64 → mid_of (g * 64) (g * 64 + size - g * 64) t ≡ group_of t g
-lent_part t g size e = ap (λ (n : ℕ). mid_of (g * 64) (g * 64 + n - g * 64) t) e ∙ lent_group t g
-
 back_group : (t : List ℕ) (g : ℕ) (b : List ℕ) → put_mid (g * 64) (g * 64 + 64 - g * 64) t b ≡ put_group t g b
 unfolding put_group
 back_group t g b =

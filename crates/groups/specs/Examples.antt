@@ -1,13 +1,12 @@
 -- Worked examples of hash, groups and free entries, each row closed by computation: cases 1, 6 and 11 (rules 9), the manual's group addresses,
 -- and a group of 64 bytes with used and free entries.
-use Rattle.std.specs.Prelude.{ℕ, ◌-◌, ◌^◌, true, false, List, [], ◌∷◌, ◌++◌, map, ◌≡◌, replicate}
+use Rattle.std.specs.Prelude.{ℕ, ◌-◌, ◌^◌, true, false, List, [], ◌∷◌, ◌++◌, map, ◌≡◌, replicate, Some, None}
 use Rattle.words.specs.Rows.{Hold, powers}
 use Rattle.words.specs.Words.{bytes_of}
 use Rattle.register_words.specs.Sdr1.{hash_bits}
 use Rattle.groups.specs.Page.{Page, same_page}
 use Rattle.groups.specs.Hash.{hash_of, groups_of, group_number, group_address}
-use Rattle.groups.specs.Group.{group_of, first_of, second_of, put_at, first_free_place, free_after}
-use Rattle.groups.specs.declared.Place.TheVariants.{Entry, Full}
+use Rattle.groups.specs.Group.{group_of, first_of, second_of, put_at, place, first_free_place, free_after}
 
 abbrev pub page_at : ℕ → ℕ → Page
 page_at vsid index = record { vsid = vsid; index = index }
@@ -94,13 +93,13 @@ pub record GroupsTables : Type 0 where
       )
   -- the first free entry: of the primary group, of the secondary where the primary is full, or none
   pub free_places : Hold (
-      (first_free_place example last, Entry false 2)
-      ∷ (first_free_place last example, Entry false 7)
-      ∷ (first_free_place full example, Entry true 2)
-      ∷ (first_free_place full last, Entry true 7)
-      ∷ (first_free_place (replicate 64 0) example, Entry false 0)
-      ∷ (first_free_place full (replicate 64 0), Entry true 0)
-      ∷ (first_free_place full full, Full)
+      (first_free_place example last, Some (place false 2))
+      ∷ (first_free_place last example, Some (place false 7))
+      ∷ (first_free_place full example, Some (place true 2))
+      ∷ (first_free_place full last, Some (place true 7))
+      ∷ (first_free_place (replicate 64 0) example, Some (place false 0))
+      ∷ (first_free_place full (replicate 64 0), Some (place true 0))
+      ∷ (first_free_place full full, None)
       ∷ []
       )
   -- which entries are free, a bit for each, the last one's the lowest: of one group, and behind those of another

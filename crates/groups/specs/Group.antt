@@ -1,11 +1,10 @@
 -- A table as its groups, and a group as its eight entries of 8 bytes (rules 4).
-use Rattle.std.specs.Prelude.{ℕ, zero, suc, ◌+◌, ◌*◌, Bool, true, false, cond, List, ◌++◌, ltb, take, drop}
+use Rattle.std.specs.Prelude.{ℕ, zero, suc, ◌+◌, ◌*◌, Bool, true, false, cond, List, ◌++◌, ltb, take, drop, Option, Some, None}
 use Rattle.numbers.specs.Numbers.{group_size, entry_size, group_entries}
 use Rattle.words.specs.Below.{first_below}
 use Rattle.words.specs.Words.{word_at, with_word}
 use Rattle.entry.specs.Entry.{free}
 use Rattle.groups.specs.declared.Place.{Place}
-use Rattle.groups.specs.declared.Place.TheVariants.{Entry, Full}
 
 -- group g of a table: its 64 bytes from byte 64 × g on
 unfoldable pub group_of : List ℕ → ℕ → List ℕ
@@ -38,12 +37,16 @@ entry_free group i = free (first_at group i)
 unfoldable pub first_free : List ℕ → ℕ
 first_free group = first_below group_entries (entry_free group)
 
+-- entry i of a page's primary (false) or secondary (true) group
+abbrev pub place : Bool → ℕ → Place
+place secondary i = record { secondary = secondary; entry = i }
+
 -- the first free entry in search order, primary entries 0 to 7, then secondary, given the bytes of both groups
-unfoldable pub first_free_place : List ℕ → List ℕ → Place
+unfoldable pub first_free_place : List ℕ → List ℕ → Option Place
 first_free_place primary secondary =
     let i = first_free primary in
     let j = first_free secondary in
-    cond (ltb i group_entries) (Entry false i) (cond (ltb j group_entries) (Entry true j) Full)
+    cond (ltb i group_entries) (Some (place false i)) (cond (ltb j group_entries) (Some (place true j)) None)
 
 -- which of the first n entries of a group are free, behind those told before: a bit for each, the last entry's the lowest
 unfoldable pub free_to : ℕ → List ℕ → ℕ → ℕ

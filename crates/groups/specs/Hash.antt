@@ -1,7 +1,6 @@
 -- The hash of a page and its two groups (rules 4), for any number n of hash bits that name a group.
 use Rattle.std.specs.Prelude.{ℕ, ◌+◌, ◌-◌, ◌*◌, ◌%◌, ◌^◌, ◌≡◌, Bool, true, false, cond}
 use Rattle.std.specs.Int.Bits.{bit_xor}
-use Rattle.numbers.specs.Numbers.{group_size}
 use Rattle.words.specs.Bits.{placed}
 use Rattle.words.specs.Words.{swapped}
 use Rattle.entry.specs.Entry.{first_word, api_of}
@@ -38,13 +37,12 @@ pub record TableOf (sdr1 lent : ℕ) : Type 0 where
 abbrev pub SomeTable : ℕ → Type 0
 SomeTable lent = (sdr1 : ℕ) × TableOf sdr1 lent
 
--- where a page's entries are in a table for a mask of k ones: its two groups, the bytes of each, and the first word of its
--- entries in the primary, its bytes reversed
+-- where a page's entries are in a table for a mask of k ones: its two groups, and the first word of its entries in the
+-- primary, its bytes reversed
 abbrev pub located : ℕ → Page → Located
 located k page = record {
   primary = group_number (10 + k) false page;
   secondary = group_number (10 + k) true page;
-  size = group_size;
   wanted = swapped (first_word 1 page.vsid 0 (api_of page.index));
 }
 

@@ -1,9 +1,9 @@
 -- A virtual page (rules 4): a VSID and a page index.
-use Rattle.std.specs.Prelude.{ℕ, ◌^◌, ◌<◌, Bool, ◌&&◌, eqb}
+use Rattle.std.specs.Prelude.{◌^◌, ◌<◌, Bool, ◌&&◌, eqb}
+use Rattle.groups.specs.declared.Page as declared
 
-pub record Page : Type 0 where
-  pub vsid : ℕ
-  pub index : ℕ
+abbrev pub Page : Type 0
+Page = declared.Page
 
 -- a VSID below 2 ^ 24 and a page index below 65,536
 pub record InRange (page : Page) : Type 0 where

@@ -1,12 +1,12 @@
 -- Laws of a test of the matches of a list, of one list after the other, and of the word with the marks of all.
 use mathlib.Core.Path.{◌≡◌, refl, sym, ap, ap₂, ◌∙◌}
-use mathlib.Core.Bool.{Bool, true, false, ◌||◌, true≢false}
+use mathlib.Core.Bool.{Bool, true, false, ◌||◌}
 use mathlib.Core.List.{List, [], ◌∷◌, ◌++◌}
 use Prim.Native.Nat.{ℕ}
 use Rattle.entry.specs.Entry.{referenced, changed, with_marks}
 use Rattle.entry.proofs.Marks.{marks_referenced, marks_changed, marks_own, marks_again}
 use Rattle.theory_tables.specs.Matches.{Match}
-use Rattle.matches.specs.Search.{any_match, marks_of, merged, each}
+use Rattle.matches.specs.Search.{any_match, marks_of, merged}
 
 pub or_true : (b : Bool) → b || true ≡ true
 or_true true = refl
@@ -77,8 +77,3 @@ marks_more ms m word merged second r c is own e f =
 pub merged_one : (m : Match) → merged m [] ≡ m.second
 unfolding merged
 merged_one m = ap₂ (λ (r c : Bool). with_marks r c m.second) (or_false (is_referenced m)) (or_false (is_changed m)) ∙ marks_own m.second
-
--- a match without a further one is alone
-pub alone : (ms : List Match) → any_match each ms ≡ false → ms ≡ []
-alone [] e = refl
-alone (m ∷ ms) e = absurd (true≢false e)

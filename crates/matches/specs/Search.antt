@@ -1,12 +1,16 @@
 -- The search for a page's matches (rules 4), and what one pass over them tells.
-use Rattle.std.specs.Prelude.{ℕ, ◌+◌, ◌*◌, ◌%◌, ◌^◌, ◌<◌, ◌≡◌, Bool, true, false, cond, not, ◌&&◌, ◌||◌, eqb}
+use Rattle.std.specs.Prelude.{ℕ, ◌^◌, ◌<◌, ◌≡◌, Bool, true, false, cond, not, ◌&&◌, ◌||◌, eqb, Option, Some, None}
 use mathlib.Core.List.{List, [], ◌∷◌, ◌++◌, foldr}
 use Rattle.numbers.specs.Numbers.{group_entries}
 use Rattle.words.specs.Words.{swapped}
 use Rattle.entry.specs.Entry.{first_word, matches, rpn_of, wimg_of, pp_of, referenced, changed, with_marks}
 use Rattle.theory_tables.specs.Matches.{Match, matches_below}
-use Rattle.groups.specs.Group.{first_at, second_at, free_after}
+use Rattle.groups.specs.Group.{first_at, second_at, place, free_after}
+use Rattle.groups.specs.declared.Place.{Place}
 use Rattle.matches.specs.declared.Told.{Told}
+use Rattle.matches.specs.declared.FirstMatch.{FirstMatch}
+use Rattle.matches.specs.declared.Others.{Others}
+use Rattle.matches.specs.declared.Others.TheVariants.{Absent, Agreeing, Differing}
 
 -- H of an entry: 0 in the primary group (false), 1 in the secondary (true)
 abbrev pub h_of : Bool → ℕ
@@ -52,32 +56,31 @@ marks_of ms second = with_marks (any_match (λ x. referenced x.second) ms) (any_
 unfoldable pub merged : Match → List Match → ℕ
 merged m ms = marks_of (m ∷ ms) m.second
 
--- every match passes
-abbrev pub each : Match → Bool
-each m = true
+-- where a match stands in its page's two groups
+abbrev pub place_of : Match → Place
+place_of m = place m.secondary m.entry
 
--- the number of a match in search order: primary entries 0 to 7, then secondary entries 8 to 15
-abbrev pub number_of : Match → ℕ
-number_of m = group_entries * h_of m.secondary + m.entry % group_entries
+-- a first match where there are others: whether one of them does not agree with it
+abbrev pub with_others : Match → List Match → FirstMatch
+with_others m ms = record { place = place_of m; second = m.second; others = cond (contradict m ms) Differing Agreeing }
 
--- the first match by its number where there are others: 32 is added where they agree with it, 64 where one does not
-abbrev pub with_others : Match → List Match → ℕ
-with_others m ms = number_of m + cond (contradict m ms) 64 32
+-- what is told of the others than a first match
+unfoldable pub others_of : Match → List Match → Others
+others_of m [] = Absent
+others_of m (n ∷ ms) = (with_others m (n ∷ ms)).others
 
--- the first match of a list by its number, 16 where there is none
-unfoldable pub found_of : List Match → ℕ
-found_of [] = 16
-found_of (m ∷ []) = number_of m
-found_of (m ∷ n ∷ ms) = with_others m (n ∷ ms)
+-- a first match, by the others
+abbrev pub first_match : Match → List Match → FirstMatch
+first_match m ms = record { place = place_of m; second = m.second; others = others_of m ms }
 
--- the second word of the first match of a list, 0 where there is none
-abbrev pub first_second : List Match → ℕ
-first_second [] = 0
-first_second (m ∷ ms) = m.second
+-- the first match of a list, and what is told of the others
+abbrev pub found_of : List Match → Option FirstMatch
+found_of [] = None
+found_of (m ∷ ms) = Some (first_match m ms)
 
--- what a search tells of a list of matches and of the free entries that it met: the first match, its second word, and which are free
+-- what a search tells of a list of matches and of the free entries that it met: the first match, and which are free
 unfoldable pub told : List Match → ℕ → Told
-told ms free = record { found = found_of ms; second = first_second ms; free = free }
+told ms free = record { first = found_of ms; free = free }
 
 -- what the search of a page's primary group tells, and of both groups, one behind the other
 unfoldable pub in_primary : ℕ → ℕ → List ℕ → Told

@@ -1,165 +1,140 @@
 // The one search of a group of a page: its first match, whether a further one disagrees, and which entries have V = 0.
 #![tactic(auto)]
 
-ghost use Rattle.std.specs.Prelude.{◌≡◌, Bool, false, List, [], ◌∷◌, ◌++◌, ℕ, ◌+◌, ◌*◌, ◌%◌, ◌<◌, ◌≤◌, ◌^◌, length};
+ghost use Rattle.std.specs.Prelude.{◌≡◌, Bool, false, cond, List, ◌++◌, ℕ, ◌+◌, ◌*◌, ◌<◌, ◌≤◌, ◌^◌, length};
 ghost use Rattle.numbers.specs.Numbers.{group_size, group_entries};
 ghost use Rattle.theory_tables.specs.Matches.{Match};
 ghost use Rattle.groups.specs.Group.{group_of, free_after};
-ghost use Rattle.matches.specs.Search.{h_of, matches_to, disagrees, contradict, with_others, found_of, told, in_primary, in_both};
-ghost use Rattle.matches.specs.Search.{WantedWord, group_matches, agree, any_match, each};
+ghost use Rattle.matches.specs.Search.{WantedWord, group_matches, agree, any_match, disagrees, first_match, with_others, told, in_both};
+
+use groups::Place;
 
 // Whether the second words of two matches agree: RPN, WIMG and PP are equal. R, C and the ignored bits may differ.
+#[tactic(auto, unfolding(crate::specs::Search::agree))]
 pub fn words_agree(second: u32, other: u32) -> bool
     ensures { result ≡ agree second other }
 {
     (second >> 12 == other >> 12)
-        & ((second >> 3) & 0xF == (other >> 3) & 0xF)
-        & (second & 3 == other & 3)
+        & (entry::wimg_of(second) == entry::wimg_of(other))
+        & (entry::pp_of(second) == entry::pp_of(other))
 }
 
-// What a search tells of the entries that it went over. `found` is the first match's number in search order, primary entries 0 to 7, then secondary
-// 8 to 15, or NONE; AGREE is added where there are others that agree with it, and DIFFER where one of them does not. `second` is the first match's
-// second word. `free` has a bit for each entry, the last one's the lowest: one where V = 0.
-#[derive(Clone, Copy)]
-pub struct Told {
-    pub found: usize,
+// Whether a page has further matches than its first one, and whether their second words agree with its.
+#[derive(Clone, Copy, PartialEq, Eq, Debug)]
+pub enum Others {
+    Absent,
+    Agreeing,
+    Differing,
+}
+
+// The first match of a page in search order, primary entries 0 to 7, then secondary: its place, its second word, and what is told of the others.
+#[derive(Clone, Copy, PartialEq, Eq, Debug)]
+pub struct FirstMatch {
+    pub place: Place,
     pub second: u32,
+    pub others: Others,
+}
+
+// What a search tells of the entries that it went over: the first match, and in `free` a bit for each entry, the last one's the lowest: one where
+// V = 0.
+#[derive(Clone, Copy, PartialEq, Eq, Debug)]
+pub struct Told {
+    pub first: Option<FirstMatch>,
     pub free: u32,
 }
 
-const NONE: usize = 16;
-
-const AGREE: usize = 32;
-
-const DIFFER: usize = 64;
-
-impl Told {
-    // Before any group is searched.
-    pub fn nothing() -> Self
-        ensures { result ≡ told [] 0 }
-    {
-        Self {
-            found: NONE,
-            second: 0,
-            free: 0,
-        }
-    }
-
-    // Whether there is a match.
-    pub fn any(self) -> bool
-        ensures { (ms : List Match) (free : ℕ) → self ≡ told ms free → result ≡ any_match each ms }
-    {
-        self.found != NONE
-    }
-
-    // Whether there are others than the first match.
-    pub fn several(self) -> bool
-        ensures { (m : Match) (ms : List Match) (free : ℕ) → self ≡ told (m ∷ ms) free → result ≡ any_match each ms }
-    {
-        self.found >= AGREE
-    }
-
-    // Whether one of them disagrees with it.
-    pub fn differs(self) -> bool
-        ensures { (m : Match) (ms : List Match) (free : ℕ) → self ≡ told (m ∷ ms) free → result ≡ contradict m ms }
-    {
-        self.found >= DIFFER
-    }
-
-    // Whether the first match is in the secondary group.
-    pub fn in_secondary(self) -> bool
-        ensures { (m : Match) (ms : List Match) (free : ℕ) → self ≡ told (m ∷ ms) free → result ≡ m.secondary }
-    {
-        self.found % NONE >= numbers::GROUP_ENTRIES
-    }
-
-    // The number of the first match's entry in its group.
-    pub fn entry(self) -> usize
-        ensures { (m : Match) (ms : List Match) (free : ℕ) → self ≡ told (m ∷ ms) free → result ≡ m.entry % group_entries }
-    {
-        self.found % numbers::GROUP_ENTRIES
-    }
-}
-
-// Whether a match among the first `entries` of a group disagrees with a second word. It is run only where there are several matches, and calls
-// itself so that the compiler leaves it out of the search.
-fn disagree(group: &[u8], entries: usize, wanted: u32, second: u32) -> bool
-    requires { (entries ≤ group_entries) × (length group.now ≡ group_size) }
-    ensures { (secondary : Bool) (vsid api : ℕ) → WantedWord secondary vsid api wanted
-        → result ≡ any_match (disagrees second) (matches_to secondary vsid api group.now entries) }
-{
-    if entries == 0 {
-        return false;
-    }
-    let last = entries - 1;
-    if disagree(group, last, wanted, second) {
-        return true;
-    }
-    let other = words::read_word(group, numbers::ENTRY_SIZE * last + 4);
-    words::is_word(group, numbers::ENTRY_SIZE * last, wanted) & !words_agree(second, other)
-}
-
-// What is told of a first match where there are others, those of this group among them.
-fn with_others(group: &[u8], wanted: u32, found: usize, second: u32) -> usize
+// Whether a match of a group disagrees with a second word. It is run only where there are several matches, and left out of the search.
+#[cold]
+#[inline(never)]
+fn disagree(group: &[u8], wanted: u32, second: u32) -> bool
     requires { length group.now ≡ group_size }
-    ensures { (secondary : Bool) (vsid api : ℕ) (m : Match) (ms : List Match) → WantedWord secondary vsid api wanted → found ≡ found_of (m ∷ ms) → second ≡ m.second
+    ensures { (secondary : Bool) (vsid api : ℕ) → WantedWord secondary vsid api wanted
+        → result ≡ any_match (disagrees second) (group_matches secondary vsid api group.now) }
+{
+    let mut found = false;
+    for entry in 0..numbers::GROUP_ENTRIES {
+        let other = words::read_word(group, numbers::ENTRY_SIZE * entry + 4);
+        found |= words::is_word(group, numbers::ENTRY_SIZE * entry, wanted)
+            & !words_agree(second, other);
+    }
+    found
+}
+
+// A first match where there are others, those of this group among them.
+fn with_others(group: &[u8], wanted: u32, first: FirstMatch) -> FirstMatch
+    requires { length group.now ≡ group_size }
+    ensures { (secondary : Bool) (vsid api : ℕ) (m : Match) (ms : List Match) → WantedWord secondary vsid api wanted → first ≡ first_match m ms
         → result ≡ with_others m (ms ++ group_matches secondary vsid api group.now) }
 {
-    let differs = disagree(group, numbers::GROUP_ENTRIES, wanted, second) | (found >= DIFFER);
-    found % NONE + if differs { DIFFER } else { AGREE }
+    let differs = disagree(group, wanted, first.second) | (first.others == Others::Differing);
+    FirstMatch {
+        others: if differs {
+            Others::Differing
+        } else {
+            Others::Agreeing
+        },
+        ..first
+    }
 }
 
-// The one search of a group: its matches and its free entries, behind what was told before. `from` is the number of its entry 0 in search order.
-pub fn search(group: &[u8], from: usize, wanted: u32, before: Told) -> Told
-    requires { (length group.now ≡ group_size) × (from ≤ group_entries) }
-    ensures { (secondary : Bool) (vsid api : ℕ) (ms : List Match) (free : ℕ) → WantedWord secondary vsid api wanted → from ≡ group_entries * h_of secondary
-        → free < 2 ^ group_entries → before ≡ told ms free
+// The search of a page's primary (false) or secondary (true) group: its matches and its free entries, behind what was told before.
+// (The loop goes by the entries' numbers, since an entry's number is what is told. It is joined with every caller, as are the two functions below, or
+// a look would take 469 instructions in place of 111.)
+#[inline(always)]
+pub fn search(group: &[u8], secondary: bool, wanted: u32, before: Told) -> Told
+    requires { length group.now ≡ group_size }
+    ensures { (vsid api : ℕ) (ms : List Match) (free : ℕ) → WantedWord secondary vsid api wanted → free < 2 ^ group_entries → before ≡ told ms free
         → result ≡ told (ms ++ group_matches secondary vsid api group.now) (free_after free group.now) }
 {
     let free = groups::free_after(before.free, group);
-    let mut found = before.found;
-    let mut second = before.second;
-    let mut i = 0;
-    while numbers::ENTRY_SIZE * i < group.len() {
-        if words::is_word(group, numbers::ENTRY_SIZE * i, wanted) {
-            if found != NONE {
-                found = with_others(group, wanted, found, second);
+    let mut first = before.first;
+    for entry in 0..numbers::GROUP_ENTRIES {
+        if words::is_word(group, numbers::ENTRY_SIZE * entry, wanted) {
+            if let Some(one) = first {
                 return Told {
-                    found,
-                    second,
+                    first: Some(with_others(group, wanted, one)),
                     free,
                 };
             }
-            found = from + i;
-            second = words::read_word(group, numbers::ENTRY_SIZE * i + 4);
+            first = Some(FirstMatch {
+                place: Place { secondary, entry },
+                second: words::read_word(group, numbers::ENTRY_SIZE * entry + 4),
+                others: Others::Absent,
+            });
         }
-        i += 1;
     }
-    Told {
-        found,
-        second,
-        free,
-    }
+    Told { first, free }
 }
 
-// The search of a page's primary group.
-pub fn in_primary(table: &[u8], page: groups::Located) -> Told
-    requires { (page.size ≡ group_size) × (group_size * page.primary + group_size ≤ length table.now) }
-    ensures { (vsid api : ℕ) → WantedWord false vsid api page.wanted → result ≡ in_primary vsid api (group_of table.now page.primary) }
+// The search of one of a page's two groups in the table.
+#[inline(always)]
+fn in_group(table: &[u8], page: groups::Located, secondary: bool, before: Told) -> Told
+    requires { group_size * cond secondary page.secondary page.primary + group_size ≤ length table.now }
+    ensures { (vsid api : ℕ) (ms : List Match) (free : ℕ) → WantedWord false vsid api page.wanted → free < 2 ^ group_entries → before ≡ told ms free
+        → let group = group_of table.now (cond secondary page.secondary page.primary) in
+        result ≡ told (ms ++ group_matches secondary vsid api group) (free_after free group) }
 {
-    let from = page.primary * numbers::GROUP_SIZE;
-    let to = from + page.size;
-    search(&table[from..to], 0, page.wanted, Told::nothing())
+    let from = page.group(secondary) * numbers::GROUP_SIZE;
+    let to = from + numbers::GROUP_SIZE;
+    search(
+        &table[from..to],
+        secondary,
+        page.wanted_in(secondary),
+        before,
+    )
 }
 
-// The search of its secondary group, which goes on from what the primary told.
-pub fn in_secondary(table: &[u8], page: groups::Located, primary: Told) -> Told
-    requires { (page.size ≡ group_size) × (group_size * page.secondary + group_size ≤ length table.now) }
-    ensures { (vsid api : ℕ) (group : List ℕ) → WantedWord false vsid api page.wanted → primary ≡ in_primary vsid api group
-        → result ≡ in_both vsid api group (group_of table.now page.secondary) }
+// The search of a page's two groups: the primary, then the secondary, which goes on from what the primary told.
+#[inline(always)]
+pub fn search_page(table: &[u8], page: groups::Located) -> Told
+    requires { (group_size * page.primary + group_size ≤ length table.now) × (group_size * page.secondary + group_size ≤ length table.now) }
+    ensures { (vsid api : ℕ) → WantedWord false vsid api page.wanted
+        → result ≡ in_both vsid api (group_of table.now page.primary) (group_of table.now page.secondary) }
 {
-    let from = page.secondary * numbers::GROUP_SIZE;
-    let to = from + page.size;
-    let wanted = entry::secondary_word(page.wanted);
-    search(&table[from..to], numbers::GROUP_ENTRIES, wanted, primary)
+    let nothing = Told {
+        first: None,
+        free: 0,
+    };
+    let primary = in_group(table, page, false, nothing);
+    in_group(table, page, true, primary)
 }

@@ -3,6 +3,8 @@ ghost use Rattle.std.specs.Prelude.{◌≡◌};
 ghost use Rattle.theory_calls.specs.Request.{access};
 ghost use Rattle.theory_calls.specs.OnBytes.{ended, on_bytes};
 
+use numbers::Refusal;
+
 // Translates one access and marks the entries that did it.
 #[unsafe(no_mangle)]
 pub extern "C" fn mmu_access(
@@ -24,7 +26,7 @@ pub extern "C" fn mmu_access(
     })) table.old }
 {
     if !(registers::is_page(registers.len()) & (answer.len() == numbers::ACCESS_ANSWER_SIZE)) {
-        return numbers::REFUSED_LENT_LENGTH;
+        return u32::from(Refusal::LentLength);
     }
     let asked = table_access::Access {
         mode,

@@ -3,6 +3,8 @@ ghost use Rattle.std.specs.Prelude.{◌≡◌};
 ghost use Rattle.theory_calls.specs.OnBytes.{ended};
 ghost use Rattle.theory_cache.specs.Cached.{on_cached, invalidate_call};
 
+use numbers::Refusal;
+
 // Translates one access by the cache, and by the table where the cache has no hit; what went to the table is marked there and loaded.
 #[unsafe(no_mangle)]
 pub extern "C" fn mmu_access_cached(
@@ -26,7 +28,7 @@ pub extern "C" fn mmu_access_cached(
 {
     let lent = registers::is_page(registers.len()) & (answer.len() == numbers::ACCESS_ANSWER_SIZE);
     if !(lent & (cache.len() == cache::SIZE)) {
-        return numbers::REFUSED_LENT_LENGTH;
+        return u32::from(Refusal::LentLength);
     }
     let asked = table_access::Access {
         mode,
@@ -38,15 +40,16 @@ pub extern "C" fn mmu_access_cached(
 }
 
 // Zeroes the set of a page index in the cache.
+#[tactic(auto, unfolding(theory_cache::specs::Cached::invalidate_call, theory_cache::specs::Cached::invalidate_refusal))]
 #[unsafe(no_mangle)]
 pub extern "C" fn mmu_invalidate(index: u32, cache: &mut [u8]) -> u32
     ensures { (result, cache.new) ≡ invalidate_call index cache.old }
 {
     if cache.len() != cache::SIZE {
-        return numbers::REFUSED_LENT_LENGTH;
+        return u32::from(Refusal::LentLength);
     }
     if index >= 0x10000 {
-        return numbers::REFUSED_ARGUMENT;
+        return u32::from(Refusal::Argument);
     }
     cache::zero_set(cache, index);
     numbers::DONE

@@ -1,5 +1,5 @@
 // The thirteen exported calls. Each contract gives the result number and every lent byte, for all inputs, by a definition of `theory_calls`,
-// `theory_cache` or `access_rights`.
+// `theory_cache` or `access_rights`. What they take and hand back, numbers and lent slices, is the C interface; inside a refusal is an `Err`.
 #![tactic(auto)]
 
 mod access;
@@ -7,53 +7,51 @@ mod cached;
 mod pages;
 mod rights;
 
-ghost use Rattle.std.specs.Prelude.{◌≡◌, [], ◌∷◌, length};
-ghost use Rattle.numbers.specs.Numbers.{entry_size};
-ghost use Rattle.words.specs.Words.{bytes_of};
-ghost use Rattle.entry.specs.Entry.{packed};
+ghost use Rattle.std.specs.Prelude.{◌≡◌};
+ghost use Rattle.numbers.specs.Refused.{result_number};
 ghost use Rattle.theory_calls.specs.WithoutTable.{check_call, set_register_call, pack_call, unpack_call};
 
 pub use access::mmu_access;
 pub use cached::{mmu_access_cached, mmu_invalidate};
+use numbers::Refusal;
 pub use pages::{mmu_clear, mmu_look, mmu_map, mmu_protect, mmu_unmap};
 pub use rights::mmu_rights;
 
 // Checks a register page.
+#[tactic(auto, unfolding(theory_calls::specs::WithoutTable::check_call))]
 #[unsafe(no_mangle)]
 pub extern "C" fn mmu_check(registers: &[u8]) -> u32
     ensures { result ≡ check_call registers.now }
 {
     if !registers::is_page(registers.len()) {
-        return numbers::REFUSED_LENT_LENGTH;
+        return u32::from(Refusal::LentLength);
     }
-    register_pages::check(registers)
+    numbers::result_of(register_pages::check(registers))
 }
 
 // Replaces one word of a register page.
+#[tactic(auto, unfolding(theory_calls::specs::WithoutTable::set_register_call, register_pages::specs::Replace::page_replaced))]
 #[unsafe(no_mangle)]
 pub extern "C" fn mmu_set_register(registers: &mut [u8], number: u32, word: u32) -> u32
     ensures { (result, registers.new) ≡ set_register_call registers.old number word }
 {
     if !registers::is_page(registers.len()) {
-        return numbers::REFUSED_LENT_LENGTH;
+        return u32::from(Refusal::LentLength);
     }
-    register_pages::set_word(registers, number, word)
+    numbers::result_of(register_pages::set_word(registers, number, word))
 }
 
-// Packs fields into the eight bytes of an entry. Zeros are written first, for they stand there where a field is past its width.
-fn write_packed(fields: entry::Fields, entry: &mut [u8]) -> u32
-    requires { length entry.old ≡ entry_size }
-    ensures { (result ≡ (packed fields).0) × (entry.new ≡ bytes_of ((packed fields).1.0 ∷ (packed fields).1.1 ∷ [])) }
+// Packs fields into the bytes of an entry. Zeros are written first, for they stand there where a field is past its width.
+fn pack(fields: entry::Fields, entry: &mut [u8]) -> Result<(), Refusal>
+    ensures { (result_number result, entry.new) ≡ pack_call fields entry.old }
 {
-    let zeros = [0, 0];
-    words::write_words(entry, &zeros);
-    let packed = entry::pack(fields);
-    if packed.result != numbers::DONE {
-        return packed.result;
+    if entry.len() != numbers::ENTRY_SIZE {
+        return Err(Refusal::LentLength);
     }
-    let both = [packed.words.first, packed.words.second];
-    words::write_words(entry, &both);
-    numbers::DONE
+    entry.fill(0);
+    let packed = entry::pack(fields)?;
+    words::write_words(entry, &[packed.first, packed.second]);
+    Ok(())
 }
 
 // Packs nine fields into the two words of an entry.
@@ -73,9 +71,6 @@ pub extern "C" fn mmu_pack(
     ensures { (result, entry.new)
         ≡ pack_call (record { v = v; vsid = vsid; h = h; api = api; rpn = rpn; r = r; c = c; wimg = wimg; pp = pp }) entry.old }
 {
-    if entry.len() != numbers::ENTRY_SIZE {
-        return numbers::REFUSED_LENT_LENGTH;
-    }
     let fields = entry::Fields {
         v,
         vsid,
@@ -87,7 +82,7 @@ pub extern "C" fn mmu_pack(
         wimg,
         pp,
     };
-    write_packed(fields, entry)
+    numbers::result_of(pack(fields, entry))
 }
 
 // Unpacks the two words of an entry into nine fields.
@@ -96,10 +91,12 @@ pub extern "C" fn mmu_unpack(first: u32, second: u32, fields: &mut [u8]) -> u32
     ensures { (result, fields.new) ≡ unpack_call first second fields.old }
 {
     if fields.len() != numbers::FIELDS_SIZE {
-        return numbers::REFUSED_LENT_LENGTH;
+        return u32::from(Refusal::LentLength);
     }
-    let f = entry::unpack(first, second);
-    let nine = [f.v, f.vsid, f.h, f.api, f.rpn, f.r, f.c, f.wimg, f.pp];
-    words::write_words(fields, &nine);
+    let f = entry::unpack(entry::Words { first, second });
+    words::write_words(
+        fields,
+        &[f.v, f.vsid, f.h, f.api, f.rpn, f.r, f.c, f.wimg, f.pp],
+    );
     numbers::DONE
 }

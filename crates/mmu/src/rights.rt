@@ -5,6 +5,7 @@ ghost use Rattle.theory_calls.specs.Answers.{access_answer};
 ghost use Rattle.access_rights.specs.Rights.{rights_size, rights_call};
 
 use access_rights::Rights;
+use numbers::Refusal;
 
 // Writes three answers and the marks of each.
 fn write_rights(answer: &mut [u8], told: Rights)
@@ -36,9 +37,16 @@ pub extern "C" fn mmu_rights(
         ≡ rights_call (record { registers = registers.entry.now; mode = mode; address = address }) answer.old table.now }
 {
     if !(registers::is_page(registers.len()) & (answer.len() == access_rights::SIZE)) {
-        return numbers::REFUSED_LENT_LENGTH;
+        return u32::from(Refusal::LentLength);
     }
-    let told = access_rights::tell(registers, mode, address, table);
-    write_rights(answer, told);
-    told.number
+    match access_rights::tell(registers, mode, address, table) {
+        Ok(told) => {
+            write_rights(answer, told);
+            numbers::DONE
+        }
+        Err(refusal) => {
+            write_rights(answer, Rights::refused(refusal));
+            u32::from(refusal)
+        }
+    }
 }

@@ -1,4 +1,5 @@
 // The thirteen calls as C programs link them: each calls the function of `mmu` that has its name, and states its contract again in the same words.
+// They stand here a second time since no crate can use an archive: names, types and contracts are the C interface.
 #![tactic(auto)]
 
 ghost use Rattle.std.specs.Prelude.{◌≡◌, []};

@@ -6,6 +6,8 @@ pub numbers_tables : NumbersTables
 numbers_tables = record {
   results = record { equal = refl };
   refusals = record { equal = refl };
+  by_kind = record { equal = refl };
+  handed_back = record { equal = refl };
   accesses = record { equal = refl };
   rules = record { equal = refl };
   lengths = record { equal = refl };

@@ -1,2 +1,3 @@
--- The rows of the numbers.
+-- The rows of the numbers, and what a refusal's number is not.
 pub mod Examples
+pub mod Refused

@@ -1,6 +1,9 @@
 // The numbers that calls hand back and the lengths of what they are lent, under the names that include/mmu.h has for them.
 #![tactic(auto)]
 
+ghost use Rattle.std.specs.Prelude.{◌≡◌};
+ghost use Rattle.numbers.specs.Refused.{refusal_number, result_number};
+
 // The call did what it was asked.
 pub const DONE: u32 = 0;
 
@@ -9,30 +12,40 @@ pub const DATA_STORAGE_FAULT: u32 = 64;
 
 pub const INSTRUCTION_STORAGE_FAULT: u32 = 65;
 
-// Refusals (rules 7).
-pub const REFUSED_TABLE_LENGTH: u32 = 1;
+// Why a call refuses, by the number that the rules give it (rules 7).
+#[derive(Clone, Copy, PartialEq, Eq, Debug, Drop)]
+pub enum Refusal {
+    TableLength = 1,
+    Sdr1 = 2,
+    Block = 3,
+    BlocksShare = 4,
+    Segment = 5,
+    Argument = 6,
+    Mapped = 7,
+    NoMatch = 8,
+    Full = 9,
+    Contradiction = 10,
+    LentLength = 11,
+    OperandLength = 12,
+}
 
-pub const REFUSED_SDR1: u32 = 2;
+impl From<Refusal> for u32 {
+    ghost from_gives = { λ refusal number. number ≡ refusal_number refusal };
 
-pub const REFUSED_BLOCK: u32 = 3;
+    fn from(refusal: Refusal) -> u32 {
+        refusal as u32
+    }
+}
 
-pub const REFUSED_BLOCKS_SHARE: u32 = 4;
-
-pub const REFUSED_SEGMENT: u32 = 5;
-
-pub const REFUSED_ARGUMENT: u32 = 6;
-
-pub const REFUSED_MAPPED: u32 = 7;
-
-pub const REFUSED_NO_MATCH: u32 = 8;
-
-pub const REFUSED_FULL: u32 = 9;
-
-pub const REFUSED_CONTRADICTION: u32 = 10;
-
-pub const REFUSED_LENT_LENGTH: u32 = 11;
-
-pub const REFUSED_OPERAND_LENGTH: u32 = 12;
+// The number that a call hands back: 0 where it is done, else the refusal's.
+pub fn result_of(outcome: Result<(), Refusal>) -> u32
+    ensures { result ≡ result_number outcome }
+{
+    match outcome {
+        Ok(()) => DONE,
+        Err(refusal) => u32::from(refusal),
+    }
+}
 
 // The kinds of access (rules 5).
 pub const FETCH: u32 = 0;

@@ -2,159 +2,133 @@
 #![tactic(auto)]
 
 ghost use Rattle.std.specs.Prelude.{◌≡◌, not, [], ◌∷◌, ℕ, ◌<◌, ◌^◌, length};
+ghost use Rattle.std.specs.Result.{result_unwrap_or};
 ghost use Rattle.numbers.specs.Numbers.{refused_argument};
+ghost use Rattle.numbers.specs.Refused.{result_number};
 ghost use Rattle.registers.specs.Rules.{first_broken};
 ghost use Rattle.register_words.specs.Sdr1.{mask_ones};
 ghost use Rattle.groups.specs.Page.{InRange};
-ghost use Rattle.groups.specs.Hash.{TableOf, SomeTable};
+ghost use Rattle.groups.specs.Hash.{TableOf, SomeTable, located};
+ghost use Rattle.match_edits.specs.Edit.{EditFits};
 ghost use Rattle.theory_calls.specs.Request.{map_page, unmap, protect, look};
 ghost use Rattle.theory_calls.specs.Rules.{page_in_range, map_in_range, table_rules};
-ghost use Rattle.theory_calls.specs.Answers.{word_answer};
 ghost use Rattle.theory_calls.specs.OnBytes.{ended, bytes_do};
+ghost use Rattle.page_calls.specs.PageWork.{page_told, page_edited, page_answer};
 
-// What unmap and look answer: the result number and the second entry word.
-#[derive(Clone, Copy)]
-pub struct WordAnswer {
-    pub result: u32,
-    pub word: u32,
-}
-
-// The answer where there is no word to tell: the number and a zero word.
-fn refused(res: u32) -> WordAnswer
-    ensures { result ≡ record { result = res; word = 0 } }
-{
-    WordAnswer {
-        result: res,
-        word: 0,
-    }
-}
+use groups::Page;
+use match_edits::Edit;
+use matches::Others;
+use numbers::Refusal;
 
 // Whether a VSID and a page index are in their ranges.
-pub fn page_in_range(vsid: u32, index: u32) -> bool
-    ensures { result ≡ page_in_range (record { vsid = vsid; index = index }) }
+#[tactic(auto, unfolding(theory_calls::specs::Rules::page_in_range))]
+pub fn page_in_range(page: Page) -> bool
+    ensures { result ≡ page_in_range page }
 {
-    (vsid < 0x1000000) & (index < 0x10000)
+    (page.vsid < 0x1000000) & (page.index < 0x10000)
 }
 
 // Whether map's arguments are in their ranges, W and I not both one.
-pub fn map_in_range(vsid: u32, index: u32, rpn: u32, wimg: u32, pp: u32) -> bool
-    ensures { (sdr1 : ℕ) → result ≡ map_in_range (record { sdr1 = sdr1; page = record { vsid = vsid; index = index }; rpn = rpn; wimg = wimg; pp = pp }) }
+pub fn map_in_range(page: Page, rpn: u32, wimg: u32, pp: u32) -> bool
+    ensures { (sdr1 : ℕ) → result ≡ map_in_range (record { sdr1 = sdr1; page = page; rpn = rpn; wimg = wimg; pp = pp }) }
 {
-    page_in_range(vsid, index) & (rpn < 0x100000) & (wimg < 12) & (pp < 4)
+    page_in_range(page) & (rpn < 0x100000) & (wimg < 12) & (pp < 4)
 }
 
-// The refusal by the arguments' ranges, by SDR1 and by the table's length, in this order, or 0.
-pub fn page_refusal(fits: bool, sdr1: u32, lent: usize) -> u32
-    ensures { result ≡ first_broken ((not fits, refused_argument) ∷ table_rules sdr1 lent) }
+// The refusal by the arguments' ranges, by SDR1 and by the table's length, in this order.
+pub fn page_refusal(fits: bool, sdr1: u32, lent: usize) -> Result<(), Refusal>
+    ensures { result_number result ≡ first_broken ((not fits, refused_argument) ∷ table_rules sdr1 lent) }
 {
     if !fits {
-        return numbers::REFUSED_ARGUMENT;
+        return Err(Refusal::Argument);
     }
     if !register_words::sdr1_shape(sdr1) {
-        return numbers::REFUSED_SDR1;
+        return Err(Refusal::Sdr1);
     }
     if lent != register_words::table_length(sdr1) {
-        return numbers::REFUSED_TABLE_LENGTH;
+        return Err(Refusal::TableLength);
     }
-    numbers::DONE
+    Ok(())
 }
 
-// What unmap and look answer where the arguments refuse them: the number and a zero word; done where they do not.
-pub fn word_refusal(sdr1: u32, vsid: u32, index: u32, lent: usize) -> WordAnswer
-    ensures { result ≡ record {
-      result = first_broken ((not (page_in_range (record { vsid = vsid; index = index })), refused_argument) ∷ table_rules sdr1 lent);
-      word = 0;
-    } }
+// Where a page's entries are, and what the search of its two groups tells. (It is joined with every caller, or a look would take 317 instructions in
+// place of 110.)
+#[inline(always)]
+pub fn search(page: Page, table: &[u8]) -> (groups::Located, matches::Told)
+    requires { SomeTable (length table.now) × InRange page }
+    ensures { (sdr1 : ℕ) → TableOf sdr1 (length table.now)
+        → result ≡ (located (mask_ones sdr1) page, page_told (mask_ones sdr1) page table.now) }
 {
-    refused(page_refusal(page_in_range(vsid, index), sdr1, lent))
+    let at = groups::locate(table.len(), page);
+    (at, matches::search_page(table, at))
 }
 
 // Maps a page that has no match: its entry goes into the first free place of its two groups.
-pub fn map_page(vsid: u32, index: u32, rpn: u32, wimg: u32, pp: u32, table: &mut [u8]) -> u32
-    requires { SomeTable (length table.old) × InRange (record { vsid = vsid; index = index }) × (rpn < 2 ^ 20) × (wimg < 2 ^ 4) × (pp < 2 ^ 2) }
-    ensures { (sdr1 : ℕ) → TableOf sdr1 (length table.old) → ended result table.new []
-        ≡ bytes_do (mask_ones sdr1) (map_page (record { sdr1 = sdr1; page = record { vsid = vsid; index = index }; rpn = rpn; wimg = wimg; pp = pp })) table.old }
+pub fn map_page(page: Page, rpn: u32, wimg: u32, pp: u32, table: &mut [u8]) -> Result<(), Refusal>
+    requires { SomeTable (length table.old) × InRange page × (rpn < 2 ^ 20) × (wimg < 2 ^ 4) × (pp < 2 ^ 2) }
+    ensures { (sdr1 : ℕ) → TableOf sdr1 (length table.old) → ended (result_number result) table.new []
+        ≡ bytes_do (mask_ones sdr1) (map_page (record { sdr1 = sdr1; page = page; rpn = rpn; wimg = wimg; pp = pp })) table.old }
 {
-    let page = groups::locate(table.len(), vsid, index);
-    let primary = matches::in_primary(table, page);
-    let told = matches::in_secondary(table, page, primary);
-    if told.any() {
-        return numbers::REFUSED_MAPPED;
+    let (at, told) = search(page, table);
+    if told.first.is_some() {
+        return Err(Refusal::Mapped);
     }
-    let free = groups::free_place(told.free);
-    match free {
-        groups::Place::Entry(secondary, entry) => {
-            let first = entry::first_in(secondary, page.wanted);
-            let second = entry::second_word(rpn, 0, 0, wimg, pp);
-            groups::put_entry(table, page.group(secondary), entry, first, second);
-            numbers::DONE
-        }
-        groups::Place::Full => numbers::REFUSED_FULL,
-    }
+    let Some(place) = groups::free_place(told.free) else {
+        return Err(Refusal::Full);
+    };
+    let first = entry::first_in(place.secondary, at.wanted);
+    let second = entry::second_word(rpn, 0, 0, wimg, pp);
+    let group = at.group(place.secondary);
+    groups::put_entry(table, group, place.entry, first, second);
+    Ok(())
+}
+
+// Edits each match of a page. The answer is the first match's second word as it was, with the marks of all. (It is joined with both callers, or a protect
+// would take 149 instructions in place of 115.)
+#[inline(always)]
+fn edit_page(page: Page, edit: Edit, table: &mut [u8]) -> Result<u32, Refusal>
+    requires { SomeTable (length table.old) × InRange page × EditFits edit }
+    ensures { (sdr1 : ℕ) → TableOf sdr1 (length table.old)
+        → (result_number result, (table.new, result_unwrap_or result 0)) ≡ page_edited (mask_ones sdr1) page edit table.old }
+{
+    let (at, told) = search(page, table);
+    let Some(first) = told.first else {
+        return Err(Refusal::NoMatch);
+    };
+    Ok(match_edits::edit_page(table, at, first, edit))
 }
 
 // Unmaps a page: each match becomes eight zero bytes.
-pub fn unmap_page(vsid: u32, index: u32, table: &mut [u8]) -> WordAnswer
-    requires { SomeTable (length table.old) × InRange (record { vsid = vsid; index = index }) }
-    ensures { (sdr1 : ℕ) → TableOf sdr1 (length table.old) → ended result.result table.new (word_answer result.result result.word)
-        ≡ bytes_do (mask_ones sdr1) (unmap (record { sdr1 = sdr1; page = record { vsid = vsid; index = index }; answer = [] })) table.old }
+pub fn unmap_page(page: Page, table: &mut [u8]) -> Result<u32, Refusal>
+    requires { SomeTable (length table.old) × InRange page }
+    ensures { (sdr1 : ℕ) → TableOf sdr1 (length table.old) → ended (result_number result) table.new (page_answer result)
+        ≡ bytes_do (mask_ones sdr1) (unmap (record { sdr1 = sdr1; page = page; answer = [] })) table.old }
 {
-    let page = groups::locate(table.len(), vsid, index);
-    let primary = matches::in_primary(table, page);
-    let told = matches::in_secondary(table, page, primary);
-    if !told.any() {
-        return refused(numbers::REFUSED_NO_MATCH);
-    }
-    let edit = match_edits::Edit::Clear;
-    let word = if told.several() {
-        match_edits::edit_both(table, page, told.second, edit)
-    } else {
-        match_edits::edit_entry(table, page.group(told.in_secondary()), told.entry(), edit)
-    };
-    WordAnswer {
-        result: numbers::DONE,
-        word,
-    }
+    edit_page(page, Edit::Clear, table)
 }
 
 // Puts another PP into each match of a page.
-pub fn protect_page(vsid: u32, index: u32, pp: u32, table: &mut [u8]) -> u32
-    requires { SomeTable (length table.old) × InRange (record { vsid = vsid; index = index }) × (pp < 2 ^ 2) }
-    ensures { (sdr1 : ℕ) → TableOf sdr1 (length table.old) → ended result table.new []
-        ≡ bytes_do (mask_ones sdr1) (protect (record { sdr1 = sdr1; page = record { vsid = vsid; index = index }; pp = pp })) table.old }
+pub fn protect_page(page: Page, pp: u32, table: &mut [u8]) -> Result<(), Refusal>
+    requires { SomeTable (length table.old) × InRange page × (pp < 2 ^ 2) }
+    ensures { (sdr1 : ℕ) → TableOf sdr1 (length table.old) → ended (result_number result) table.new []
+        ≡ bytes_do (mask_ones sdr1) (protect (record { sdr1 = sdr1; page = page; pp = pp })) table.old }
 {
-    let page = groups::locate(table.len(), vsid, index);
-    let primary = matches::in_primary(table, page);
-    let told = matches::in_secondary(table, page, primary);
-    if !told.any() {
-        return numbers::REFUSED_NO_MATCH;
-    }
-    let edit = match_edits::Edit::Protect(pp);
-    if told.several() {
-        match_edits::edit_both(table, page, told.second, edit);
-    } else {
-        match_edits::edit_entry(table, page.group(told.in_secondary()), told.entry(), edit);
-    }
-    numbers::DONE
+    edit_page(page, Edit::Protect(pp), table)?;
+    Ok(())
 }
 
 // Looks a page up.
-pub fn look_page(vsid: u32, index: u32, table: &[u8]) -> WordAnswer
-    requires { SomeTable (length table.now) × InRange (record { vsid = vsid; index = index }) }
-    ensures { (sdr1 : ℕ) → TableOf sdr1 (length table.now) → ended result.result table.now (word_answer result.result result.word)
-        ≡ bytes_do (mask_ones sdr1) (look (record { sdr1 = sdr1; page = record { vsid = vsid; index = index }; answer = [] })) table.now }
+pub fn look_page(page: Page, table: &[u8]) -> Result<u32, Refusal>
+    requires { SomeTable (length table.now) × InRange page }
+    ensures { (sdr1 : ℕ) → TableOf sdr1 (length table.now) → ended (result_number result) table.now (page_answer result)
+        ≡ bytes_do (mask_ones sdr1) (look (record { sdr1 = sdr1; page = page; answer = [] })) table.now }
 {
-    let page = groups::locate(table.len(), vsid, index);
-    let primary = matches::in_primary(table, page);
-    let told = matches::in_secondary(table, page, primary);
-    if !told.any() {
-        return refused(numbers::REFUSED_NO_MATCH);
+    let (_, told) = search(page, table);
+    let Some(first) = told.first else {
+        return Err(Refusal::NoMatch);
+    };
+    if first.others == Others::Differing {
+        return Err(Refusal::Contradiction);
     }
-    if told.differs() {
-        return refused(numbers::REFUSED_CONTRADICTION);
-    }
-    WordAnswer {
-        result: numbers::DONE,
-        word: told.second,
-    }
+    Ok(first.second)
 }

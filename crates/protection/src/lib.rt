@@ -8,6 +8,7 @@ ghost use Rattle.protection.specs.Protection.{page_allows, block_allows, guarded
 ghost use Rattle.protection.specs.Fault.{fault_of};
 
 // The causes of a fault: no match, N or G, protection.
+// Stay numbers: `fault_of` of specs/ takes any, and a rule of the project asks for a match over them.
 pub const NO_MATCH: u32 = 0;
 
 pub const NO_FETCH: u32 = 1;
@@ -46,6 +47,7 @@ pub fn is_store(kind: u32) -> bool
 }
 
 // The side whose blocks count: true for data, false for instructions.
+#[tactic(auto, unfolding(crate::specs::Access::side_of))]
 pub fn side_of(kind: u32) -> bool
     ensures { result ≡ side_of kind }
 {
@@ -64,7 +66,7 @@ pub fn is_guarded(wimg: u32) -> bool
 pub fn is_relocated(mode: u32, kind: u32) -> bool
     ensures { result ≡ relocated mode kind }
 {
-    if kind == numbers::FETCH {
+    if is_fetch(kind) {
         (mode >> 1) & 1 == 1
     } else {
         mode & 1 == 1
@@ -83,10 +85,11 @@ pub fn key_of(user: bool, segment: u32) -> bool
 }
 
 // Whether the key and a page's PP allow the access.
+#[tactic(auto, unfolding(crate::specs::Protection::page_allows, crate::specs::Protection::page_readable, crate::specs::Protection::page_writable))]
 pub fn page_allows(key: bool, pp: u32, kind: u32) -> bool
     ensures { result ≡ page_allows key pp kind }
 {
-    if kind == numbers::STORE {
+    if is_store(kind) {
         if key { pp == 2 } else { pp != 3 }
     } else {
         !(key & (pp == 0))
@@ -94,46 +97,41 @@ pub fn page_allows(key: bool, pp: u32, kind: u32) -> bool
 }
 
 // Whether a block's PP allows the access: 10 allows all, 00 nothing.
+#[tactic(auto, unfolding(crate::specs::Protection::block_allows))]
 pub fn block_allows(pp: u32, kind: u32) -> bool
     ensures { result ≡ block_allows pp kind }
 {
     if pp == 2 {
         return true;
     }
-    (pp != 0) & (kind != numbers::STORE)
-}
-
-// A fault by its three words.
-fn fault_with(res: u32, word: u32, offset: u32) -> Fault
-    ensures { result ≡ record { result = res; word = word; offset = offset } }
-{
-    Fault {
-        result: res,
-        word,
-        offset,
-    }
+    (pp != 0) & !is_store(kind)
 }
 
 // The fault of a cause and a kind of access.
+// Stays a match over the numbers of cause and kind, and no enum: a rule of the project, and `fault_of` of specs/ answers for any number.
 #[tactic(auto, unfolding(crate::specs::Fault::fault_of, crate::specs::Fault::cause_word, crate::specs::Access::fetching, crate::specs::Access::storing))]
 pub fn fault_of(cause: u32, kind: u32) -> Fault
     ensures { result ≡ fault_of cause kind }
 {
-    match cause {
-        NO_MATCH => match kind {
-            numbers::FETCH => fault_with(numbers::INSTRUCTION_STORAGE_FAULT, 0x40000000, 0x400),
-            numbers::STORE => fault_with(numbers::DATA_STORAGE_FAULT, 0x42000000, 0x300),
-            _ => fault_with(numbers::DATA_STORAGE_FAULT, 0x40000000, 0x300),
-        },
-        NO_FETCH => match kind {
-            numbers::FETCH => fault_with(numbers::INSTRUCTION_STORAGE_FAULT, 0x10000000, 0x400),
-            numbers::STORE => fault_with(numbers::DATA_STORAGE_FAULT, 0x12000000, 0x300),
-            _ => fault_with(numbers::DATA_STORAGE_FAULT, 0x10000000, 0x300),
-        },
-        _ => match kind {
-            numbers::FETCH => fault_with(numbers::INSTRUCTION_STORAGE_FAULT, 0x08000000, 0x400),
-            numbers::STORE => fault_with(numbers::DATA_STORAGE_FAULT, 0x0A000000, 0x300),
-            _ => fault_with(numbers::DATA_STORAGE_FAULT, 0x08000000, 0x300),
-        },
+    let (word, offset) = match (cause, kind) {
+        (NO_MATCH, numbers::FETCH) => (0x40000000, 0x400),
+        (NO_MATCH, numbers::STORE) => (0x42000000, 0x300),
+        (NO_MATCH, _) => (0x40000000, 0x300),
+        (NO_FETCH, numbers::FETCH) => (0x10000000, 0x400),
+        (NO_FETCH, numbers::STORE) => (0x12000000, 0x300),
+        (NO_FETCH, _) => (0x10000000, 0x300),
+        (_, numbers::FETCH) => (0x08000000, 0x400),
+        (_, numbers::STORE) => (0x0A000000, 0x300),
+        (_, _) => (0x08000000, 0x300),
+    };
+    let number = if is_fetch(kind) {
+        numbers::INSTRUCTION_STORAGE_FAULT
+    } else {
+        numbers::DATA_STORAGE_FAULT
+    };
+    Fault {
+        result: number,
+        word,
+        offset,
     }
 }

@@ -2,7 +2,7 @@
 -- pairs 4 to 7 of a short page's set are zero.
 --   PageSize, short_size, long_size: a page is short, of 132 bytes, or long, of 196; page-size: which it is, by its length
 --   page_least: every page has at least 132 bytes
---   own_pairs, pairs_most: how many pairs a side has, by the page's length, and that they are at most 8
+--   pairs_most: a side has at most 8 pairs
 --   pair_fits: the bytes of a pair lie on the page; pair-byte: the numbers of its words, and its byte
 --   own_at, own_sdr1, own_segment: the page's own words are those at its bytes
 --   sdr1_at, segment_at_law, upper_at_law, lower_at_law: the words of the set of 49 are those at the page's bytes
@@ -11,7 +11,7 @@
 use mathlib.Core.Path.{◌≡◌, refl, sym, ap, ◌∙◌}
 use mathlib.Core.Bool.{Bool, true, false, cond, true≢false}
 use mathlib.Core.List.{List}
-use Prim.Native.Nat.{ℕ, ◌+◌, ◌-◌, ◌*◌, ◌/◌, ◌≤◌, ◌<◌}
+use Prim.Native.Nat.{ℕ, ◌+◌, ◌*◌, ◌≤◌, ◌<◌}
 use native.Mathlib.Omega.{arith}
 use lib.Dec.{ltb, lit≤}
 use lib.ListN.{length, get_or}
@@ -152,11 +152,6 @@ module _ (registers : List ℕ) where
         let k = covering_pair 8 15 (set_words registers) side user address in
         by_test (ltb k (block_pairs long)) (λ e. ltb-true k (block_pairs long) e)
         (λ e. absurd (true≢false (sym (first_passes (pair_covers 8 15 (set_words registers) side user address) 8 l) ∙ none_behind k (ltb-false k (block_pairs long) e) l)))
-
--- how many pairs a side of the page has, by its length
-pub own_pairs : {size : ℕ} {long : Bool} → PageSize size long → (size - 68) / 16 ≡ block_pairs long
-own_pairs short_size = refl
-own_pairs long_size = refl
 
 module _ (page : List ℕ) (side user : Bool) (address : ℕ) where
   -- where none of the page's own pairs covers the address, none of the set's does

@@ -1,20 +1,17 @@
--- A word put into a register page: it lies on the page, the page's words are the old ones with that one replaced, and the old word put back gives the
--- page as it was.
-use mathlib.Core.Path.{◌≡◌, refl, sym, ap, ap₂, ◌∙◌}
-use mathlib.Core.Bool.{Bool, true, false, cond}
-use mathlib.Core.List.{List, [], ◌∷◌, ◌++◌, append_assoc}
+-- A word put into a register page: it lies on the page, and the page's words are the old ones with that one replaced.
+use mathlib.Core.Path.{◌≡◌, sym, ap, ◌∙◌}
+use mathlib.Core.Bool.{Bool, true, cond}
+use mathlib.Core.List.{List}
 use mathlib.Core.Logic.{◌⊎◌, inl, inr}
-use Prim.Native.Nat.{ℕ, zero, suc, ◌+◌, ◌-◌, ◌*◌, ◌^◌, ◌≤◌, ◌<◌}
-use native.Mathlib.Nat.{add-zero}
+use Prim.Native.Nat.{ℕ, ◌+◌, ◌*◌, ◌^◌, ◌≤◌, ◌<◌}
 use native.Mathlib.Omega.{arith}
-use borrow.Author.Tests.{lt-ltb, le-ltb, ltb-true, ltb-false}
-use lib.Dec.{eqb, ltb, lit≤}
-use lib.ListN.{length, get_or, set, take, drop, replicate, length-set}
-use lib.Seq.{sets, ext_get_or, get_or-set_same, get_or-set_other, get_or-drop, take-set-lt, length-take-le, take_at, drop_at, drop-drop, take-add}
-use borrow.Rule.Slice.PartMut.{put_mid}
-use Rattle.words.specs.Words.{word_bytes, word_at, with_word, words_at}
-use Rattle.words.proofs.Tests.{three, by_test}
-use Rattle.words.proofs.Words.{Bytes, byte_0, byte_1, byte_2, byte_3, sets_in, length_word_bytes, length_with_word, byte_before, byte_behind}
+use borrow.Author.Tests.{lt-ltb, le-ltb}
+use lib.Dec.{eqb}
+use lib.ListN.{length, get_or, set, length-set}
+use lib.Seq.{ext_get_or, get_or-set_same, get_or-set_other}
+use Rattle.words.specs.Words.{word_at, with_word, words_at}
+use Rattle.words.proofs.Tests.{three}
+use Rattle.words.proofs.Words.{length_with_word}
 use Rattle.words.proofs.Words.{word_before, word_behind, word_same, length_words_at, get_or_words_at}
 use Rattle.register_words.specs.Block.{bl_width}
 use Rattle.registers.specs.Set.{is_page, is_long, block_pairs, register_count, check_words, register_words, replacing}
@@ -43,46 +40,6 @@ module _ (s : List ℕ) (n k w : ℕ) (l : k < n) (fits : 4 * n ≤ length s) (s
           word_behind s (4 * k) w (0 + 4 * i) (omega arith)
           ∙ sym (get_or-set_other (words_at s 0 n) k i w 0 (omega arith) ∙ get_or_words_at s 0 n i h)
 
--- the old word put back
-module _ (s : List ℕ) (at w : ℕ) (bytes : Bytes s) (fits : at + 4 ≤ length s) where
-  abbrev old : ℕ
-  old = word_at s at
-
-  abbrev new : List ℕ
-  new = with_word s at w
-
-  -- its bytes are those that were there
-  own_byte : (d : ℕ) → d < 4 → get_or (word_bytes old) d 0 ≡ get_or s (at + d) 0
-  unfolding word_bytes word_at
-  own_byte zero h = byte_0 _ _ _ _ (bytes at) (bytes (at + 1)) (bytes (at + 2)) (bytes (at + 3)) ∙ ap (λ (k : ℕ). get_or s k 0) (sym (add-zero at))
-  own_byte (suc zero) h = byte_1 _ _ _ _ (bytes at) (bytes (at + 1)) (bytes (at + 2)) (bytes (at + 3))
-  own_byte (suc (suc zero)) h = byte_2 _ _ _ _ (bytes at) (bytes (at + 1)) (bytes (at + 2)) (bytes (at + 3))
-  own_byte (suc (suc (suc zero))) h = byte_3 _ _ _ _ (bytes at) (bytes (at + 1)) (bytes (at + 2)) (bytes (at + 3))
-  own_byte (suc (suc (suc (suc d)))) h = absurd (omega arith)
-
-  byte_in : (d : ℕ) → d < 4 → get_or (with_word new at old) (at + d) 0 ≡ get_or (word_bytes old) d 0
-  unfolding with_word
-  byte_in d h = sets_in (word_bytes old) new at d (omega (arith, length_word_bytes old)) (omega (arith, length_word_bytes old, length_with_word s at w))
-
-  pub put_back : with_word new at old ≡ s
-  put_back = ext_get_or 0 _ s (length_with_word new at old ∙ length_with_word s at w) (λ i h. by_test (ltb i at) (before i) (from i))
-    where
-      before : (i : ℕ) → ltb i at ≡ true → get_or (with_word new at old) i 0 ≡ get_or s i 0
-      before i e = let l = ltb-true i at e in byte_before new at old i l ∙ byte_before s at w i l
-
-      from : (i : ℕ) → ltb i at ≡ false → get_or (with_word new at old) i 0 ≡ get_or s i 0
-      from i e = by_test (ltb i (at + 4)) within behind
-        where
-          within : ltb i (at + 4) ≡ true → get_or (with_word new at old) i 0 ≡ get_or s i 0
-          within f =
-              let d = i - at in
-              let same : i ≡ at + d = omega (arith, ltb-false i at e) in
-              let h : d < 4 = omega (arith, ltb-true i (at + 4) f, ltb-false i at e) in
-              ap (λ (k : ℕ). get_or (with_word new at old) k 0) same ∙ byte_in d h ∙ own_byte d h ∙ ap (λ (k : ℕ). get_or s k 0) (sym same)
-
-          behind : ltb i (at + 4) ≡ false → get_or (with_word new at old) i 0 ≡ get_or s i 0
-          behind f = let l = ltb-false i (at + 4) f in byte_behind new at old i l ∙ byte_behind s at w i l
-
 -- ---- the page
 
 -- its words lie on it
@@ -92,10 +49,6 @@ words_fit size page = go (page_size_law size page)
     go : {n : ℕ} {long : Bool} → PageSize n long → 4 * register_count long ≤ n
     go short_size = omega arith
     go long_size = omega arith
-
--- a word put in leaves its length
-pub put_right : (page : List ℕ) → is_page (length page) ≡ true → (at word : ℕ) → is_page (length (with_word page at word)) ≡ true
-put_right page right at word = ap is_page (length_with_word page at word) ∙ right
 
 module _ (page : List ℕ) (right : is_page (length page) ≡ true) (number : ℕ) (own : number < register_count (is_long (length page))) where
   -- the word of a number of its own lies on it
@@ -124,47 +77,3 @@ module _ (page : List ℕ) (right : is_page (length page) ≡ true) (number : �
 pub put_past : (page : List ℕ) (number word : ℕ) → register_count (is_long (length page)) ≤ number → page_replaced page number word ≡ (6, page)
 unfolding page_replaced replacing
 put_past page number word past = rw (le-ltb number (register_count (is_long (length page))) past)
-
--- ---- the set
-
--- stores before an end
-take_sets : (vs l : List ℕ) (i n : ℕ) → i + length vs ≤ n → take n (sets l i vs) ≡ sets (take n l) i vs
-take_sets [] l i n h = refl
-take_sets (a ∷ vs) l i n h = take_sets vs (set l i a) (suc i) n (omega arith) ∙ ap (λ (s : List ℕ). sets s (suc i) vs) (take-set-lt n l i a (omega arith))
-
-pub take_with : (s : List ℕ) (at w n : ℕ) → at + 4 ≤ n → take n (with_word s at w) ≡ with_word (take n s) at w
-unfolding with_word
-take_with s at w n h = take_sets (word_bytes w) s at n (omega (arith, length_word_bytes w))
-
--- bytes that are copied part by part
-module _ (to from : List ℕ) where
-  pub copied_more : (a n : ℕ) → a ≤ length from → put_mid a n (take a from ++ drop a to) (take n (drop a from)) ≡ take (a + n) from ++ drop (a + n) to
-  copied_more a n l =
-      let part = take n (drop a from) in
-      let whole = length-take-le a from l in
-      ap₂ (λ (p q : List ℕ). p ++ (part ++ drop n q)) (take_at (take a from) (drop a to) a whole) (drop_at (take a from) (drop a to) a whole)
-      ∙ ap (λ (q : List ℕ). take a from ++ (part ++ q)) (drop-drop n a to)
-      ∙ sym (append_assoc (take a from) part (drop (a + n) to))
-      ∙ ap (λ (p : List ℕ). p ++ drop (a + n) to) (sym (take-add a n from))
-
--- a page is at most as long as a long one
-pub page_most : (size : ℕ) → is_page size ≡ true → size ≤ 196
-page_most size page = go (page_size_law size page)
-  where
-    go : {n : ℕ} {long : Bool} → PageSize n long → n ≤ 196
-    go short_size = lit≤ tt
-    go long_size = lit≤ tt
-
--- bytes behind bytes, and zeros
-pub bytes_append : (xs ys : List ℕ) → Bytes xs → Bytes ys → Bytes (xs ++ ys)
-bytes_append [] ys hx hy i = hy i
-bytes_append (x ∷ xs) ys hx hy zero = hx 0
-bytes_append (x ∷ xs) ys hx hy (suc i) = bytes_append xs ys (λ k. hx (suc k)) hy i
-
-pub bytes_drop : (n : ℕ) (xs : List ℕ) → Bytes xs → Bytes (drop n xs)
-bytes_drop n xs h i = rw (get_or-drop n xs i 0) (h (n + i))
-
-pub bytes_zeros : (n : ℕ) → Bytes (replicate n 0)
-bytes_zeros zero i = omega arith
-bytes_zeros (suc n) zero = omega arith
-bytes_zeros (suc n) (suc i) = bytes_zeros n i

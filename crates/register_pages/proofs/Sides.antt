@@ -2,7 +2,7 @@
 use mathlib.Core.Path.{◌≡◌, refl, sym, ap, ap₂, ◌∙◌}
 use mathlib.Core.Bool.{Bool, true, false, cond, not, ◌&&◌}
 use mathlib.Core.List.{List}
-use Prim.Native.Nat.{ℕ, zero, suc, ◌+◌, ◌-◌, ◌*◌, ◌/◌, ◌%◌, ◌≤◌, ◌<◌}
+use Prim.Native.Nat.{ℕ, zero, suc, ◌+◌, ◌-◌, ◌*◌, ◌/◌, ◌≤◌, ◌<◌}
 use native.Mathlib.Omega.{arith}
 use lib.Bits.{bit_and}
 use lib.Dec.{eqb, lit≤}
@@ -44,16 +44,6 @@ side_fits size page = go (page_size_law size page)
     go short_size false = lit≤ tt
     go long_size true = lit≤ tt
     go long_size false = lit≤ tt
-
--- a side's number is 0 or 1, and its bytes are those of four or eight pairs
-pub times_most : (s h : ℕ) → s < 2 → s * h ≤ h
-times_most zero h l = omega arith
-times_most (suc zero) h l = omega arith
-times_most (suc (suc s)) h l = absurd (omega arith)
-
-pub half_whole : (t : Bool) → ((8 * block_pairs t) % 32 ≡ 0) × (8 * block_pairs t ≤ 64)
-half_whole true = (refl, lit≤ tt)
-half_whole false = (refl, lit≤ tt)
 
 module _ (page : List ℕ) where
   abbrev long : Bool

@@ -1,8 +1,9 @@
 -- Replacing one word of a register page, and the page that a register set by value holds.
-use Rattle.std.specs.Prelude.{ℕ, ◌*◌, ◌^◌, ◌<◌, true, cond, List, ◌≡◌, eqb, length, get_or, take}
+use Rattle.std.specs.Prelude.{ℕ, ◌*◌, cond, Result, Ok, Err, List, eqb, length}
 use Rattle.numbers.specs.Numbers.{done}
+use Rattle.numbers.specs.declared.Refusal.{Refusal}
 use Rattle.words.specs.Words.{with_word}
-use Rattle.registers.specs.Set.{is_page, is_long, register_words, replacing}
+use Rattle.registers.specs.Set.{is_long, register_words, replacing}
 use Rattle.register_pages.specs.declared.Set.{Set}
 
 -- the number by the page's own range, then the rules of the new set; the page has the new word, or stays
@@ -11,12 +12,7 @@ page_replaced page number word =
     let result = replacing (is_long (length page)) (register_words page) number word in
     (result, cond (eqb result done) (with_word page (4 * number) word) page)
 
--- the page of a register set by value: its bytes in front, as many as the page has
-abbrev pub page_of : Set → List ℕ
-page_of set = take set.size set.bytes
-
--- a register set by value is one of a page: its array has room for a long page and holds bytes
-pub record OfPage (set : Set) : Type 0 where
-  pub page : is_page set.size ≡ true
-  pub room : length set.bytes ≡ 196
-  pub bytes : (i : ℕ) → get_or set.bytes i 0 < 2 ^ 8
+-- the page once a word was asked for: that of the new set, or where it is refused the old one
+abbrev pub page_after : {N : ℕ} → List ℕ → Result (Set N) Refusal → List ℕ
+page_after page (Ok set) = set.bytes
+page_after page (Err refusal) = page

@@ -1,11 +1,16 @@
 // A register page's bytes: the check of all its words, a word replaced, the pair that covers an address, and the words that an access reads.
 #![tactic(auto)]
 
-ghost use Rattle.std.specs.Prelude.{◌≡◌, true, false, ◌++◌, ◌+◌, ◌-◌, ◌*◌, ◌/◌, ◌%◌, ◌≤◌, ◌<◌, length, take, drop};
+ghost use Rattle.std.specs.Prelude.{◌≡◌, true, false, ◌+◌, ◌*◌, ◌/◌, ◌%◌, ◌≤◌, ◌<◌, IfSome, length, cond};
+ghost use Rattle.numbers.specs.Numbers.{done, refused_segment};
+ghost use Rattle.numbers.specs.Refused.{result_number};
 ghost use Rattle.register_words.specs.Block.{bl_width};
 ghost use Rattle.registers.specs.Set.{is_page, is_long, block_pairs, sdr1_of, segment_of, segments_shape, upper_of, lower_of, check_words, covering_pair, register_words, set_words};
 ghost use Rattle.register_pages.specs.Side.{side_byte, Gathered, pairs_off, apart_from, pairs_apart, blocks_refusal};
-ghost use Rattle.register_pages.specs.Replace.{page_replaced, page_of, OfPage};
+ghost use Rattle.register_pages.specs.Pair.{pair_number};
+ghost use Rattle.register_pages.specs.Replace.{page_replaced, page_after};
+
+use numbers::Refusal;
 
 // What a pass over the pairs of a side gathers of those that are on: what is asked of each, put together by or, and how many begin at or before the end
 // of the one before.
@@ -15,7 +20,8 @@ struct Side {
     falls: u32,
 }
 
-// The pass over the pairs of a side, four at a time. `lengths` is the place of BL on the page; `sum` is added, so that W and I of one block show together.
+// The pass over the pairs of a side. `lengths` is the place of BL on the page; `sum` is added, so that W and I of one block show together. Four pairs at
+// a time, for the compiler writes the inner loop out; `for` over the pairs' bytes, tried, makes a check 15 % slower, over the fours' numbers 1.5 %.
 fn side_of(pairs: &[u8], lengths: u64, sum: u64) -> Side
     requires { (length pairs.now % 32 ≡ 0) × (length pairs.now ≤ 64) }
     ensures { Gathered lengths sum pairs.now result }
@@ -41,7 +47,8 @@ fn side_of(pairs: &[u8], lengths: u64, sum: u64) -> Side
     Side { any, falls }
 }
 
-// Whether a block shares an address and a V bit with none of the pairs before a byte.
+// Whether a block shares an address and a V bit with none of the pairs before a byte. `for` over their numbers, tried, makes a check of blocks in
+// falling order 4 % slower.
 fn pair_apart(pairs: &[u8], at: usize, own: u32) -> bool
     requires { (at ≤ length pairs.now) × (at % 8 ≡ 0) }
     ensures { result ≡ apart_from pairs.now own (at / 8) }
@@ -56,7 +63,7 @@ fn pair_apart(pairs: &[u8], at: usize, own: u32) -> bool
     true
 }
 
-// Whether no two pairs of a side share an address and a V bit.
+// Whether no two pairs of a side share an address and a V bit. `for` over their numbers, tried, makes every check 3 % slower.
 fn side_apart(pairs: &[u8]) -> bool
     requires { length pairs.now % 8 ≡ 0 }
     ensures { result ≡ pairs_apart pairs.now (length pairs.now / 8) }
@@ -77,23 +84,20 @@ fn side_apart(pairs: &[u8]) -> bool
 
 // Whether one of these pairs is on.
 fn any_on(pairs: &[u8]) -> bool
-    requires { length pairs.now % 8 ≡ 0 }
     ensures { result ≡ false → pairs_off pairs.now (length pairs.now / 8) ≡ true }
 {
-    let mut at = 0;
-    while at < pairs.len() {
-        if pairs[at + 3] & 3 != 0 {
+    for i in 0..pairs.len() / 8 {
+        if pairs[8 * i + 3] & 3 != 0 {
             return true;
         }
-        at += 8;
     }
     false
 }
 
-// The first rule that the blocks of a page break, or 0: 3 where one has not its shape, 4 where two share an address.
-fn blocks_refusal(page: &[u8]) -> u32
+// The rules of a page's blocks: the first that they break, of one that has not its shape or of two that share an address.
+fn blocks_refusal(page: &[u8]) -> Result<(), Refusal>
     requires { is_page (length page.now) ≡ true }
-    ensures { result ≡ blocks_refusal (is_long (length page.now)) (register_words page.now) }
+    ensures { result_number result ≡ blocks_refusal (is_long (length page.now)) (register_words page.now) }
 {
     let half = (page.len() - 68) / 2;
     // The place of BL, of 15 bits on a long page and of 11 on a short one.
@@ -114,13 +118,14 @@ fn blocks_refusal(page: &[u8]) -> u32
             apart = apart & side_apart(&page[at..to]);
         }
     }
-    if !good {
-        return numbers::REFUSED_BLOCK;
+    if good & apart {
+        return Ok(());
     }
-    if apart {
-        return numbers::DONE;
-    }
-    numbers::REFUSED_BLOCKS_SHARE
+    Err(if good {
+        Refusal::BlocksShare
+    } else {
+        Refusal::Block
+    })
 }
 
 // Whether a block of the page is on.
@@ -137,135 +142,97 @@ fn blocks_on(page: &[u8]) -> bool
     false
 }
 
-// Whether the sixteen segment registers have their shape, put together by or as they lie in memory, two at a time.
-fn segments_good(page: &[u8]) -> bool
+// The rule of the sixteen segment registers, which are put together by or as they lie in memory, two at a time.
+fn segments_refusal(page: &[u8]) -> Result<(), Refusal>
     requires { is_page (length page.now) ≡ true }
-    ensures { result ≡ segments_shape (register_words page.now) }
+    ensures { result_number result ≡ cond (segments_shape (register_words page.now)) done refused_segment }
 {
     let mut any: u64 = 0;
-    let mut at: usize = 4;
-    while at < 68 {
-        any = any | words::raw_pair(page, at);
-        at += 8;
+    for i in 0..8usize {
+        any = any | words::raw_pair(page, 4 + 8 * i);
     }
-    any & 0x8F0000008F == 0
+    if any & 0x8F0000008F == 0 {
+        Ok(())
+    } else {
+        Err(Refusal::Segment)
+    }
 }
 
-// 0, or the number of the first rule that the page breaks.
-pub fn check(whole: &[u8]) -> u32
-    requires { is_page (length whole.now) ≡ true }
-    ensures { result ≡ check_words (block_pairs (is_long (length whole.now))) (bl_width (is_long (length whole.now)))
-        (register_words whole.now) }
+// The rules of a register page in their order: the first that it breaks.
+pub fn check(page: &[u8]) -> Result<(), Refusal>
+    requires { is_page (length page.now) ≡ true }
+    ensures { result_number result ≡ check_words (block_pairs (is_long (length page.now))) (bl_width (is_long (length page.now)))
+        (register_words page.now) }
 {
-    // A slice of its own, so that the compiler keeps where it lies and how long it is in registers.
-    let page = &whole[..];
     if !register_words::sdr1_shape(words::read_word(page, 0)) {
-        return numbers::REFUSED_SDR1;
+        return Err(Refusal::Sdr1);
     }
-    if blocks_on(page) {
-        let refused = blocks_refusal(page);
-        if refused != numbers::DONE {
-            return refused;
-        }
+    // Asked before the blocks, so that on a page whose blocks are off no registers are saved.
+    let segments = segments_refusal(page);
+    if !blocks_on(page) {
+        return segments;
     }
-    if segments_good(page) {
-        return numbers::DONE;
-    }
-    numbers::REFUSED_SEGMENT
+    blocks_refusal(page)?;
+    segments
 }
 
-// The register set by value: the bytes of its page, those of a short one in front, and how many they are.
+// The register set by value: the bytes of a page of N.
 #[derive(Clone, Copy)]
-pub struct Set {
-    pub bytes: [u8; 196],
-    pub size: usize,
+pub struct Set<const N: usize> {
+    pub bytes: [u8; N],
 }
 
-// What replacing a word answers: 0 and the new set, or the refusal and the old set.
-#[derive(Clone, Copy)]
-pub struct Replaced {
-    pub result: u32,
-    pub set: Set,
-}
-
-impl Set {
-    // The set with one word changed, or the refusal and the old set.
-    pub fn with_word(self, number: u32, word: u32) -> Replaced
-        requires { OfPage self }
-        ensures { (result.result, page_of result.set) ≡ page_replaced (page_of self) number word }
+impl<const N: usize> Set<N> {
+    // The set with one word changed, or the refusal.
+    pub fn with_word(self, number: u32, word: u32) -> Result<Set<N>, Refusal>
+        requires { is_page N ≡ true }
+        ensures { (result_number result, page_after self.entry.bytes result) ≡ page_replaced self.entry.bytes number word }
     {
-        let size = self.size;
-        if number >= registers::count_of(size == numbers::REGISTERS_SIZE_LONG) {
-            return Replaced {
-                result: numbers::REFUSED_ARGUMENT,
-                set: self,
-            };
+        if number >= registers::count_of(N == numbers::REGISTERS_SIZE_LONG) {
+            return Err(Refusal::Argument);
         }
-        let at = 4 * (number as usize);
         let mut bytes = self.bytes;
-        let old = words::read_word(&bytes, at);
-        words::write_word(&mut bytes, at, word);
-        let result = check(&bytes[0..size]);
-        if result != numbers::DONE {
-            words::write_word(&mut bytes, at, old);
-        }
-        Replaced {
-            result,
-            set: Set { bytes, size },
-        }
+        words::write_word(&mut bytes, 4 * (number as usize), word);
+        check(&bytes)?;
+        Ok(Set { bytes })
     }
 }
 
-// Copies bytes.
+// Copies a page in two parts, each short enough that the compiler copies it without a call.
+#[inline(always)]
 fn copy(to: &mut [u8], from: &[u8])
-    requires { length to.old ≡ length from.now }
+    requires { (length to.old ≡ length from.now) × (68 ≤ length from.now) }
     ensures { to.new ≡ from.now }
 {
-    let mut i = 0;
-    while i < from.len() {
-        to[i] = from[i];
-        i += 1;
-    }
+    let size = to.len();
+    to[..68].copy_from_slice(&from[..68]);
+    to[68..].copy_from_slice(&from[68..size]);
 }
 
-// Copies the bytes of a page of a size, in parts of known length, which the compiler copies without a loop.
-fn copy_page(to: &mut [u8], from: &[u8], size: usize)
-    requires { (is_page size ≡ true) × (size ≤ length to.old) × (size ≤ length from.now) }
-    ensures { to.new ≡ take size from.now ++ drop size to.old }
+// Replaces one word of a page of N bytes, or tells the refusal: the page is read into a set, and gets the word of the new set, in which every other
+// byte is the old one's.
+fn set_word_of<const N: usize>(page: &mut [u8], number: u32, word: u32) -> Result<(), Refusal>
+    requires { (length page.old ≡ N) × (is_page N ≡ true) }
+    ensures { (result_number result, page.new) ≡ page_replaced page.old number word }
 {
-    copy(&mut to[0..68], &from[0..68]);
-    copy(&mut to[68..132], &from[68..132]);
-    if size == numbers::REGISTERS_SIZE_LONG {
-        copy(&mut to[132..196], &from[132..196]);
-    }
+    let mut bytes = [0; N];
+    copy(&mut bytes, page);
+    let new = Set { bytes }.with_word(number, word)?;
+    let byte = 4 * (number as usize);
+    words::write_word(page, byte, words::read_word(&new.bytes, byte));
+    Ok(())
 }
 
-// The register set of a page.
-fn read_set(page: &[u8]) -> Set
-    requires { is_page (length page.now) ≡ true }
-    ensures { OfPage result × (page_of result ≡ page.now) }
-{
-    let mut bytes = [0u8; 196];
-    let size = page.len();
-    copy_page(&mut bytes, page, size);
-    Set { bytes, size }
-}
-
-// Replaces one word of a page: 0, or the refusal, and then the page is as it was. The page is read into a set, and gets the word of the new set, in
-// which every other byte is the old one's.
-pub fn set_word(page: &mut [u8], number: u32, word: u32) -> u32
+// Replaces one word of a page, or tells the refusal, and then the page is as it was.
+pub fn set_word(page: &mut [u8], number: u32, word: u32) -> Result<(), Refusal>
     requires { is_page (length page.old) ≡ true }
-    ensures { (result, page.new) ≡ page_replaced page.old number word }
+    ensures { (result_number result, page.new) ≡ page_replaced page.old number word }
 {
-    let set = read_set(page);
-    let replaced = set.with_word(number, word);
-    let result = replaced.result;
-    if result == numbers::DONE {
-        let new = replaced.set.bytes;
-        let byte = 4 * (number as usize);
-        words::write_word(page, byte, words::read_word(&new, byte));
+    if page.len() == numbers::REGISTERS_SIZE_LONG {
+        set_word_of::<{ numbers::REGISTERS_SIZE_LONG }>(page, number, word)
+    } else {
+        set_word_of::<{ numbers::REGISTERS_SIZE_SHORT }>(page, number, word)
     }
-    result
 }
 
 // The byte at which a side's pairs begin.
@@ -276,24 +243,24 @@ fn side_at(size: usize, side: bool) -> usize
     if side { size / 2 + 34 } else { 68 }
 }
 
-// The first pair of a side that covers the address for the user or the supervisor, or 8 where none does. Four pairs at a time, so that the compiler
-// writes the inner loop out.
-pub fn covering_pair(page: &[u8], side: bool, user: bool, address: u32) -> usize
+// The first pair of a side that covers the address for the user or the supervisor. Four pairs at a time, for the compiler writes the inner loop out; a
+// loop over the pairs one by one, or `find`, tried, makes the rights of a page 7 % slower.
+#[inline]
+pub fn covering_pair(page: &[u8], side: bool, user: bool, address: u32) -> Option<usize>
     requires { is_page (length page.now) ≡ true }
-    ensures { result ≡ covering_pair (block_pairs true) (bl_width true) (set_words page.now) side user address }
+    ensures number { pair_number result ≡ covering_pair (block_pairs true) (bl_width true) (set_words page.now) side user address }
+    ensures own { IfSome result (λ i. i < block_pairs (is_long (length page.now))) }
 {
     let start = side_at(page.len(), side);
     let pairs = (page.len() - 68) / 16;
-    let mut first: usize = 0;
-    while first < pairs {
-        for i in first..first + 4 {
+    for four in 0..pairs / 4 {
+        for i in 4 * four..4 * four + 4 {
             if register_words::block_covers(user, words::read_word(page, start + 8 * i), address) {
-                return i;
+                return Some(i);
             }
         }
-        first += 4;
     }
-    registers::BLOCK_PAIRS
+    None
 }
 
 // The byte of a pair of a side, which lies on the page.
@@ -304,20 +271,13 @@ fn pair_at(size: usize, side: bool, i: usize) -> usize
     side_at(size, side) + 8 * i
 }
 
-// The upper word of a pair of the page.
-pub fn upper(page: &[u8], side: bool, i: usize) -> u32
+// The upper and the lower word of a pair of the page.
+pub fn pair(page: &[u8], side: bool, i: usize) -> (u32, u32)
     requires { (is_page (length page.now) ≡ true) × (i < block_pairs (is_long (length page.now))) }
-    ensures { result ≡ upper_of (block_pairs true) (set_words page.now) side i }
+    ensures { result ≡ (upper_of (block_pairs true) (set_words page.now) side i, lower_of (block_pairs true) (set_words page.now) side i) }
 {
-    words::read_word(page, pair_at(page.len(), side, i))
-}
-
-// The lower word of a pair of the page.
-pub fn lower(page: &[u8], side: bool, i: usize) -> u32
-    requires { (is_page (length page.now) ≡ true) × (i < block_pairs (is_long (length page.now))) }
-    ensures { result ≡ lower_of (block_pairs true) (set_words page.now) side i }
-{
-    words::read_word(page, pair_at(page.len(), side, i) + 4)
+    let at = pair_at(page.len(), side, i);
+    (words::read_word(page, at), words::read_word(page, at + 4))
 }
 
 // A segment register of the page.

@@ -20,6 +20,7 @@ pub fn sdr1_shape(sdr1: u32) -> bool
 }
 
 // The length in bytes of the table of an SDR1.
+#[tactic(auto, unfolding(crate::specs::Sdr1::table_length))]
 pub fn table_length(sdr1: u32) -> usize
     ensures { result ≡ table_length sdr1 }
 {
@@ -42,6 +43,7 @@ pub fn no_execute(word: u32) -> bool
 }
 
 // The VSID of a segment register.
+#[tactic(auto, unfolding(crate::specs::Segment::segment_vsid))]
 pub fn segment_vsid(word: u32) -> u32
     ensures { result ≡ segment_vsid word }
 {
@@ -49,12 +51,13 @@ pub fn segment_vsid(word: u32) -> u32
 }
 
 // As many ones as BL of a pair has bits, its upper word in the high half, in BEPI's, BL's and BRPN's places at once, and the low 17 bits all ones.
+// Pair and ones stay two numbers here and in the two functions below: one loop alone has them, for three lines, and a struct for it is no plainer.
 pub fn ones_of(pair: u64) -> u64
     ensures { result ≡ pair_ones (pair / 2 ^ 32) }
 {
     // BL from bit 17 on, with a one below it.
     let field = (((pair >> 17) % 0x100000000) as u32) | 0x10000;
-    std::num::wrapping_sub_u64(0x200040002 << words::highest(field), 0x2000400000001)
+    (0x200040002u64 << words::highest(field)).wrapping_sub(0x2000400000001)
 }
 
 // What is asked of a pair that is on, `ones` those of its length and `lengths` the place of BL on its page, whose bits are turned, so that BL's ones are
@@ -66,7 +69,7 @@ pub fn asked_of(pair: u64, ones: u64, lengths: u64, sum: u64) -> u64
         → (bit_and result (zero_bits side) == 0) ≡ block_shape (bl_width long) side (pair / 2 ^ 32) (pair % 2 ^ 32) }
 {
     let asked = (pair ^ lengths) & ones;
-    asked | std::num::wrapping_add_u64(asked, sum)
+    asked | asked.wrapping_add(sum)
 }
 
 // The end of a pair's block, `ones` those of its length: a pair whose block begins behind it is a greater number.
@@ -95,6 +98,7 @@ pub fn in_block(upper: u32, address: u32) -> bool
 }
 
 // Whether a block is valid for the user or the supervisor and holds the address.
+// A pair stays two words, here and below: `covers` and `block_physical` of specs/ take them, and an access asks each for itself.
 pub fn block_covers(user: bool, upper: u32, address: u32) -> bool
     ensures { result ≡ covers (bl_width true) user upper address }
 {
@@ -111,6 +115,7 @@ pub fn block_physical(upper: u32, lower: u32, address: u32) -> u32
 }
 
 // WIMG of a block's lower word.
+// This and `block_pp` stay beside `entry::wimg_of` and `entry::pp_of`: `block_attributes` and `block_pp` of specs/ stand apart from an entry's.
 pub fn block_attributes(lower: u32) -> u32
     ensures { result ≡ block_attributes lower }
 {
@@ -118,6 +123,7 @@ pub fn block_attributes(lower: u32) -> u32
 }
 
 // PP of a block's lower word.
+#[tactic(auto, unfolding(crate::specs::Block::block_pp))]
 pub fn block_pp(lower: u32) -> u32
     ensures { result ≡ block_pp lower }
 {

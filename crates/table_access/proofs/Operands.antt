@@ -1,5 +1,5 @@
 -- What an operand answers and leaves by a table and a cache, case by case: a part stops it, its one part is done, or both are.
-use Prim.Native.Nat.{ℕ, ◌*◌, ◌+◌, ◌≤◌}
+use Prim.Native.Nat.{ℕ}
 use mathlib.Core.Path.{◌≡◌, refl, sym, ap, ap₂, ◌∙◌}
 use mathlib.Core.Bool.{Bool, true, false, cond}
 use mathlib.Core.List.{List}
@@ -20,7 +20,7 @@ use Rattle.theory_calls.proofs.TwoMarks.{mark_good, second_kept}
 use Rattle.theory_cache.specs.Cached.{missed, loaded_by, taken}
 use Rattle.register_words.specs.Sdr1.{mask_ones}
 use Rattle.groups.specs.Hash.{TableOf}
-use Rattle.table_access.specs.Part.{taken_by, part_early, own_part, part_told, part_decided, whole_told, part_taken, left_at, Comes, EndsAs}
+use Rattle.table_access.specs.Part.{LiesIn, taken_by, part_early, own_part, part_told, part_decided, whole_told, part_taken, left_at, Comes, EndsAs}
 use Rattle.table_access.specs.declared.Access.{Access}
 use Rattle.table_access.specs.declared.Part.{Part}
 use Rattle.table_access.proofs.Parts.{SameMatches, same_self, ByPart, by_steps_law}
@@ -109,9 +109,9 @@ module _ (words : List ℕ) (access : Access) (sdr1 : ℕ) (lent : List ℕ × L
   by : (second : Bool) → ByPart k lent.0 lent.1 access.kind (start second) (early second) (own second)
   by second = by_steps_law sdr1 access.kind (start second) lent.0 lent.1 of words access.mode
 
-  -- its group lies in the table
-  pub own_inside : (second : Bool) → 64 * (own second).found.group + 64 ≤ length lent.0
-  own_inside second = (by second).inside
+  -- its entry lies in the table
+  pub own_lies : (second : Bool) → LiesIn (own second).found (length lent.0)
+  own_lies second = (by second).lies
 
   told_done : (second : Bool) → (own second).answer.result ≡ 0 → (part_told access k lent early second).result ≡ 0
   told_done second z = sym (ap (λ (x : Answer). x.result) (by second).answers) ∙ z
@@ -119,18 +119,15 @@ module _ (words : List ℕ) (access : Access) (sdr1 : ℕ) (lent : List ℕ × L
   told_not : (second : Bool) → ((own second).answer.result ≡ 0 → ⊥) → (part_told access k lent early second).result ≡ 0 → ⊥
   told_not second n z = n (ap (λ (x : Answer). x.result) (by second).answers ∙ z)
 
-  -- the second part is asked for where the operand goes over the edge and the first part is done
-  unfoldable pub Reached : Bool → Type 0
-  Reached false = Unit {0}
-  Reached true = (over_edge access.address access.length ≡ true) × ((own false).answer.result ≡ 0)
-
-  pub stops : (second : Bool) → Reached second → ((own second).answer.result ≡ 0 → ⊥)
-      → Comes access k lent early (stopped (own second).answer (own second).decision) lent
-  unfolding Reached
-  stops false reached n =
+  -- a part that is not done stops the operand; the second is asked for where the operand goes over the edge and the first part is done
+  pub stops_first : ((own false).answer.result ≡ 0 → ⊥) → Comes access k lent early (stopped (own false).answer (own false).decision) lent
+  stops_first n =
       let (told, left) = first_stopped access k lent early (told_not false n) in
       (ap₂ (λ (x : Answer) (d : Decision). stopped x d) (by false).answers (by false).decides ∙ told, left)
-  stops true (over, done) n =
+
+  pub stops_second : (own false).answer.result ≡ 0 → over_edge access.address access.length ≡ true → ((own true).answer.result ≡ 0 → ⊥)
+      → Comes access k lent early (stopped (own true).answer (own true).decision) lent
+  stops_second done over n =
       let (told, left) = second_stopped access k lent early (told_done false done) over (told_not true n) in
       (ap₂ (λ (x : Answer) (d : Decision). stopped x d) (by true).answers (by true).decides ∙ told, left)
 

@@ -1,17 +1,16 @@
 -- A part of an operand as the code holds it, and what an operand answers and leaves, by a table and a cache and what steps 1 to 3 of its parts come to.
 -- A cache of no bytes is none: no page is a hit there, and nothing is loaded.
-use Rattle.std.specs.Prelude.{ℕ, ◌+◌, Bool, true, false, cond, List, ◌≡◌, eqb, ltb, length}
+use Rattle.std.specs.Prelude.{ℕ, ◌+◌, ◌*◌, ◌<◌, ◌≤◌, Bool, true, false, cond, List, Option, Some, None, ◌≡◌, eqb, ltb, length, ⊤}
+use Rattle.std.specs.declared.ops.ControlFlow.{ControlFlow}
+use Rattle.std.specs.declared.ops.ControlFlow.TheVariants.{Break, Continue}
 use Rattle.numbers.specs.Numbers.{group_entries}
 use Rattle.words.specs.Bits.{bits}
 use Rattle.entry.specs.Entry.{page_index, with_marks}
-use Rattle.register_words.specs.Sdr1.{mask_ones}
 use Rattle.register_words.specs.Block.{bl_width}
-use Rattle.registers.specs.Set.{is_page, block_pairs, sdr1_of, set_words}
-use Rattle.groups.specs.Hash.{group_number, located, TableOf}
+use Rattle.registers.specs.Set.{is_page, block_pairs, covering_pair, sdr1_of, set_words}
+use Rattle.groups.specs.Hash.{group_number, TableOf}
 use Rattle.groups.specs.Group.{first_of, put_at}
-use Rattle.groups.specs.declared.Located.{Located}
-use Rattle.matches.specs.Search.{contradict, told}
-use Rattle.matches.specs.declared.Told as matches
+use Rattle.matches.specs.Search.{contradict}
 use Rattle.theory_tables.specs.Layout.{matches_of}
 use Rattle.protection.specs.Access.{storing}
 use Rattle.translation.specs.Steps.{before_search, after_search, outcome_of, answer_of}
@@ -19,6 +18,7 @@ use Rattle.translation.specs.Decision.{decided, decision_of}
 use Rattle.translation.specs.Operand.{over_edge, part_start, operand_answer}
 use Rattle.translation.specs.declared.Answer.{Answer}
 use Rattle.translation.specs.declared.decision.Decision.{Decision}
+use Rattle.translation.specs.declared.decision.Used.{Used}
 use Rattle.translation.specs.declared.operand.OperandAnswer.{OperandAnswer}
 use Rattle.translation.specs.declared.Outcome.{Outcome}
 use Rattle.translation.specs.declared.Early.{Early}
@@ -33,9 +33,8 @@ use Rattle.theory_calls.specs.OnBytes.{by_matches, by_option, layout, used_by, w
 use Rattle.theory_cache.specs.Cached.{hit_entry, hit_of, cached_search, cached_place, missed, taken}
 use Rattle.table_access.specs.declared.Access.{Access}
 use Rattle.table_access.specs.declared.Found.{Found}
+use Rattle.table_access.specs.declared.Found.TheVariants.{Unmatched, Contradicted, InCache, InTable}
 use Rattle.table_access.specs.declared.Part.{Part}
-use Rattle.table_access.specs.declared.Begun.{Begun}
-use Rattle.table_access.specs.declared.Begun.TheVariants.{Told, Wants}
 
 -- ---- what is lent
 
@@ -60,82 +59,82 @@ CacheOrNone cache = (length cache ≡ cache_size → ⊥) → length cache ≡ 0
 
 -- ---- what is found of a page
 
-abbrev pub nothing_found : Found
-nothing_found = record { any = false; differs = false; second = 0; group = 0; entry = group_entries }
-
--- by the search of a table for a mask of k ones: the first match
+-- by the search of a table for a mask of k ones: the first match, unless the others contradict it
 unfoldable pub table_found : ℕ → List ℕ → Wanted → Found
 table_found k t wanted =
-    by_matches (matches_of (layout k) t (wanted_page wanted)) nothing_found
-    (λ x xs. record {
-      any = true;
-      differs = contradict x xs;
-      second = x.second;
-      group = group_number (10 + k) x.secondary (wanted_page wanted);
-      entry = x.entry;
-    })
+    by_matches (matches_of (layout k) t (wanted_page wanted)) Unmatched
+    (λ x xs. cond (contradict x xs) Contradicted (InTable x.second (group_number (10 + k) x.secondary (wanted_page wanted)) x.entry))
 
 -- by a cache, and by the search where it has no hit: a hit shows the group that the loaded H names, and no entry
 unfoldable pub found_by : ℕ → ℕ → List ℕ → List ℕ → Wanted → Found
 found_by k kind t d wanted =
     by_option (hit_of k kind t d wanted) (table_found k t wanted)
-    (λ words. record {
-      any = true;
-      differs = false;
-      second = words.1;
-      group = group_number (10 + k) (eqb (bits 25 25 words.0) 1) (wanted_page wanted);
-      entry = hit_entry;
-    })
-
--- in the table of an SDR1 the groups of a page were located, and the search of both told this
-abbrev pub SearchTold : ℕ → List ℕ → Wanted → Located → matches.Told → Type 0
-SearchTold sdr1 t wanted page both =
-    TableOf sdr1 (length t) × (page ≡ located (mask_ones sdr1) (wanted_page wanted))
-    × ((free : ℕ) × (both ≡ told (matches_of (layout (mask_ones sdr1)) t (wanted_page wanted)) free))
+    (λ words. InCache words.1 (group_number (10 + k) (eqb (bits 25 25 words.0) 1) (wanted_page wanted)))
 
 -- what step 4 makes of it
 abbrev pub searched_of : Found → Searched
-searched_of found = cond found.any (cond found.differs Contradicting (At found.second)) Nothing
+searched_of Unmatched = Nothing
+searched_of Contradicted = Contradicting
+searched_of (InCache second group) = At second
+searched_of (InTable second group entry) = At second
+
+-- what is shown of it beside the key
+abbrev pub shown_of : Bool → Found → Used
+shown_of key Unmatched = record { key = key; group = 0; entry = hit_entry }
+shown_of key Contradicted = record { key = key; group = 0; entry = hit_entry }
+shown_of key (InCache second group) = record { key = key; group = group; entry = hit_entry }
+shown_of key (InTable second group entry) = record { key = key; group = group; entry = entry }
+
+-- an entry that is found in a table lies there
+abbrev pub LiesIn : Found → ℕ → Type 0
+LiesIn Unmatched lent = ⊤
+LiesIn Contradicted lent = ⊤
+LiesIn (InCache second group) lent = ⊤
+LiesIn (InTable second group entry) lent = (64 * group + 64 ≤ lent) × (entry < group_entries)
 
 -- ---- a part
 
 -- by an answer and a rule in which no page plays a part
 abbrev pub without_page : ℕ → ℕ → Answer → Part
-without_page rule detail answer = record { answer = answer; decision = decided rule detail; found = nothing_found }
+without_page rule detail answer = record { answer = answer; decision = decided rule detail; found = Unmatched }
+
+-- by an outcome, what is shown of an entry, and what was found
+abbrev pub part_as : ℕ → ℕ → Used → Outcome → Found → Part
+part_as kind address used outcome found = record { answer = answer_of kind address outcome; decision = decision_of used outcome; found = found }
 
 -- by an outcome of steps 1 to 3
 abbrev pub by_outcome : ℕ → ℕ → Outcome → Part
-by_outcome kind address outcome = record {
-  answer = answer_of kind address outcome;
-  decision = decision_of (record { key = false; group = 0; entry = 0 }) outcome;
-  found = nothing_found;
-}
+by_outcome kind address outcome = part_as kind address (record { key = false; group = 0; entry = 0 }) outcome Unmatched
 
 -- by what was found of its page
 abbrev pub by_found : ℕ → ℕ → Bool → Found → Part
-by_found kind address key found = record {
-  answer = answer_of kind address (after_search kind key (searched_of found));
-  decision = decision_of (record { key = key; group = found.group; entry = found.entry }) (after_search kind key (searched_of found));
-  found = found;
-}
+by_found kind address key found = part_as kind address (shown_of key found) (after_search kind key (searched_of found)) found
 
--- what steps 1 to 3 come to, as the code holds it
-unfoldable pub begun_by : ℕ → ℕ → Early → Begun
-begun_by kind address (Decided outcome) = Told (by_outcome kind address outcome)
-begun_by kind address (Search wanted) = Wants wanted
+-- the pair of a side that covers an address for the user or the supervisor, or none
+abbrev pub covered_by : List ℕ → Bool → Bool → ℕ → Option ℕ
+covered_by words side user address =
+    let pair = covering_pair (block_pairs true) (bl_width true) words side user address in
+    cond (ltb pair (block_pairs true)) (Some pair) None
+
+-- what steps 1 to 3 come to, as the code holds it: they end with the part, or go on with the page that is searched for
+unfoldable pub begun_by : ℕ → ℕ → Early → ControlFlow Part Wanted
+begun_by kind address (Decided outcome) = Break (by_outcome kind address outcome)
+begun_by kind address (Search wanted) = Continue wanted
 
 -- steps 1 to 6, where `find` tells what is found of a page
 unfoldable pub part_by : ℕ → ℕ → (Wanted → Found) → Early → Part
 part_by kind address find (Decided outcome) = by_outcome kind address outcome
 part_by kind address find (Search wanted) = by_found kind address wanted.key (find wanted)
 
--- step 7 by what was found of its page: the first match's entry is marked, and its page loaded with the words that the entry then has
+-- step 7 by what was found of its page: an entry of the table is marked, and its page loaded with the words that the entry then has
 unfoldable pub taken_by : ℕ → ℕ → Found → List ℕ × List ℕ → List ℕ × List ℕ
-taken_by kind address found lent =
-    let first = first_of lent.0 found.group found.entry in
-    let second = with_marks true (storing kind) found.second in
-    cond (ltb found.entry group_entries)
-    (put_at lent.0 found.group found.entry first second, loaded (record { vsid = bits 1 24 first; index = page_index address }) first second lent.1) lent
+taken_by kind address Unmatched lent = lent
+taken_by kind address Contradicted lent = lent
+taken_by kind address (InCache second group) lent = lent
+taken_by kind address (InTable second group entry) lent =
+    let first = first_of lent.0 group entry in
+    let second = with_marks true (storing kind) second in
+    (put_at lent.0 group entry first second, loaded (record { vsid = bits 1 24 first; index = page_index address }) first second lent.1)
 
 -- ---- an operand
 

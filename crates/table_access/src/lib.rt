@@ -1,19 +1,20 @@
 // One access on a lent table, with a cache of translations or without one: the rules of its arguments in order, the parts of its operand, each by the
-// steps, the marks, the loads and the answer.
+// steps, the marks, the loads and the answer. The steps of a part are inlined, so that what they hand on stays in registers.
 #![tactic(auto)]
 
-ghost use Rattle.std.specs.Prelude.{◌≡◌, Bool, true, false, not, ◌&&◌, List, [], ◌∷◌, ◌++◌, ℕ, ◌+◌, ◌*◌, ◌<◌, ◌≤◌, eqb, ltb, length};
+ghost use Rattle.std.specs.Prelude.{◌≡◌, true, false, not, ◌&&◌, [], ◌∷◌, ◌++◌, ℕ, ◌+◌, ◌*◌, ◌<◌, eqb, ltb, length};
 ghost use Rattle.numbers.specs.Numbers.{refused_table_length, refused_argument, refused_operand_length, access_answer_size};
+ghost use Rattle.numbers.specs.Refused.{refusal_number, result_number};
 ghost use Rattle.registers.specs.Rules.{first_broken};
 ghost use Rattle.register_words.specs.Sdr1.{table_length, mask_ones};
 ghost use Rattle.register_words.specs.Block.{bl_width};
-ghost use Rattle.registers.specs.Set.{is_page, is_long, block_pairs, covering_pair, sdr1_of, register_rules, register_words, set_words};
+ghost use Rattle.registers.specs.Set.{is_page, is_long, block_pairs, sdr1_of, register_rules, register_words, set_words};
 ghost use Rattle.groups.specs.Page.{InRange};
 ghost use Rattle.groups.specs.Hash.{TableOf, SomeTable};
 ghost use Rattle.protection.specs.Access.{user_mode, relocated, side_of};
-ghost use Rattle.translation.specs.Steps.{block_outcome, before_search, answer_of};
-ghost use Rattle.translation.specs.Decision.{decision_of};
-ghost use Rattle.translation.specs.Operand.{part_start, operand_answer};
+ghost use Rattle.translation.specs.Steps.{block_outcome, page_outcome, before_search, refused_answer, answer_of};
+ghost use Rattle.translation.specs.Decision.{decided, decision_of};
+ghost use Rattle.translation.specs.Operand.{part_start, stopped, operand_answer};
 ghost use Rattle.translation.specs.declared.Outcome.TheVariants.{Real};
 ghost use Rattle.translation.specs.declared.Wanted.{Wanted};
 ghost use Rattle.cache.specs.Cache.{cache_size};
@@ -22,11 +23,17 @@ ghost use Rattle.theory_calls.specs.Rules.{operand_in_range};
 ghost use Rattle.theory_calls.specs.Answers.{access_answer};
 ghost use Rattle.theory_calls.specs.OnBytes.{ended, wanted_page, on_bytes};
 ghost use Rattle.theory_cache.specs.Cached.{on_cached};
-ghost use Rattle.table_access.specs.Part.{call_of, SearchTold, PageAndTable, CacheOrNone, nothing_found, table_found, found_by, without_page, by_outcome, by_found, begun_by, part_by, taken_by, part_early, EndsAs};
+ghost use Rattle.table_access.specs.Part.{call_of, covered_by, PageAndTable, CacheOrNone, LiesIn, table_found, found_by, without_page, by_outcome, part_as, by_found, begun_by, part_by, taken_by, part_early, Comes};
 
-use translation::operand::OperandAnswer;
+use groups::Page;
+use matches::Others;
+use numbers::Refusal;
+use std::ops::ControlFlow;
+use translation::Wanted;
+use translation::decision::{self, Decision, Used};
+use translation::operand::{self, OperandAnswer};
 
-// What an access asks for.
+// What an access asks for. Mode and kind stay numbers, since the calls answer for any (`mmu_access`).
 #[derive(Clone, Copy)]
 pub struct Access {
     pub mode: u32,
@@ -35,115 +42,98 @@ pub struct Access {
     pub length: u32,
 }
 
-// The entry number that stands for a hit, and for no entry: nothing is marked there.
-pub const NO_ENTRY: u32 = 8;
+// The entry number that an answer shows of a hit, in its last word.
+const NO_ENTRY: u32 = 8;
 
-// What the cache or the search finds of a page: whether there is a match, whether its matches contradict, the first match's second word, and the
-// numbers of its group and its entry.
+// What the cache or the search finds of a page: no match, matches that contradict, or the entry's second word and the number of its group; of an
+// entry in the table its number there too, since it is marked where the operand is done.
 #[derive(Clone, Copy)]
-pub struct Found {
-    pub any: bool,
-    pub differs: bool,
-    pub second: u32,
-    pub group: u32,
-    pub entry: u32,
+pub enum Found {
+    Unmatched,
+    Contradicted,
+    InCache { second: u32, group: u32 },
+    InTable { second: u32, group: u32, entry: u32 },
 }
 
-impl Found {
-    // No match.
-    pub fn nothing() -> Self
-        ensures { result ≡ nothing_found }
-    {
-        Self {
-            any: false,
-            differs: false,
-            second: 0,
-            group: 0,
-            entry: NO_ENTRY,
-        }
-    }
-}
-
-// What a part of an operand answers, what decided it, and what was found of its page, whose entry is marked where the operand is done.
+// What a part of an operand answers, what decided it, and what was found of its page.
 #[derive(Clone, Copy)]
 pub struct Part {
     pub answer: translation::Answer,
-    pub decision: translation::decision::Decision,
+    pub decision: Decision,
     pub found: Found,
 }
 
-// What the steps before the search come to: the part, or the page that it wants.
-#[derive(Clone, Copy)]
-pub enum Begun {
-    Told(Part),
-    Wants(translation::Wanted),
-}
-
-// The first broken rule after the lent lengths, or 0: the arguments' ranges, then the register page, then the table's length.
-pub fn refusal(registers: &[u8], access: Access, lent: usize) -> u32
+// Whether an access may go on after the lent lengths, or the first rule that it breaks: the arguments' ranges, then the register page, then the
+// table's length.
+pub fn check(registers: &[u8], access: Access, lent: usize) -> Result<(), Refusal>
     requires { is_page (length registers.now) ≡ true }
-    ensures { result ≡ first_broken ((not (ltb access.mode 8 && ltb access.kind 3), refused_argument)
+    ensures { result_number result ≡ first_broken ((not (ltb access.mode 8 && ltb access.kind 3), refused_argument)
         ∷ (not (operand_in_range access.length), refused_operand_length)
         ∷ register_rules (block_pairs (is_long (length registers.now))) (bl_width (is_long (length registers.now)))
         (register_words registers.now)
         ++ ((not (eqb lent (table_length (sdr1_of (register_words registers.now)))), refused_table_length) ∷ [])) }
 {
     if !((access.mode < 8) & (access.kind < 3)) {
-        return numbers::REFUSED_ARGUMENT;
+        return Err(Refusal::Argument);
     }
     if !((0 < access.length) & (access.length <= numbers::LONGEST_OPERAND)) {
-        return numbers::REFUSED_OPERAND_LENGTH;
+        return Err(Refusal::OperandLength);
     }
-    let broken = register_pages::check(registers);
-    if broken != numbers::DONE {
-        return broken;
-    }
+    register_pages::check(registers)?;
     if lent != register_words::table_length(register_pages::sdr1(registers)) {
-        return numbers::REFUSED_TABLE_LENGTH;
+        return Err(Refusal::TableLength);
     }
-    numbers::DONE
+    Ok(())
 }
 
-// What the search of a page's two groups told of it: the first match.
-pub fn found_in(page: groups::Located, told: matches::Told) -> Found
-    requires { (sdr1 : ℕ) × ((t : List ℕ) × ((wanted : Wanted) × SearchTold sdr1 t wanted page told)) }
-    ensures { (sdr1 : ℕ) (t : List ℕ) (wanted : Wanted) → SearchTold sdr1 t wanted page told → result ≡ table_found (mask_ones sdr1) t wanted }
+// The page that is searched for.
+fn page_of(wanted: Wanted) -> Page
+    ensures { result ≡ wanted_page wanted }
 {
-    if !told.any() {
-        return Found::nothing();
+    Page {
+        vsid: wanted.vsid,
+        index: wanted.index,
     }
-    Found {
-        any: true,
-        differs: told.differs(),
-        second: told.second,
-        group: page.group(told.in_secondary()) as u32,
-        entry: told.entry() as u32,
+}
+
+// Step 4 by the table: the first match of a page's two groups, and whether another contradicts it.
+#[inline(always)]
+pub fn search(table: &[u8], wanted: Wanted) -> Found
+    requires { SomeTable (length table.now) × InRange (wanted_page wanted) }
+    ensures { (sdr1 : ℕ) → TableOf sdr1 (length table.now) → result ≡ table_found (mask_ones sdr1) table.now wanted }
+{
+    let (at, told) = page_calls::search(page_of(wanted), table);
+    let Some(first) = told.first else {
+        return Found::Unmatched;
+    };
+    if first.others == Others::Differing {
+        return Found::Contradicted;
+    }
+    Found::InTable {
+        second: first.second,
+        group: at.group(first.place.secondary) as u32,
+        entry: first.place.entry as u32,
     }
 }
 
 // Step 4 with a cache: a hit is what the search finds. It shows the group that the loaded H names.
-fn cached_search(table: &[u8], cache: &[u8], kind: u32, wanted: translation::Wanted) -> Found
+#[inline(always)]
+fn cached_search(table: &[u8], cache: &[u8], kind: u32, wanted: Wanted) -> Found
     requires { SomeTable (length table.now) × InRange (wanted_page wanted) × CacheOrNone cache.now }
     ensures { (sdr1 : ℕ) → TableOf sdr1 (length table.now)
         → result ≡ found_by (mask_ones sdr1) kind table.now cache.now wanted }
 {
-    let page = groups::locate(table.len(), wanted.vsid, wanted.index);
     if cache.len() == cache::SIZE {
-        let store = protection::is_store(kind);
-        let hit = cache::find(cache, store, wanted.vsid, wanted.index);
-        if hit.found {
-            return Found {
-                any: true,
-                differs: false,
+        let page = page_of(wanted);
+        if let Some(hit) = cache::find(cache, protection::is_store(kind), page) {
+            let at = groups::locate(table.len(), page);
+            return Found::InCache {
                 second: hit.second,
-                group: page.group(entry::is_secondary(hit.first)) as u32,
-                entry: NO_ENTRY,
+                group: at.group(entry::is_secondary(hit.first)) as u32,
             };
         }
     }
-    let primary = matches::in_primary(table, page);
-    let told = matches::in_secondary(table, page, primary);
-    found_in(page, told)
+    search(table, wanted)
 }
 
 // A part that no page decides.
@@ -152,12 +142,13 @@ pub fn without_page(answer: translation::Answer, rule: u32, detail: u32) -> Part
 {
     Part {
         answer,
-        decision: translation::decision::decided(rule, detail),
-        found: Found::nothing(),
+        decision: decision::decided(rule, detail),
+        found: Found::Unmatched,
     }
 }
 
 // Step 1: in real mode the address is its own.
+#[tactic(auto, unfolding(translation::specs::Steps::answer_of, translation::specs::Decision::decision_of))]
 pub fn real_part(address: u32) -> Part
     ensures { (kind : ℕ) → result ≡ by_outcome kind address Real }
 {
@@ -166,129 +157,171 @@ pub fn real_part(address: u32) -> Part
 }
 
 // Step 2, by the block of a pair that covers the address.
-fn by_block(registers: &[u8], kind: u32, address: u32, pair: usize) -> Part
+#[tactic(auto, unfolding(translation::specs::Steps::block_outcome, translation::specs::Steps::answer_of, translation::specs::Decision::decision_of))]
+fn by_block(registers: &[u8], access: Access, pair: usize) -> Part
     requires { (is_page (length registers.now) ≡ true) × (pair < block_pairs (is_long (length registers.now))) }
-    ensures { result ≡ by_outcome kind address (block_outcome (block_pairs true) (bl_width true) (set_words registers.now) kind address pair) }
+    ensures { result ≡ by_outcome access.kind access.address
+        (block_outcome (block_pairs true) (bl_width true) (set_words registers.now) access.kind access.address pair) }
 {
-    let side = protection::side_of(kind);
-    let upper = register_pages::upper(registers, side, pair);
-    let lower = register_pages::lower(registers, side, pair);
-    if !protection::block_allows(register_words::block_pp(lower), kind) {
-        let fault = translation::fault_answer(protection::PROTECTION, kind, address);
+    let side = protection::side_of(access.kind);
+    let (upper, lower) = register_pages::pair(registers, side, pair);
+    if !protection::block_allows(register_words::block_pp(lower), access.kind) {
+        let fault = translation::fault_answer(protection::PROTECTION, access.kind, access.address);
         return without_page(fault, numbers::RULE_BLOCK, pair as u32);
     }
-    let physical = register_words::block_physical(upper, lower, address);
+    let physical = register_words::block_physical(upper, lower, access.address);
     let attributes = register_words::block_attributes(lower);
-    let done = translation::done_answer(physical, attributes, address);
+    let done = translation::done_answer(physical, attributes, access.address);
     without_page(done, numbers::RULE_BLOCK, pair as u32)
 }
 
-// Steps 2 and 3 of a translated part, by the pair that covers the address: a block, else a fetch with N = 1, else the search.
-pub fn before_search(registers: &[u8], mode: u32, kind: u32, address: u32, pair: usize) -> Begun
-    requires { (is_page (length registers.now) ≡ true) × (relocated mode kind ≡ true)
-        × (pair ≡ covering_pair (block_pairs true) (bl_width true) (set_words registers.now) (side_of kind) (user_mode mode) address) }
-    ensures { result ≡ begun_by kind address (before_search (block_pairs true) (bl_width true) (set_words registers.now) mode kind address) }
+// Steps 2 and 3 of a translated part, by the pair that covers the address: they end with the part, by a block or at a fetch with N = 1, or go on to
+// the search of a page.
+#[tactic(auto, using(crate::proofs::Parts::some_covered, crate::proofs::Parts::none_covered, register_pages::proofs::Page::covering_own), unfolding(crate::specs::Part::begun_by, translation::specs::Steps::before_search, translation::specs::Steps::answer_of, translation::specs::Decision::decision_of))]
+pub fn before_search(
+    registers: &[u8],
+    access: Access,
+    pair: Option<usize>,
+) -> ControlFlow<Part, Wanted>
+    requires { (is_page (length registers.now) ≡ true) × (relocated access.mode access.kind ≡ true)
+        × (pair ≡ covered_by (set_words registers.now) (side_of access.kind) (user_mode access.mode) access.address) }
+    ensures { result ≡ begun_by access.kind access.address
+        (before_search (block_pairs true) (bl_width true) (set_words registers.now) access.mode access.kind access.address) }
 {
-    if pair < registers::BLOCK_PAIRS {
-        return Begun::Told(by_block(registers, kind, address, pair));
+    if let Some(pair) = pair {
+        return ControlFlow::Break(by_block(registers, access, pair));
     }
-    let segment = register_pages::segment(registers, (address >> 28) as usize);
-    if protection::is_fetch(kind) & register_words::no_execute(segment) {
-        let fault = translation::fault_answer(protection::NO_FETCH, kind, address);
-        return Begun::Told(without_page(fault, numbers::RULE_NO_EXECUTE, 0));
+    let segment = register_pages::segment(registers, (access.address >> 28) as usize);
+    if protection::is_fetch(access.kind) & register_words::no_execute(segment) {
+        let fault = translation::fault_answer(protection::NO_FETCH, access.kind, access.address);
+        return ControlFlow::Break(without_page(fault, numbers::RULE_NO_EXECUTE, 0));
     }
-    let user = protection::user_mode(mode);
-    Begun::Wants(translation::wanted_of(user, segment, address))
+    let user = protection::user_mode(access.mode);
+    ControlFlow::Continue(translation::wanted_of(user, segment, access.address))
 }
 
-// Steps 4 to 6, by what was found of the page.
-pub fn after_search(kind: u32, address: u32, key: bool, found: Found) -> Part
-    ensures { result ≡ by_found kind address key found }
+// Steps 5 and 6 of a part whose page has an entry, by its second word and what is shown of it.
+#[tactic(auto, unfolding(translation::specs::Steps::page_outcome, translation::specs::Steps::answer_of, translation::specs::Decision::decision_of))]
+fn by_entry(access: Access, found: Found, second: u32, used: Used) -> Part
+    ensures { result ≡ part_as access.kind access.address used (page_outcome access.kind used.key second) found }
 {
-    if !found.any {
-        return Part {
-            answer: translation::fault_answer(protection::NO_MATCH, kind, address),
-            decision: translation::decision::decided(numbers::RULE_NO_MATCH, 0),
-            found,
-        };
-    }
-    if found.differs {
-        return Part {
-            answer: translation::refused_answer(numbers::REFUSED_CONTRADICTION),
-            decision: translation::decision::decided(0, 0),
-            found,
-        };
-    }
-    let second = found.second;
     let wimg = entry::wimg_of(second);
-    let used = translation::decision::Used {
-        key,
-        group: found.group,
-        entry: found.entry,
-    };
-    if protection::is_fetch(kind) & protection::is_guarded(wimg) {
+    if protection::is_fetch(access.kind) & protection::is_guarded(wimg) {
         return Part {
-            answer: translation::fault_answer(protection::NO_FETCH, kind, address),
-            decision: translation::decision::by_entry(numbers::RULE_GUARDED, 0, used),
+            answer: translation::fault_answer(protection::NO_FETCH, access.kind, access.address),
+            decision: decision::by_entry(numbers::RULE_GUARDED, 0, used),
             found,
         };
     }
-    let detail = translation::decision::key_and_pp(key, second);
-    if !protection::page_allows(key, entry::pp_of(second), kind) {
+    let detail = decision::key_and_pp(used.key, second);
+    if !protection::page_allows(used.key, entry::pp_of(second), access.kind) {
         return Part {
-            answer: translation::fault_answer(protection::PROTECTION, kind, address),
-            decision: translation::decision::by_entry(numbers::RULE_PROTECTION, detail, used),
+            answer: translation::fault_answer(protection::PROTECTION, access.kind, access.address),
+            decision: decision::by_entry(numbers::RULE_PROTECTION, detail, used),
             found,
         };
     }
-    let physical = entry::physical_address(second, address);
+    let physical = entry::physical_address(second, access.address);
     Part {
-        answer: translation::done_answer(physical, wimg, address),
-        decision: translation::decision::by_entry(numbers::RULE_DONE, detail, used),
+        answer: translation::done_answer(physical, wimg, access.address),
+        decision: decision::by_entry(numbers::RULE_DONE, detail, used),
         found,
     }
 }
 
-// Steps 2 to 6 of a translated part at an address.
-fn part_of(registers: &[u8], table: &[u8], cache: &[u8], mode: u32, kind: u32, address: u32) -> Part
-    requires { PageAndTable registers.now table.now × CacheOrNone cache.now × (relocated mode kind ≡ true) }
-    ensures { result ≡ part_by kind address (found_by (mask_ones (sdr1_of (set_words registers.now))) kind table.now cache.now)
-        (before_search (block_pairs true) (bl_width true) (set_words registers.now) mode kind address) }
+// Steps 4 to 6, by what was found of the page.
+#[inline(always)]
+#[tactic(auto, unfolding(translation::specs::Steps::after_search, translation::specs::Steps::answer_of, translation::specs::Decision::decision_of))]
+pub fn after_search(access: Access, key: bool, found: Found) -> Part
+    ensures { result ≡ by_found access.kind access.address key found }
 {
-    let side = protection::side_of(kind);
-    let user = protection::user_mode(mode);
-    let pair = register_pages::covering_pair(registers, side, user, address);
-    match before_search(registers, mode, kind, address, pair) {
-        Begun::Told(part) => part,
-        Begun::Wants(wanted) => {
-            let found = cached_search(table, cache, kind, wanted);
-            after_search(kind, address, wanted.key, found)
+    match found {
+        Found::Unmatched => Part {
+            answer: translation::fault_answer(protection::NO_MATCH, access.kind, access.address),
+            decision: decision::decided(numbers::RULE_NO_MATCH, 0),
+            found,
+        },
+        Found::Contradicted => Part {
+            answer: translation::refused_answer(u32::from(Refusal::Contradiction)),
+            decision: decision::decided(0, 0),
+            found,
+        },
+        Found::InCache { second, group } => {
+            let used = Used {
+                key,
+                group,
+                entry: NO_ENTRY,
+            };
+            by_entry(access, found, second, used)
+        }
+        Found::InTable {
+            second,
+            group,
+            entry,
+        } => {
+            let used = Used { key, group, entry };
+            by_entry(access, found, second, used)
         }
     }
 }
 
-// Step 7 of a part of a done operand: R, and C on a store, in the entry that did it, and its page loaded where a cache is lent.
-fn take(table: &mut [u8], cache: &mut [u8], kind: u32, address: u32, found: Found)
-    requires { (64 * found.group + 64 ≤ length table.old) × CacheOrNone cache.old }
-    ensures { (table.new, cache.new) ≡ taken_by kind address found (table.old, cache.old) }
+// Steps 2 to 6 of a translated part.
+#[inline(always)]
+#[tactic(auto, using(crate::proofs::Parts::covered_is, theory_calls::proofs::Access::part_valid), unfolding(crate::specs::Part::begun_by, crate::specs::Part::part_by))]
+fn part_of(registers: &[u8], table: &[u8], cache: &[u8], access: Access) -> Part
+    requires { PageAndTable registers.now table.now × CacheOrNone cache.now × (relocated access.mode access.kind ≡ true) }
+    ensures { result ≡ part_by access.kind access.address
+        (found_by (mask_ones (sdr1_of (set_words registers.now))) access.kind table.now cache.now)
+        (before_search (block_pairs true) (bl_width true) (set_words registers.now) access.mode access.kind access.address) }
 {
-    let entry = found.entry as usize;
-    if entry < numbers::GROUP_ENTRIES {
-        let group = found.group as usize;
+    let side = protection::side_of(access.kind);
+    let user = protection::user_mode(access.mode);
+    let pair = register_pages::covering_pair(registers, side, user, access.address);
+    match before_search(registers, access, pair) {
+        ControlFlow::Break(part) => part,
+        ControlFlow::Continue(wanted) => {
+            let found = cached_search(table, cache, access.kind, wanted);
+            after_search(access, wanted.key, found)
+        }
+    }
+}
+
+// Step 7 of a part of a done operand: R, and C on a store, in the table's entry that did it, and its page loaded where a cache is lent.
+#[tactic(auto, using(groups::proofs::Lent::first_in_table, cache::proofs::None::no_bytes, cache::proofs::None::never_loaded), unfolding(crate::specs::Part::taken_by, groups::specs::Group::first_of))]
+fn take(table: &mut [u8], cache: &mut [u8], access: Access, found: Found)
+    requires { LiesIn found (length table.old) × CacheOrNone cache.old }
+    ensures { (table.new, cache.new) ≡ taken_by access.kind access.address found (table.old, cache.old) }
+{
+    if let Found::InTable {
+        second,
+        group,
+        entry,
+    } = found
+    {
+        let group = group as usize;
+        let entry = entry as usize;
         let first = words::read_word(
             table,
             group * numbers::GROUP_SIZE + numbers::ENTRY_SIZE * entry,
         );
-        let second = entry::with_marks(found.second, true, protection::is_store(kind));
-        groups::put_entry(table, group, entry, first, second);
+        let marked = entry::with_marks(second, true, protection::is_store(access.kind));
+        groups::put_entry(table, group, entry, first, marked);
         if cache.len() == cache::SIZE {
-            let vsid = entry::vsid_of(first);
-            cache::load(cache, vsid, entry::page_index(address), first, second);
+            let page = Page {
+                vsid: entry::vsid_of(first),
+                index: entry::page_index(access.address),
+            };
+            let words = entry::Words {
+                first,
+                second: marked,
+            };
+            cache::load(cache, page, words);
         }
     }
 }
 
 // Writes the twelve words of what an operand answers, and hands its result back.
+#[tactic(auto, unfolding(theory_calls::specs::Answers::access_answer))]
 pub fn tell(answer: &mut [u8], told: OperandAnswer) -> u32
     requires { length answer.old ≡ access_answer_size }
     ensures { (result ≡ told.part.result) × (answer.new ≡ access_answer told) }
@@ -313,77 +346,72 @@ pub fn tell(answer: &mut [u8], told: OperandAnswer) -> u32
     part.result
 }
 
-// The parts of a translated operand that is not refused: the first page's, and then the next page's where the operand goes on there.
-fn by_parts(
-    registers: &[u8],
-    access: Access,
-    table: &mut [u8],
-    cache: &mut [u8],
-    answer: &mut [u8],
-) -> u32
-    requires { PageAndTable registers.now table.old × CacheOrNone cache.old × (relocated access.mode access.kind ≡ true)
-        × (length answer.old ≡ access_answer_size) }
-    ensures { EndsAs access (mask_ones (sdr1_of (set_words registers.now))) (table.old, cache.old)
-        (part_early (set_words registers.now) access) result (table.new, cache.new) answer.new }
+// The parts of a translated operand that is not refused: the first page's, and then the next page's where the operand goes on there. They are taken
+// where all are done.
+fn by_parts(registers: &[u8], access: Access, table: &mut [u8], cache: &mut [u8]) -> OperandAnswer
+    requires { PageAndTable registers.now table.old × CacheOrNone cache.old × (relocated access.mode access.kind ≡ true) }
+    ensures { Comes access (mask_ones (sdr1_of (set_words registers.now))) (table.old, cache.old)
+        (part_early (set_words registers.now) access) result (table.new, cache.new) }
 {
-    let kind = access.kind;
-    let bytes = translation::operand::first_bytes(access.address, access.length);
-    let mut address = access.address;
-    let mut further = false;
-    // The first part, once the second is asked for.
-    let mut first = real_part(address);
-    loop {
-        let part = part_of(registers, table, cache, access.mode, kind, address);
-        let own = part.answer;
-        if own.result != numbers::DONE {
-            let stopped = translation::operand::stopped(own, part.decision);
-            return tell(answer, stopped);
-        }
-        if further {
-            take(table, cache, kind, access.address, first.found);
-            take(table, cache, kind, address, part.found);
-            let both = translation::operand::across_edge(
-                first.answer,
-                first.decision,
-                own,
-                bytes,
-                access.length,
-            );
-            return tell(answer, both);
-        }
-        if access.length <= bytes {
-            take(table, cache, kind, address, part.found);
-            let within = translation::operand::within(own, part.decision, access.length);
-            return tell(answer, within);
-        }
-        first = part;
-        address = translation::operand::next_start(address, bytes);
-        further = true;
+    let first = part_of(registers, table, cache, access);
+    if first.answer.result != numbers::DONE {
+        return operand::stopped(first.answer, first.decision);
     }
+    let bytes = operand::first_bytes(access.address, access.length);
+    if access.length <= bytes {
+        take(table, cache, access, first.found);
+        return operand::within(first.answer, first.decision, access.length);
+    }
+    let further = Access {
+        address: operand::next_start(access.address, bytes),
+        ..access
+    };
+    let second = part_of(registers, table, cache, further);
+    if second.answer.result != numbers::DONE {
+        return operand::stopped(second.answer, second.decision);
+    }
+    take(table, cache, access, first.found);
+    take(table, cache, further, second.found);
+    operand::across_edge(
+        first.answer,
+        first.decision,
+        second.answer,
+        bytes,
+        access.length,
+    )
 }
 
 // An operand in real mode: each part's address is its own, and nothing is marked.
-fn untranslated(address: u32, length: u32) -> OperandAnswer
-    ensures { (kind : ℕ) → result ≡ operand_answer address length (λ second. answer_of kind (part_start address length second) Real)
+fn untranslated(access: Access) -> OperandAnswer
+    ensures { result ≡ operand_answer access.address access.length
+        (λ second. answer_of access.kind (part_start access.address access.length second) Real)
         (λ second. decision_of (record { key = false; group = 0; entry = 0 }) Real) }
 {
-    let first = real_part(address);
-    let bytes = translation::operand::first_bytes(address, length);
-    if bytes < length {
-        let second = real_part(translation::operand::next_start(address, bytes));
-        return translation::operand::across_edge(
+    let first = real_part(access.address);
+    let bytes = operand::first_bytes(access.address, access.length);
+    if bytes < access.length {
+        let second = real_part(operand::next_start(access.address, bytes));
+        return operand::across_edge(
             first.answer,
             first.decision,
             second.answer,
             bytes,
-            length,
+            access.length,
         );
     }
-    translation::operand::within(first.answer, first.decision, length)
+    operand::within(first.answer, first.decision, access.length)
+}
+
+// What an access that is refused answers: the refusal's number, and zero words.
+pub fn refused(refusal: Refusal) -> OperandAnswer
+    ensures { result ≡ stopped (refused_answer (refusal_number refusal)) (decided 0 0) }
+{
+    let answer = translation::refused_answer(u32::from(refusal));
+    operand::stopped(answer, decision::decided(0, 0))
 }
 
 // One access whose lent lengths are right: its answer is written, the marks are made, and what went to the table is loaded. Where no cache is lent, it
-// has no bytes.
+// has no bytes: the definitions of a cache answer for none already, and with an `Option` each clause would speak of it twice.
 pub fn translate(
     registers: &[u8],
     asked: Access,
@@ -399,16 +427,13 @@ pub fn translate(
         → ended result table.new answer.new
         ≡ on_bytes (access (call_of registers.now asked answer.old)) table.old }
 {
-    let number = refusal(registers, asked, table.len());
-    if number != numbers::DONE {
-        let refused = translation::refused_answer(number);
-        let none = translation::decision::decided(0, 0);
-        let stopped = translation::operand::stopped(refused, none);
-        return tell(answer, stopped);
+    if let Err(refusal) = check(registers, asked, table.len()) {
+        return tell(answer, refused(refusal));
     }
     if !protection::is_relocated(asked.mode, asked.kind) {
-        let real = untranslated(asked.address, asked.length);
+        let real = untranslated(asked);
         return tell(answer, real);
     }
-    by_parts(registers, asked, table, cache, answer)
+    let told = by_parts(registers, asked, table, cache);
+    tell(answer, told)
 }

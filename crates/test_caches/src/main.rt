@@ -23,6 +23,7 @@ fn run_loads(rt: &impl Print) -> io::Result<()> {
 // Runs the cases of the module `hits`.
 fn run_hits(rt: &impl Print) -> io::Result<()> {
     hits::answers(rt)?;
+    hits::hidden(rt)?;
     hits::tests(rt)?;
     hits::faults(rt)?;
     hits::stores(rt)
@@ -31,7 +32,7 @@ fn run_hits(rt: &impl Print) -> io::Result<()> {
 fn main(rt: HostRuntime) -> io::Result<()> {
     run_loads(&rt)?;
     run_hits(&rt)?;
-    refused::lengths(&rt)?;
+    refused::wrong_lengths(&rt)?;
     refused::in_order(&rt)?;
     refused::invalidates(&rt)?;
     runs::disciplined(&rt)?;

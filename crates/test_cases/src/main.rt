@@ -5,85 +5,26 @@
 ghost use Rattle.std.specs.Prelude.{◌+◌, ◌^◌, ◌≤◌, ◌<◌};
 
 use std::io;
+use test_report::answered::{begins_with, of_byte};
+use test_report::asked::Asked;
+use test_report::lent::{INDEX, SDR1, VSID, registers};
+use test_report::line;
 
-// SDR1 of the cases, VSID and page index of their page, and the address that is accessed.
-const SDR1: u32 = 0x0F980000;
-
-const VSID: u32 = 0x0C701C;
-
-const INDEX: u32 = 0x0FFA;
-
+// The address that is accessed in the page of the cases.
 const ADDRESS: u32 = 0x00FFA01B;
 
 // RPN 0x12345, WIMG 2, PP 2, as a second entry word.
 const SECOND: u32 = 0x12345012;
 
-// Writes a case's line: its number, a space, `ok` or `bad`.
-fn line(rt: &impl Print, number: u64, good: bool) -> io::Result<()> {
-    if good {
-        println!(rt; "{number} ok")
-    } else {
-        println!(rt; "{number} bad")
-    }
-}
-
-// Whether 16 bytes are those of four words.
-fn words_are(bytes: &[u8], w0: u32, w1: u32, w2: u32, w3: u32) -> bool {
-    let four = [w0, w1, w2, w3];
-    let mut stated = [0u8; 16];
-    words::write_words(&mut stated, &four);
-    bytes == stated.as_slice()
-}
-
-// Whether 48 bytes begin as the answer of an access to one byte: these four words, no second page, and the byte in the first where it is done.
-fn answer_is(bytes: &[u8; 48], w0: u32, w1: u32, w2: u32, w3: u32) -> bool {
-    let byte = if w0 == 0 { 1 } else { 0 };
-    let eight = [w0, w1, w2, w3, 0, 0, byte, 0];
-    let mut stated = [0u8; 32];
-    words::write_words(&mut stated, &eight);
-    let whole = &bytes[..];
-    &whole[0..32] == stated.as_slice()
-}
-
 // Whether a group holds eight entries whose VSIDs are 0x400 apart, given the first one's first word.
 fn entries_are(group: &[u8], first: u32) -> bool
     requires { first < 2 ^ 31 + 2 ^ 24 }
 {
-    if group.len() != 64 {
-        return false;
+    let mut words = [SECOND; 16];
+    for i in 0..8 {
+        words[2 * i] = first + 0x20000 * i as u32;
     }
-    words_are(&group[0..16], first, SECOND, first + 0x20000, SECOND)
-        & words_are(
-            &group[16..32],
-            first + 0x40000,
-            SECOND,
-            first + 0x60000,
-            SECOND,
-        )
-        & words_are(
-            &group[32..48],
-            first + 0x80000,
-            SECOND,
-            first + 0xA0000,
-            SECOND,
-        )
-        & words_are(
-            &group[48..64],
-            first + 0xC0000,
-            SECOND,
-            first + 0xE0000,
-            SECOND,
-        )
-}
-
-// A register page: SDR1, segment register 0 and the first data block; every other word is zero.
-fn register_page(sdr1: u32, segment: u32, upper: u32, lower: u32) -> [u8; 132] {
-    let mut page = [0u8; 132];
-    words::write_word(&mut page, 0, sdr1);
-    words::write_word(&mut page, 4, segment);
-    words::write_word(&mut page, 100, upper);
-    words::write_word(&mut page, 104, lower);
-    page
+    begins_with(group, &words)
 }
 
 // Maps a page to RPN 0x12345 with WIMG 2.
@@ -91,29 +32,26 @@ fn map_to(sdr1: u32, pp: u32, vsid: u32, index: u32, table: &mut [u8]) -> u32 {
     mmu::mmu_map(sdr1, vsid, index, 0x12345, 2, pp, table)
 }
 
-// Whether a store to the cases' address, by segment 0 in mode 1, answers three words and that address.
-fn store_answers(table: &mut [u8], res: u32, word: u32, third: u32) -> bool {
-    let page = register_page(SDR1, VSID, 0, 0);
-    let mut answer = [0xAAu8; 48];
-    let number = mmu::mmu_access(&page, 1, 2, ADDRESS, 1, table, &mut answer);
-    (number == res) & answer_is(&answer, res, word, third, ADDRESS)
+// Whether a store to the cases' address, by segment 0 in mode 1, answers these three words first.
+fn store_answers(table: &mut [u8], three: [u32; 3]) -> bool {
+    let page = registers(&[(0, SDR1), (1, VSID)]);
+    Asked::byte(1, 2, ADDRESS).begins(page, table, of_byte(three, ADDRESS))
 }
 
 // Whether a look at the cases' page answers a second word.
 fn look_answers(table: &[u8], word: u32) -> bool {
     let mut answer = [0xAAu8; 16];
     let number = mmu::mmu_look(SDR1, VSID, INDEX, table, &mut answer);
-    (number == 0) & words_are(&answer, 0, word, 0, 0)
+    number == 0 && begins_with(&answer, &[0, word, 0, 0])
 }
 
-// Whether a load in mode 1 with a data block, on a cleared table, answers three words and its address.
-fn load_answers(upper: u32, lower: u32, address: u32, res: u32, word: u32, third: u32) -> bool {
+// Whether a load in mode 1 with a data block, on a cleared table, answers these three words first.
+fn load_answers(upper: u32, lower: u32, address: u32, three: [u32; 3]) -> bool {
     let mut table = [0xAAu8; 65536];
     let cleared = mmu::mmu_clear(SDR1, &mut table);
-    let page = register_page(SDR1, 0, upper, lower);
-    let mut answer = [0xAAu8; 48];
-    let number = mmu::mmu_access(&page, 1, 1, address, 1, &mut table, &mut answer);
-    (cleared == 0) & (number == res) & answer_is(&answer, res, word, third, address)
+    let page = registers(&[(0, SDR1), (25, upper), (26, lower)]);
+    let eight = of_byte(three, address);
+    cleared == 0 && Asked::byte(1, 1, address).begins(page, &mut table, eight)
 }
 
 // Clears the table and maps in it the pages of `count` VSIDs, 0x400 apart, all with one page index.
@@ -122,7 +60,7 @@ fn map_pages(sdr1: u32, pp: u32, vsid: u32, count: u32, index: u32, table: &mut 
 {
     let mut all = mmu::mmu_clear(sdr1, table) == 0;
     for i in 0..count {
-        all = all & (map_to(sdr1, pp, vsid + 0x400 * i, index, table) == 0);
+        all = all && map_to(sdr1, pp, vsid + 0x400 * i, index, table) == 0;
     }
     all
 }
@@ -133,8 +71,8 @@ fn maps_after(one: u32, vsid: u32, index: u32) -> bool {
     let mut answer = [0xAAu8; 16];
     let full = map_pages(0, 2, 0, 16, 0, &mut table);
     let number = mmu::mmu_unmap(0, one, 0, &mut table, &mut answer);
-    let unmapped = (number == 0) & words_are(&answer, 0, SECOND, 0, 0);
-    full & unmapped & (map_to(0, 2, vsid, index, &mut table) == 0)
+    let unmapped = number == 0 && begins_with(&answer, &[0, SECOND, 0, 0]);
+    full && unmapped && map_to(0, 2, vsid, index, &mut table) == 0
 }
 
 fn case1() -> bool {
@@ -142,14 +80,14 @@ fn case1() -> bool {
     let numbers = groups::groups_of(register_words::hash_mask(0x0F980007), hash);
     let primary = groups::group_address(0x0F980007, numbers.primary);
     let secondary = groups::group_address(0x0F980007, numbers.secondary);
-    (hash == 0x47FE6) & (primary == 0x0F9FF980) & (secondary == 0x0F980640)
+    hash == 0x47FE6 && primary == 0x0F9FF980 && secondary == 0x0F980640
 }
 
 // The entry in the primary group, 0x3E6, which starts at byte 63872.
 fn in_primary() -> bool {
     let mut table = [0xAAu8; 65536];
     let mapped = map_pages(SDR1, 2, VSID, 1, INDEX, &mut table);
-    mapped & words_are(&table[63872..63888], 0x86380E03, SECOND, 0, 0)
+    mapped && begins_with(&table[63872..63888], &[0x86380E03, SECOND, 0, 0])
 }
 
 // The entry in the secondary group, 0x019, at byte 1600, where eight other pages fill the primary.
@@ -157,67 +95,67 @@ fn in_secondary() -> bool {
     let mut table = [0xAAu8; 65536];
     let others = map_pages(SDR1, 2, VSID + 0x400, 8, INDEX, &mut table);
     let mapped = map_to(SDR1, 2, VSID, INDEX, &mut table);
-    others & (mapped == 0) & words_are(&table[1600..1616], 0x86380E43, SECOND, 0, 0)
+    others && mapped == 0 && begins_with(&table[1600..1616], &[0x86380E43, SECOND, 0, 0])
 }
 
 fn case2() -> bool {
-    in_primary() & in_secondary()
+    in_primary() && in_secondary()
 }
 
 // The store marks the entry, which the look and the table's bytes show.
 fn case3() -> bool {
     let mut table = [0xAAu8; 65536];
     let mapped = map_pages(SDR1, 2, VSID, 1, INDEX, &mut table);
-    let stored = store_answers(&mut table, 0, 0x1234501B, 2);
-    let held = words_are(&table[63872..63888], 0x86380E03, 0x12345192, 0, 0);
-    mapped & stored & held & look_answers(&table, 0x12345192)
+    let stored = store_answers(&mut table, [0, 0x1234501B, 2]);
+    let held = begins_with(&table[63872..63888], &[0x86380E03, 0x12345192, 0, 0]);
+    mapped && stored && held && look_answers(&table, 0x12345192)
 }
 
 // A fault leaves the entry as it was.
 fn case4() -> bool {
     let mut table = [0xAAu8; 65536];
     let mapped = map_pages(SDR1, 3, VSID, 1, INDEX, &mut table);
-    let faulted = store_answers(&mut table, 64, 0x0A000000, 0x300);
-    mapped & faulted & look_answers(&table, 0x12345013)
+    let faulted = store_answers(&mut table, [64, 0x0A000000, 0x300]);
+    mapped && faulted && look_answers(&table, 0x12345013)
 }
 
 fn case5() -> bool {
     let mut table = [0xAAu8; 65536];
     let cleared = mmu::mmu_clear(SDR1, &mut table);
-    (cleared == 0) & store_answers(&mut table, 64, 0x42000000, 0x300)
+    cleared == 0 && store_answers(&mut table, [64, 0x42000000, 0x300])
 }
 
 fn case6() -> bool {
     let hash = groups::hash_of(VSID, INDEX);
     let numbers = groups::groups_of(register_words::hash_mask(SDR1), hash);
-    (numbers.primary == 0x3E6) & (numbers.secondary == 0x019)
+    numbers.primary == 0x3E6 && numbers.secondary == 0x019
 }
 
 // Whether clear and check refuse an SDR1 with 2.
 fn refused_2(sdr1: u32) -> bool {
     let mut table = [0xAAu8; 65536];
-    let page = register_page(sdr1, 0, 0, 0);
-    (mmu::mmu_clear(sdr1, &mut table) == 2) & (mmu::mmu_check(&page) == 2)
+    let page: [u8; 132] = registers(&[(0, sdr1)]);
+    mmu::mmu_clear(sdr1, &mut table) == 2 && mmu::mmu_check(&page) == 2
 }
 
 fn case7() -> bool {
-    refused_2(0x0F980005) & refused_2(0x0F910007)
+    refused_2(0x0F980005) && refused_2(0x0F910007)
 }
 
 fn case8() -> bool {
-    load_answers(0x80001FFE, 0x10000002, 0x8FFFFFFF, 0, 0x1FFFFFFF, 0)
-        & load_answers(0x80001FFE, 0x10000002, 0x90000000, 64, 0x40000000, 0x300)
+    load_answers(0x80001FFE, 0x10000002, 0x8FFFFFFF, [0, 0x1FFFFFFF, 0])
+        && load_answers(0x80001FFE, 0x10000002, 0x90000000, [64, 0x40000000, 0x300])
 }
 
 fn case9() -> bool {
-    load_answers(0x00000002, 0x10000002, 0x0001FFFF, 0, 0x1001FFFF, 0)
-        & load_answers(0x00000002, 0x10000002, 0x00020000, 64, 0x40000000, 0x300)
+    load_answers(0x00000002, 0x10000002, 0x0001FFFF, [0, 0x1001FFFF, 0])
+        && load_answers(0x00000002, 0x10000002, 0x00020000, [64, 0x40000000, 0x300])
 }
 
 // An access with such a block is refused, and so is the check of its register page.
 fn case10() -> bool {
-    let page = register_page(SDR1, 0, 0x0000000A, 0x10000002);
-    load_answers(0x0000000A, 0x10000002, 0, 3, 0, 0) & (mmu::mmu_check(&page) == 3)
+    let page: [u8; 132] = registers(&[(0, SDR1), (25, 0x0000000A), (26, 0x10000002)]);
+    load_answers(0x0000000A, 0x10000002, 0, [3, 0, 0]) && mmu::mmu_check(&page) == 3
 }
 
 // Group 0 and group 0x3FF, at byte 65472, then hold eight entries each.
@@ -228,14 +166,14 @@ fn case11() -> bool {
     let secondary = entries_are(&table[65472..65536], 0x80100040);
     let first = map_to(0, 2, 0x4000, 0, &mut table);
     let second = map_to(0, 2, 0, 0x3FF, &mut table);
-    full & primary & secondary & (first == 9) & (second == 9)
+    full && primary && secondary && first == 9 && second == 9
 }
 
 fn case12() -> bool {
     let mut all = true;
     for i in 0..16 {
         let one = 0x400 * i;
-        all = all & maps_after(one, 0x4000, 0) & maps_after(one, 0, 0x3FF);
+        all = all && maps_after(one, 0x4000, 0) && maps_after(one, 0, 0x3FF);
     }
     all
 }

@@ -21,9 +21,7 @@ fn run_steps(rt: &impl Print) -> io::Result<()> {
 
 // Runs the cases of the module `blocks`.
 fn run_blocks(rt: &impl Print) -> io::Result<()> {
-    blocks::instruction_pairs(rt)?;
-    blocks::data_pairs(rt)?;
-    blocks::not_allowed(rt)?;
+    blocks::pairs(rt)?;
     blocks::one_address(rt)?;
     blocks::first(rt)
 }
@@ -31,15 +29,14 @@ fn run_blocks(rt: &impl Print) -> io::Result<()> {
 // Runs the cases of the module `rights`.
 fn run_rights(rt: &impl Print) -> io::Result<()> {
     rights::not_allowed(rt)?;
-    rights::read(rt)?;
-    rights::written(rt)?;
+    rights::allowed(rt)?;
     rights::keys(rt)
 }
 
 // Runs the cases of the module `places`.
 fn run_places(rt: &impl Print) -> io::Result<()> {
-    places::primary(rt)?;
-    places::secondary(rt)?;
+    places::in_primary(rt)?;
+    places::in_secondary(rt)?;
     places::of_faults(rt)?;
     places::duplicates(rt)?;
     places::more_groups(rt)

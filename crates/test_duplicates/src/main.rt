@@ -12,38 +12,21 @@ mod several;
 
 use std::io;
 
-// Runs the cases of two matches.
-fn run_two(rt: &impl Print) -> io::Result<()> {
-    looks::marks(rt)?;
-    looks::ignored(rt)?;
-    accesses::loads(rt)?;
-    accesses::other_kinds(rt)?;
-    accesses::faults(rt)?;
-    accesses::touched(rt)?;
-    others::unmaps(rt)?;
-    others::protects(rt)?;
-    contradicting::single_bits(rt)?;
-    contradicting::with_others(rt)
-}
-
-// Runs the cases of the module `several`.
-fn run_several(rt: &impl Print) -> io::Result<()> {
-    several::one_group(rt)?;
-    several::three_contradict_1(rt)?;
-    several::three_contradict_2(rt)?;
-    several::three_agree(rt)?;
-    several::all_sixteen(rt)
-}
-
-// Runs the cases of the module `edges`.
-fn run_edges(rt: &impl Print) -> io::Result<()> {
-    edges::agreeing(rt)?;
-    edges::ignored(rt)?;
-    edges::contradicting(rt)
-}
-
 fn main(rt: HostRuntime) -> io::Result<()> {
-    run_two(&rt)?;
-    run_several(&rt)?;
-    run_edges(&rt)
+    looks::looks(&rt)?;
+    accesses::loads(&rt)?;
+    accesses::other_kinds(&rt)?;
+    accesses::faults(&rt)?;
+    accesses::touched(&rt)?;
+    others::unmaps(&rt)?;
+    others::protects(&rt)?;
+    contradicting::in_both_groups(&rt)?;
+    contradicting::in_one_group(&rt)?;
+    several::one_group(&rt)?;
+    several::third_differs(&rt)?;
+    several::second_differs(&rt)?;
+    several::three_agree(&rt)?;
+    several::all_sixteen(&rt)?;
+    edges::agreeing(&rt)?;
+    edges::contradicting(&rt)
 }

@@ -1,33 +1,24 @@
 // Page calls on matches that agree, or come to agree.
-use super::asked::{in_both, secondary};
+use super::asked::{in_both, primary, secondary};
 use std::io;
 use test_report::called::{look, map, protect, unmap};
-use test_report::lent::{VSID, also};
+use test_report::lent::{VSID, table_with};
 use test_report::line;
 
 // Unmap.
 pub fn unmaps(rt: &impl Print) -> io::Result<()> {
     let zero = [0u8; 65536];
-    let third = secondary(3, 0x12345092);
-    let three = also(
-        in_both(0x12345012, 0x12345112),
-        third.group,
-        third.entry,
-        third.first,
-        third.second,
-    );
+    let ignored = in_both(0x12345812, 0x12345196);
+    let three = table_with(&[
+        primary(7, 0x12345012),
+        secondary(0, 0x12345112),
+        secondary(3, 0x12345092),
+    ]);
+    let marked = in_both(0x12345192, 0x12345012);
     // Unmap gives the first's word with R and C of all: the first's ignored bits and not the other's, R of the second and C of the third, both of the first. Source: rules 6.
-    line(
-        rt,
-        861,
-        unmap(in_both(0x12345812, 0x12345196), 0, 0x12345992, zero),
-    )?;
+    line(rt, 861, unmap(ignored, 0, 0x12345992, zero))?;
     line(rt, 862, unmap(three, 0, 0x12345192, zero))?;
-    line(
-        rt,
-        863,
-        unmap(in_both(0x12345192, 0x12345012), 0, 0x12345192, zero),
-    )
+    line(rt, 863, unmap(marked, 0, 0x12345192, zero))
 }
 
 // Protect and map.

@@ -1,88 +1,44 @@
 // Accesses, by a page, by two, by a block, in real mode, and a fault.
 use super::lent::{registers, table_with, table_with_next};
 use std::io;
+use test_report::answered::begins_with;
+use test_report::asked::Asked;
 use test_report::line;
 
-// Mode, kind, effective address and length.
-#[derive(Clone, Copy)]
-struct Asked {
-    mode: u32,
-    kind: u32,
-    address: u32,
-    length: u32,
-}
-
-// Whether an access has this result, answers these bytes and leaves this table.
-fn answers(
-    asked: Asked,
-    table: [u8; 65536],
-    res: u32,
-    expected: &[u8],
-    after: [u8; 65536],
-) -> bool {
-    let page = registers();
+// Whether an access answers these bytes, has the result with which they begin, and leaves this table.
+fn answers(asked: Asked, table: [u8; 65536], expected: &[u8; 48], after: [u8; 65536]) -> bool {
     let mut lent = table;
     let mut answer = [0xAAu8; 48];
-    let number = mmu::mmu_access(
-        &page,
-        asked.mode,
-        asked.kind,
-        asked.address,
-        asked.length,
-        &mut lent,
-        &mut answer,
-    );
-    (number == res) & (answer.as_slice() == expected) & (lent == after)
+    let number = asked.run(&registers(), &mut lent, &mut answer);
+    begins_with(expected, &[number]) && answer == *expected && lent == after
 }
 
 // Whether an access of the byte at 00FFA01B is done by entry 0 of group 998, 1234501B with WIMG 2, and leaves these last bytes of the entry.
 fn byte(mode: u32, kind: u32, seventh: u8, eighth: u8) -> bool {
-    let asked = Asked {
-        mode: mode,
-        kind: kind,
-        address: 0x00FFA01B,
-        length: 1,
-    };
+    let asked = Asked::byte(mode, kind, 0x00FFA01B);
     let expected =
         b"\x00\x00\x00\x00\x12\x34\x50\x1B\x00\x00\x00\x02\x00\xFF\xA0\x1B\x00\x00\x00\x00\x00\x00\x00\x00\x00\x00\x00\x01\x00\x00\x00\x00\x00\x00\x00\x06\x00\x00\x00\x02\x00\x00\x03\xE6\x00\x00\x00\x00";
-    answers(
-        asked,
-        table_with(0x50, 0x12),
-        0,
-        expected,
-        table_with(seventh, eighth),
-    )
+    let marked = table_with(seventh, eighth);
+    answers(asked, table_with(0x50, 0x12), expected, marked)
 }
 
 // Four bytes from 00FFAFFE: two in each of two pages.
 fn over_an_edge() -> bool {
     let asked = Asked {
-        mode: 1,
-        kind: 1,
-        address: 0x00FFAFFE,
         length: 4,
+        ..Asked::byte(1, 1, 0x00FFAFFE)
     };
     let expected =
         b"\x00\x00\x00\x00\x12\x34\x5F\xFE\x00\x00\x00\x02\x00\xFF\xAF\xFE\x54\x32\x10\x00\x00\x00\x00\x00\x00\x00\x00\x02\x00\x00\x00\x02\x00\x00\x00\x06\x00\x00\x00\x02\x00\x00\x03\xE6\x00\x00\x00\x00";
-    answers(
-        asked,
-        table_with_next(0x50, 0x10),
-        0,
-        expected,
-        table_with_next(0x51, 0x11),
-    )
+    let marked = table_with_next(0x51, 0x11);
+    answers(asked, table_with_next(0x50, 0x10), expected, marked)
 }
 
-// Whether an access of the byte at an address has this result, answers these bytes and leaves the table.
-fn leaves(mode: u32, kind: u32, address: u32, res: u32, expected: &[u8]) -> bool {
-    let asked = Asked {
-        mode: mode,
-        kind: kind,
-        address: address,
-        length: 1,
-    };
+// Whether an access of the byte at an address answers these bytes and leaves the table.
+fn leaves(mode: u32, kind: u32, address: u32, expected: &[u8; 48]) -> bool {
+    let asked = Asked::byte(mode, kind, address);
     let table = table_with(0x50, 0x12);
-    answers(asked, table, res, expected, table)
+    answers(asked, table, expected, table)
 }
 
 // By one page, the marks in the entry's last two bytes; by two. Source: rules 5.
@@ -97,11 +53,11 @@ pub fn pages(rt: &impl Print) -> io::Result<()> {
 pub fn others(rt: &impl Print) -> io::Result<()> {
     let by_block =
         b"\x00\x00\x00\x00\x1F\xFF\xFF\xFF\x00\x00\x00\x0B\x8F\xFF\xFF\xFF\x00\x00\x00\x00\x00\x00\x00\x00\x00\x00\x00\x01\x00\x00\x00\x00\x00\x00\x00\x01\x00\x00\x00\x00\x00\x00\x00\x00\x00\x00\x00\x00";
-    line(rt, 1239, leaves(1, 2, 0x8FFFFFFF, 0, by_block))?;
+    line(rt, 1239, leaves(1, 2, 0x8FFFFFFF, by_block))?;
     let in_real_mode =
         b"\x00\x00\x00\x00\x00\xFF\xA0\x1B\x00\x00\x00\x03\x00\xFF\xA0\x1B\x00\x00\x00\x00\x00\x00\x00\x00\x00\x00\x00\x01\x00\x00\x00\x00\x00\x00\x00\x00\x00\x00\x00\x00\x00\x00\x00\x00\x00\x00\x00\x00";
-    line(rt, 1240, leaves(0, 0, 0x00FFA01B, 0, in_real_mode))?;
+    line(rt, 1240, leaves(0, 0, 0x00FFA01B, in_real_mode))?;
     let no_match =
         b"\x00\x00\x00\x40\x42\x00\x00\x00\x00\x00\x03\x00\x00\xFF\xB0\x1B\x00\x00\x00\x00\x00\x00\x00\x00\x00\x00\x00\x00\x00\x00\x00\x00\x00\x00\x00\x03\x00\x00\x00\x00\x00\x00\x00\x00\x00\x00\x00\x00";
-    line(rt, 1241, leaves(1, 2, 0x00FFB01B, 64, no_match))
+    line(rt, 1241, leaves(1, 2, 0x00FFB01B, no_match))
 }

@@ -1,22 +1,15 @@
 // An access with a cache, an invalidate, and rights. Set 58, of page index 0FFA, begins at the cache's byte 1856.
-use super::lent::{INDEX, registers, table_with};
+use super::lent::{registers, table_with};
 use std::io;
+use test_report::lent::INDEX;
 use test_report::line;
 
 // A cache whose set 58 has the page in place 0, its second word ending with these bytes.
 fn cache_with(seventh: u8, eighth: u8) -> [u8; 2048] {
     let mut cache = [0u8; 2048];
-    cache[1856] = 0x86;
-    cache[1857] = 0x38;
-    cache[1858] = 0x0E;
-    cache[1859] = 0x03;
-    cache[1860] = 0x12;
-    cache[1861] = 0x34;
-    cache[1862] = seventh;
-    cache[1863] = eighth;
-    cache[1866] = 0x0F;
-    cache[1867] = 0xFA;
-    cache[1871] = 1;
+    cache[1856..1872].copy_from_slice(&[
+        0x86, 0x38, 0x0E, 0x03, 0x12, 0x34, seventh, eighth, 0, 0, 0x0F, 0xFA, 0, 0, 0, 1,
+    ]);
     cache
 }
 
@@ -42,16 +35,13 @@ fn loads(
         &mut held,
         &mut answer,
     );
-    let expected =
-        b"\x00\x00\x00\x00\x12\x34\x50\x1B\x00\x00\x00\x02\x00\xFF\xA0\x1B\x00\x00\x00\x00\x00\x00\x00\x00\x00\x00\x00\x01\x00\x00\x00\x00\x00\x00\x00\x06\x00\x00\x00\x02\x00\x00\x03\xE6\x00\x00\x00";
-    let whole = &answer[..];
-    (number == 0)
-        & (&whole[0..47] == expected.as_slice())
-        & (whole[47] == entry)
-        & (lent == table_after)
-        & (held == cache_after)
+    let mut expected =
+        *b"\x00\x00\x00\x00\x12\x34\x50\x1B\x00\x00\x00\x02\x00\xFF\xA0\x1B\x00\x00\x00\x00\x00\x00\x00\x00\x00\x00\x00\x01\x00\x00\x00\x00\x00\x00\x00\x06\x00\x00\x00\x02\x00\x00\x03\xE6\x00\x00\x00\x00";
+    expected[47] = entry;
+    number == 0 && answer == expected && lent == table_after && held == cache_after
 }
 
+// By the table, whose entry goes into the cache.
 fn first_load() -> bool {
     loads(
         table_with(0x50, 0x12),
@@ -73,10 +63,11 @@ fn hit() -> bool {
     )
 }
 
+// The page is in the cache no more.
 fn invalidate() -> bool {
     let mut cache = cache_with(0x51, 0x12);
     let number = mmu::mmu_invalidate(INDEX, &mut cache);
-    (number == 0) & (cache == [0; 2048])
+    number == 0 && cache == [0; 2048]
 }
 
 // The fetch in real mode, load and store by the page: R is new for the load, R and C for the store.
@@ -87,7 +78,7 @@ fn told() -> bool {
     let number = mmu::mmu_rights(&page, 1, 0x00FFA01B, &table, &mut answer);
     let expected =
         b"\x00\x00\x00\x00\x00\xFF\xA0\x1B\x00\x00\x00\x03\x00\xFF\xA0\x1B\x00\x00\x00\x00\x00\x00\x00\x00\x00\x00\x00\x01\x00\x00\x00\x00\x00\x00\x00\x00\x00\x00\x00\x00\x00\x00\x00\x00\x00\x00\x00\x00\x00\x00\x00\x00\x12\x34\x50\x1B\x00\x00\x00\x02\x00\xFF\xA0\x1B\x00\x00\x00\x00\x00\x00\x00\x00\x00\x00\x00\x01\x00\x00\x00\x00\x00\x00\x00\x06\x00\x00\x00\x02\x00\x00\x03\xE6\x00\x00\x00\x00\x00\x00\x00\x00\x12\x34\x50\x1B\x00\x00\x00\x02\x00\xFF\xA0\x1B\x00\x00\x00\x00\x00\x00\x00\x00\x00\x00\x00\x01\x00\x00\x00\x00\x00\x00\x00\x06\x00\x00\x00\x02\x00\x00\x03\xE6\x00\x00\x00\x00\x00\x00\x00\x00\x00\x00\x01\x00\x00\x00\x01\x80";
-    (number == 0) & (&answer == expected)
+    number == 0 && answer == *expected
 }
 
 // A load into the cache, a hit, an invalidate. Source: request 7.

@@ -1,172 +1,117 @@
 // The register pages of the cases, of 132 and of 196 bytes, and what check, set register and access are held to on them.
-use test_report::lent::{SDR1, SEGMENT, kept};
+use test_report::answered::begins_with;
+use test_report::asked::Asked;
+use test_report::lent::{SDR1, SEGMENT, registers};
 
-// A long page: SDR1 and segment 0 of the cases, every block off.
-pub fn long_page() -> [u8; 196] {
-    let mut page = [0u8; 196];
-    words::write_word(&mut page, 0, SDR1);
-    words::write_word(&mut page, 4, SEGMENT);
-    page
-}
+// A register page of so many bytes.
+#[derive(Clone, Copy)]
+pub struct Page<const N: usize>(pub [u8; N]);
 
-// The same words on a short page.
-pub fn short_page() -> [u8; 132] {
-    let mut page = [0u8; 132];
-    words::write_word(&mut page, 0, SDR1);
-    words::write_word(&mut page, 4, SEGMENT);
-    page
-}
+// One of 132 bytes.
+pub type Short = Page<132>;
 
-// The long page with one word changed; a number past the last changes none.
-pub fn with(page: [u8; 196], number: usize, word: u32) -> [u8; 196] {
-    let mut new = page;
-    if number < 49 {
-        words::write_word(&mut new, 4 * number, word);
+// One of 196.
+pub type Long = Page<196>;
+
+impl<const N: usize> Page<N> {
+    // SDR1 and segment 0 of the cases, every block off.
+    pub fn new() -> Self {
+        Page(registers(&[(0, SDR1), (1, SEGMENT)]))
     }
-    new
-}
 
-// The short page with one word changed.
-pub fn short_with(page: [u8; 132], number: usize, word: u32) -> [u8; 132] {
-    let mut new = page;
-    if number < 33 {
-        words::write_word(&mut new, 4 * number, word);
+    // With one word changed; a number past the last changes none.
+    pub fn with(self, number: usize, word: u32) -> Self {
+        let Page(mut bytes) = self;
+        if number < N / 4 {
+            words::write_word(&mut bytes, 4 * number, word);
+        }
+        Page(bytes)
     }
-    new
-}
 
-// The long page with a pair, by the number of its upper word.
-pub fn pair(page: [u8; 196], number: usize, upper: u32, lower: u32) -> [u8; 196] {
-    let one = with(page, number, upper);
-    if number < 48 {
-        return with(one, number + 1, lower);
+    // With a pair, by the number of its upper word.
+    pub fn pair(self, number: u8, upper: u32, lower: u32) -> Self {
+        let number = usize::from(number);
+        self.with(number, upper).with(number + 1, lower)
     }
-    one
-}
 
-// The short page with a pair.
-pub fn short_pair(page: [u8; 132], number: usize, upper: u32, lower: u32) -> [u8; 132] {
-    let one = short_with(page, number, upper);
-    if number < 32 {
-        return short_with(one, number + 1, lower);
+    // The number of its check.
+    pub fn check(self) -> u32 {
+        mmu::mmu_check(&self.0)
     }
-    one
+
+    // Whether a word is replaced, and every other byte is as it was.
+    pub fn takes(self, number: u8, word: u32) -> bool {
+        let mut lent = self.0;
+        let result = mmu::mmu_set_register(&mut lent, u32::from(number), word);
+        result == 0 && lent == self.with(usize::from(number), word).0
+    }
+
+    // Whether a word is refused with this number, and the page is left.
+    pub fn refuses_word(self, number: u32, word: u32, refusal: u32) -> bool {
+        let mut lent = self.0;
+        let result = mmu::mmu_set_register(&mut lent, number, word);
+        result == refusal && lent == self.0
+    }
+
+    // Whether an access with this table answers these twelve words and leaves this table.
+    pub fn marks(
+        self,
+        asked: Asked,
+        table: [u8; 65536],
+        twelve: [u32; 12],
+        after: [u8; 65536],
+    ) -> bool {
+        let mut lent = table;
+        let mut answer = [0xAAu8; 48];
+        let number = asked.run(&self.0, &mut lent, &mut answer);
+        number == twelve[0] && begins_with(&answer, &twelve) && lent == after
+    }
+
+    // Whether one with an empty table does and leaves it.
+    pub fn answers(self, asked: Asked, twelve: [u32; 12]) -> bool {
+        self.marks(asked, [0; 65536], twelve, [0; 65536])
+    }
+
+    // Whether it is done by the block of this number, whose WIMG is 0.
+    pub fn blocks(self, asked: Asked, physical: u32, block: u32) -> bool {
+        let twelve = [0, physical, 0, asked.address, 0, 0, 1, 0, 1, block, 0, 0];
+        self.answers(asked, twelve)
+    }
+
+    // Whether a fetch or a load meets no match.
+    pub fn loses(self, asked: Asked) -> bool {
+        let [result, offset] = if asked.kind == 0 {
+            [65, 0x400]
+        } else {
+            [64, 0x300]
+        };
+        let address = asked.address;
+        let twelve = [result, 0x40000000, offset, address, 0, 0, 0, 0, 3, 0, 0, 0];
+        self.answers(asked, twelve)
+    }
+
+    // Whether it is refused with this number.
+    pub fn refuses(self, asked: Asked, refusal: u32) -> bool {
+        self.answers(asked, [refusal, 0, 0, 0, 0, 0, 0, 0, 0, 0, 0, 0])
+    }
 }
 
 // The long page of the cases with one pair on.
-pub fn one(number: usize, upper: u32, lower: u32) -> [u8; 196] {
-    pair(long_page(), number, upper, lower)
+pub fn one(number: u8, upper: u32, lower: u32) -> Long {
+    Page::new().pair(number, upper, lower)
 }
 
 // With two.
-pub fn two(number: usize, upper: u32, other: usize, other_upper: u32) -> [u8; 196] {
-    pair(one(number, upper, 2), other, other_upper, 2)
+pub fn two(number: u8, upper: u32, other: u8, other_upper: u32) -> Long {
+    one(number, upper, 2).pair(other, other_upper, 2)
 }
 
-// The number of a check of a long page.
-pub fn check_of(page: [u8; 196]) -> u32 {
-    mmu::mmu_check(&page)
+// A fetch of the supervisor, translated.
+pub fn fetch(address: u32) -> Asked {
+    Asked::byte(3, 0, address)
 }
 
-// The number of a check of a short page.
-pub fn short_check_of(page: [u8; 132]) -> u32 {
-    mmu::mmu_check(&page)
-}
-
-// Mode, kind and address of an access to one byte.
-#[derive(Clone, Copy)]
-pub struct Byte {
-    pub mode: u32,
-    pub kind: u32,
-    pub address: u32,
-}
-
-// A fetch and a load of the supervisor, both translated.
-pub fn fetch(address: u32) -> Byte {
-    Byte {
-        mode: 3,
-        kind: 0,
-        address,
-    }
-}
-
-// The load.
-pub fn load(address: u32) -> Byte {
-    Byte {
-        mode: 3,
-        kind: 1,
-        address,
-    }
-}
-
-// Whether an access with an empty table answers these twelve words and leaves the table.
-fn access_is(page: &[u8], byte: Byte, twelve: [u32; 12]) -> bool {
-    let mut table = [0u8; 65536];
-    let mut answer = [0xAAu8; 48];
-    let number = mmu::mmu_access(
-        page,
-        byte.mode,
-        byte.kind,
-        byte.address,
-        1,
-        &mut table,
-        &mut answer,
-    );
-    let mut expected = [0u8; 48];
-    words::write_words(&mut expected, &twelve);
-    (number == twelve[0]) & (answer == expected) & (table == [0; 65536])
-}
-
-// The same with a long page.
-pub fn answers(page: [u8; 196], byte: Byte, twelve: [u32; 12]) -> bool {
-    access_is(&page, byte, twelve)
-}
-
-// With a short page.
-pub fn short_answers(page: [u8; 132], byte: Byte, twelve: [u32; 12]) -> bool {
-    access_is(&page, byte, twelve)
-}
-
-// The answer of a byte that a block of WIMG 0 does, with the block's number.
-pub fn by_block(address: u32, physical: u32, number: u32) -> [u32; 12] {
-    [0, physical, 0, address, 0, 0, 1, 0, 1, number, 0, 0]
-}
-
-// The answer of a load that meets no match.
-pub fn load_lost(address: u32) -> [u32; 12] {
-    [64, 0x40000000, 0x300, address, 0, 0, 0, 0, 3, 0, 0, 0]
-}
-
-// The answer of a fetch that meets no match.
-pub fn fetch_lost(address: u32) -> [u32; 12] {
-    [65, 0x40000000, 0x400, address, 0, 0, 0, 0, 3, 0, 0, 0]
-}
-
-// The answer of a refused access.
-pub fn refused(number: u32) -> [u32; 12] {
-    [number, 0, 0, 0, 0, 0, 0, 0, 0, 0, 0, 0]
-}
-
-// The number of a refused set register on a long page; 99 where it changes the page.
-pub fn set_refused(page: [u8; 196], number: u32, word: u32) -> u32 {
-    let mut lent = page;
-    let result = mmu::mmu_set_register(&mut lent, number, word);
-    kept(result, lent == page)
-}
-
-// The same on a short page.
-pub fn short_set_refused(page: [u8; 132], number: u32, word: u32) -> u32 {
-    let mut lent = page;
-    let result = mmu::mmu_set_register(&mut lent, number, word);
-    kept(result, lent == page)
-}
-
-// Whether a word of a long page is replaced, and every other byte is as it was.
-pub fn set_done(page: [u8; 196], number: usize, word: u32) -> bool {
-    let mut lent = page;
-    if number > 48 {
-        return false;
-    }
-    let result = mmu::mmu_set_register(&mut lent, number as u32, word);
-    (result == 0) & (lent == with(page, number, word))
+// A load.
+pub fn load(address: u32) -> Asked {
+    Asked::byte(3, 1, address)
 }

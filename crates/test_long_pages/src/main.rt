@@ -26,8 +26,7 @@ fn run_pages(rt: &impl Print) -> io::Result<()> {
 
 // Runs the cases of the rules of blocks.
 fn run_blocks(rt: &impl Print) -> io::Result<()> {
-    sizes::lengths_1(rt)?;
-    sizes::lengths_2(rt)?;
+    sizes::lengths(rt)?;
     sizes::shapes(rt)?;
     sizes::short_limit(rt)?;
     shared::two_of_eight(rt)?;
@@ -41,11 +40,13 @@ fn run_calls(rt: &impl Print) -> io::Result<()> {
     sets::numbers(rt)?;
     sets::short_numbers(rt)?;
     sets::judged(rt)?;
+    sets::renewed(rt)?;
     accesses::rights(rt)?;
     accesses::refusals(rt)?;
     accesses::beside_pages(rt)?;
     widened::checks(rt)?;
     widened::accesses(rt)?;
+    widened::refusals(rt)?;
     widened::sets(rt)
 }
 

@@ -12,8 +12,7 @@ use std::io;
 
 // Runs the cases of the module `lengths`.
 fn run_lengths(rt: &impl Print) -> io::Result<()> {
-    lengths::parts_1(rt)?;
-    lengths::parts_2(rt)?;
+    lengths::parts(rt)?;
     lengths::refused_alone(rt)?;
     lengths::refused_in_order(rt)
 }
@@ -22,8 +21,7 @@ fn run_lengths(rt: &impl Print) -> io::Result<()> {
 fn run_pages(rt: &impl Print) -> io::Result<()> {
     pages::done(rt)?;
     pages::kept_bits(rt)?;
-    pages::second_stops_1(rt)?;
-    pages::second_stops_2(rt)?;
+    pages::second_stops(rt)?;
     pages::first_stops(rt)?;
     pages::neither_done(rt)?;
     pages::duplicates(rt)?;
@@ -32,8 +30,7 @@ fn run_pages(rt: &impl Print) -> io::Result<()> {
 
 // Runs the cases of the module `segments`.
 fn run_segments(rt: &impl Print) -> io::Result<()> {
-    segments::two_segments_1(rt)?;
-    segments::two_segments_2(rt)?;
+    segments::two_segments(rt)?;
     segments::last_address(rt)
 }
 

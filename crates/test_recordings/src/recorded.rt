@@ -1,163 +1,64 @@
 // Runs the access that a line of a recording file has, on a table of 65,536 bytes, and compares its answer and the table with what the line
 // says. A line is read from left to right: id, registers, access, entries, answer, the entries' second words after the access.
-ghost use Rattle.std.specs.Prelude.{◌≤◌, length};
+use super::text::Line;
+use test_report::answered::begins_with;
+use test_report::asked::Asked;
+use test_report::lent::{Entry, set_register};
 
-use super::text::{Base, number_at};
-use test_report::put;
-
-// The register page of a line, and where the line goes on.
-#[derive(Clone, Copy)]
-struct Registers {
-    page: [u8; 132],
-    next: usize,
-}
-
-fn registers_at(text: &[u8], at: usize) -> Registers
-    requires { at ≤ length text.now }
-    ensures { result.next ≤ length text.now }
-{
+// The next 33 numbers, a register page.
+fn registers_of(line: &mut Line) -> [u8; 132] {
     let mut page = [0u8; 132];
-    let mut next = at;
-    for i in 0..33 {
-        let word = number_at(text, next, Base::Hexadecimal);
-        words::write_word(&mut page, 4 * i, word.value);
-        next = word.next;
+    for number in 0..33u8 {
+        set_register(&mut page, number, line.hexadecimal());
     }
-    Registers { page, next }
+    page
 }
 
-// An entry of a line: its group (PTEG), its number in the group, its two words before the access, and where the line goes on.
-#[derive(Clone, Copy)]
-struct Entry {
-    group: usize,
-    entry: usize,
-    first: u32,
-    second: u32,
-    next: usize,
+// The next entry: its group (PTEG), its number in the group, and its two words before the access.
+fn entry_of(line: &mut Line) -> Entry {
+    let group = line.decimal() as usize;
+    let entry = line.decimal() as usize;
+    let first = line.hexadecimal();
+    Entry::new(group, entry, first, line.hexadecimal())
 }
 
-fn entry_at(text: &[u8], at: usize) -> Entry
-    requires { at ≤ length text.now }
-    ensures { result.next ≤ length text.now }
-{
-    let group = number_at(text, at, Base::Decimal);
-    let entry = number_at(text, group.next, Base::Decimal);
-    let first = number_at(text, entry.next, Base::Hexadecimal);
-    let second = number_at(text, first.next, Base::Hexadecimal);
-    Entry {
-        group: group.value as usize,
-        entry: entry.value as usize,
-        first: first.value,
-        second: second.value,
-        next: second.next,
-    }
-}
-
-// Puts the entries at `at` into a table as they were before the access, and hands back where the line goes on.
-fn put_entries(table: &mut [u8; 65536], text: &[u8], at: usize, count: u32) -> usize
-    requires { at ≤ length text.now }
-    ensures { result ≤ length text.now }
-{
-    let mut next = at;
-    for _ in 0..count {
-        let e = entry_at(text, next);
-        put(table, e.group, e.entry, e.first, e.second);
-        next = e.next;
-    }
-    next
-}
-
-// Puts the entries at `at` into a table with their second words after the access, which stand at `after`, and hands back where these end.
-fn put_entries_after(
-    table: &mut [u8; 65536],
-    text: &[u8],
-    at: usize,
-    count: u32,
-    after: usize,
-) -> usize
-    requires { (at ≤ length text.now) × (after ≤ length text.now) }
-    ensures { result ≤ length text.now }
-{
-    let mut next = at;
-    let mut seconds = after;
-    for _ in 0..count {
-        let e = entry_at(text, next);
-        let second = number_at(text, seconds, Base::Hexadecimal);
-        put(table, e.group, e.entry, e.first, second.value);
-        next = e.next;
-        seconds = second.next;
-    }
-    seconds
-}
-
-// Whether an answer is as recorded, and where the line goes on.
-#[derive(Clone, Copy)]
-struct Compared {
-    good: bool,
-    next: usize,
-}
-
-// Compares the returned number and the answer's words with the four numbers at `at`. The third word of a done access has the attributes,
+// Whether the returned number and the answer begin with what is recorded: result, word, offset and address. The third word of a done access has the attributes,
 // which the emulator does not show, so it is compared after a fault only.
-fn compare_answer(text: &[u8], at: usize, returned: u32, answer: &[u8; 48]) -> Compared
-    requires { at ≤ length text.now }
-    ensures { result.next ≤ length text.now }
-{
-    let result = number_at(text, at, Base::Decimal);
-    let word = number_at(text, result.next, Base::Hexadecimal);
-    let offset = number_at(text, word.next, Base::Hexadecimal);
-    let address = number_at(text, offset.next, Base::Hexadecimal);
-    let good = (returned == result.value)
-        & (words::read_word(answer, 0) == result.value)
-        & (words::read_word(answer, 4) == word.value)
-        & ((result.value == 0) | (words::read_word(answer, 8) == offset.value))
-        & (words::read_word(answer, 12) == address.value);
-    Compared {
-        good,
-        next: address.next,
-    }
-}
-
-// The library's access, to one byte. It and the comparison of tables are functions of their own since their parameters' types give the arrays' lengths,
-// which the checker does not keep of an array that another call has filled.
-fn access(
-    page: &[u8; 132],
-    mode: u32,
-    kind: u32,
-    address: u32,
-    table: &mut [u8; 65536],
-    answer: &mut [u8; 48],
-) -> u32 {
-    mmu::mmu_access(page, mode, kind, address, 1, table, answer)
-}
-
-// Whether two tables are equal in every byte.
-fn same_tables(table: &[u8; 65536], expected: &[u8; 65536]) -> bool {
-    table == expected
+pub fn is_recorded(returned: u32, answer: &[u8; 48], recorded: [u32; 4]) -> bool {
+    let [res, word, offset, address] = recorded;
+    let shown = res == 0 || begins_with(&answer[8..], &[offset]);
+    let named = begins_with(answer, &[res, word]) && begins_with(&answer[12..], &[address]);
+    returned == res && named && shown
 }
 
 // Whether the access of a line answers as recorded and leaves the whole table as recorded, and the line has nothing more.
 pub fn replay(text: &[u8]) -> bool {
-    let id = number_at(text, 0, Base::Decimal);
-    let set = registers_at(text, id.next);
-    let mode = number_at(text, set.next, Base::Decimal);
-    let kind = number_at(text, mode.next, Base::Decimal);
-    let address = number_at(text, kind.next, Base::Hexadecimal);
-    let count = number_at(text, address.next, Base::Decimal);
-    let page = set.page;
+    let mut line = Line::new(text);
+    let _id = line.decimal();
+    let page = registers_of(&mut line);
+    let mode = line.decimal();
+    let kind = line.decimal();
+    let asked = Asked::byte(mode, kind, line.hexadecimal());
+    let count = line.decimal();
+    let mut entries = line;
     let mut table = [0u8; 65536];
-    let at = put_entries(&mut table, text, count.next, count.value);
+    for _ in 0..count {
+        entry_of(&mut line).put(&mut table);
+    }
     let mut answer = [0xAAu8; 48];
-    let returned = access(
-        &page,
-        mode.value,
-        kind.value,
-        address.value,
-        &mut table,
-        &mut answer,
-    );
-    let compared = compare_answer(text, at, returned, &answer);
+    let returned = asked.run(&page, &mut table, &mut answer);
+    let res = line.decimal();
+    let word = line.hexadecimal();
+    let offset = line.hexadecimal();
+    let recorded = [res, word, offset, line.hexadecimal()];
     let mut expected = [0u8; 65536];
-    let end = put_entries_after(&mut expected, text, count.next, count.value, compared.next);
-    compared.good & same_tables(&table, &expected) & (end == text.len())
+    for _ in 0..count {
+        let before = entry_of(&mut entries);
+        let after = Entry {
+            second: line.hexadecimal(),
+            ..before
+        };
+        after.put(&mut expected);
+    }
+    is_recorded(returned, &answer, recorded) && table == expected && line.is_empty()
 }

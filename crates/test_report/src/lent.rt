@@ -1,16 +1,17 @@
-// What the cases lend: entries in tables, register pages, parts of slices; and what an answer is held to.
-use super::put;
+// What the cases lend: entries in tables and register pages.
 
-// The good value of each word that a refusal's case breaks, and a bad one.
+// The good value of each word that a refusal's case breaks, and a bad one: SDR1.
 pub const SDR1: u32 = 0x0F980000;
 
 // SDR1 with reserved bit 22 set; it names a table of 65,536 bytes all the same.
 pub const BAD_SDR1: u32 = 0x0F980200;
 
+// A segment register, and one with T.
 pub const SEGMENT: u32 = 0x000C701C;
 
 pub const BAD_SEGMENT: u32 = 0x800C701C;
 
+// The upper word of a block that is off.
 pub const OFF: u32 = 0;
 
 // The upper word of a block whose BL is 2.
@@ -24,6 +25,65 @@ pub const VSID: u32 = 0x0C701C;
 
 pub const INDEX: u32 = 0x0FFA;
 
+// An entry of a table: its group, its number in the group, and its two words.
+#[derive(Clone, Copy)]
+pub struct Entry {
+    pub group: usize,
+    pub entry: usize,
+    pub first: u32,
+    pub second: u32,
+}
+
+impl Entry {
+    // The entry at a place, with these words.
+    pub fn new(group: usize, entry: usize, first: u32, second: u32) -> Self {
+        Entry {
+            group,
+            entry,
+            first,
+            second,
+        }
+    }
+
+    // That of the page of the cases at the first place of its primary group, with this second word: V, the VSID and API 3 are its first.
+    pub fn of_page(second: u32) -> Self {
+        Entry::new(998, 0, 0x86380E03, second)
+    }
+
+    // That of the page after it, in its primary group.
+    pub fn of_next_page(second: u32) -> Self {
+        Entry::new(999, 3, 0x86380E03, second)
+    }
+
+    // Writes it into a table of at least 1024 groups; a place outside the first 1024 is left out.
+    pub fn put(self, table: &mut [u8]) {
+        if self.group < 1024 && self.entry < 8 && table.len() >= 65536 {
+            groups::put_entry(table, self.group, self.entry, self.first, self.second);
+        }
+    }
+}
+
+// A table of 1024 groups with these entries and no other.
+pub fn table_with(entries: &[Entry]) -> [u8; 65536] {
+    let mut table = [0u8; 65536];
+    for entry in entries {
+        entry.put(&mut table);
+    }
+    table
+}
+
+// The table with one more entry.
+pub fn with_entry(table: [u8; 65536], entry: Entry) -> [u8; 65536] {
+    let mut more = table;
+    entry.put(&mut more);
+    more
+}
+
+// A table with an entry of each of the two pages, by their second words.
+pub fn both_pages(before: u32, after: u32) -> [u8; 65536] {
+    table_with(&[Entry::of_page(before), Entry::of_next_page(after)])
+}
+
 // What a table of a case has for that page.
 #[derive(Clone, Copy)]
 pub enum Scene {
@@ -34,37 +94,13 @@ pub enum Scene {
     Contradicting,
 }
 
-// Fills a group with entries of eight other pages.
-fn fill(table: &mut [u8; 131072], group: usize) {
-    put(table, group, 0, 0x80000080, 0x00001002);
-    put(table, group, 1, 0x80000100, 0x00002002);
-    put(table, group, 2, 0x80000180, 0x00003002);
-    put(table, group, 3, 0x80000200, 0x00004002);
-    put(table, group, 4, 0x80000280, 0x00005002);
-    put(table, group, 5, 0x80000300, 0x00006002);
-    put(table, group, 6, 0x80000380, 0x00007002);
-    put(table, group, 7, 0x80000400, 0x00008002);
-}
-
-// Makes a table of zeros that of a scene.
-fn set_scene(table: &mut [u8; 131072], scene: Scene) {
-    match scene {
-        Scene::Empty => {}
-        Scene::Mapped => {
-            put(table, 998, 0, 0x86380E03, 0x12345012);
-        }
-        Scene::Full => {
-            fill(table, 998);
-            fill(table, 25);
-        }
-        Scene::FullMapped => {
-            fill(table, 998);
-            fill(table, 25);
-            put(table, 25, 7, 0x86380E43, 0x12345012);
-        }
-        Scene::Contradicting => {
-            put(table, 998, 0, 0x86380E03, 0x12345012);
-            put(table, 25, 0, 0x86380E43, 0x12346012);
+// Fills both groups of the page with entries of eight other pages.
+fn fill(table: &mut [u8]) {
+    for group in [998, 25] {
+        for entry in 0..8 {
+            let number = entry as u32 + 1;
+            let first = 0x80000000 + 0x80 * number;
+            Entry::new(group, entry, first, 0x1000 * number + 2).put(table);
         }
     }
 }
@@ -72,166 +108,63 @@ fn set_scene(table: &mut [u8; 131072], scene: Scene) {
 // The table of a scene, in the first 65,536 of twice as many bytes.
 pub fn table_of(scene: Scene) -> [u8; 131072] {
     let mut table = [0u8; 131072];
-    set_scene(&mut table, scene);
+    match scene {
+        Scene::Empty => {}
+        Scene::Mapped => Entry::of_page(0x12345012).put(&mut table),
+        Scene::Full => fill(&mut table),
+        Scene::FullMapped => {
+            fill(&mut table);
+            Entry::new(25, 7, 0x86380E43, 0x12345012).put(&mut table);
+        }
+        Scene::Contradicting => {
+            Entry::of_page(0x12345012).put(&mut table);
+            Entry::new(25, 0, 0x86380E43, 0x12346012).put(&mut table);
+        }
+    }
     table
 }
 
-// A table with two entries, each at a group and entry number; a first word of zero stands for none.
-pub fn with_two(group: usize, entry: usize, first: u32, second: u32, other: Other) -> [u8; 65536] {
-    let mut table = [0u8; 65536];
-    put(&mut table, group, entry, first, second);
-    put(
-        &mut table,
-        other.group,
-        other.entry,
-        other.first,
-        other.second,
-    );
-    table
+// Writes a word of a register page by its number: 0 is SDR1, 1 to 16 are the segment registers, 17 to 24 the instruction pairs and 25 to 32 the data
+// pairs, upper words first. A number past the page's end is left out.
+pub fn set_register(page: &mut [u8], number: u8, word: u32) {
+    let at = 4 * (number as usize);
+    if at + 4 <= page.len() {
+        words::write_word(page, at, word);
+    }
 }
 
-// Another entry.
-#[derive(Clone, Copy)]
-pub struct Other {
-    pub group: usize,
-    pub entry: usize,
-    pub first: u32,
-    pub second: u32,
-}
-
-pub const NONE: Other = Other {
-    group: 0,
-    entry: 0,
-    first: 0,
-    second: 0,
-};
-
-// The first word of an entry of pages 0FFA and 0FFB: V, the VSID and API 3; H is added in a secondary group.
-fn first_word(second: u32) -> u32 {
-    if second == 0 { 0 } else { 0x86380E03 }
-}
-
-// A table with an entry of each of these pages in its primary group, by their second words; a page whose word is zero has none.
-pub fn pages(before: u32, after: u32) -> [u8; 65536] {
-    let entry = Other {
-        group: 999,
-        entry: 3,
-        first: first_word(after),
-        second: after,
-    };
-    with_two(998, 0, first_word(before), before, entry)
-}
-
-// The table with one more entry.
-pub fn also(
-    table: [u8; 65536],
-    group: usize,
-    entry: usize,
-    first: u32,
-    second: u32,
-) -> [u8; 65536] {
-    let mut more = table;
-    put(&mut more, group, entry, first, second);
-    more
-}
-
-// A register page in the first 132 of 136 bytes: SDR1, segment 0 as in the cases, segment 15, the upper word of the first instruction
-// pair, data pair 80001FFE 10000002, and a second data pair with this upper word.
-pub fn page_of(sdr1: u32, segment: u32, instruction: u32, data: u32) -> [u8; 136] {
-    let mut page = [0u8; 136];
-    words::write_word(&mut page, 0, sdr1);
-    words::write_word(&mut page, 4, 0x000C701C);
-    words::write_word(&mut page, 64, segment);
-    words::write_word(&mut page, 68, instruction);
-    words::write_word(&mut page, 100, 0x80001FFE);
-    words::write_word(&mut page, 104, 0x10000002);
-    words::write_word(&mut page, 108, data);
-    words::write_word(&mut page, 112, 0x20000002);
-    page
-}
-
-// A register page with one segment register, the others zero and all blocks off.
-pub fn page_with(sdr1: u32, number: u32, word: u32) -> [u8; 132] {
-    let mut page = [0u8; 132];
-    words::write_word(&mut page, 0, sdr1);
-    if number < 33 {
-        words::write_word(&mut page, 4 * (number as usize), word);
+// A register page with these words and every other word zero.
+pub fn registers<const N: usize>(words: &[(u8, u32)]) -> [u8; N] {
+    let mut page = [0u8; N];
+    for (number, word) in words {
+        set_register(&mut page, *number, *word);
     }
     page
 }
 
-// Whether these four words are the answer.
-pub fn answer_is(answer: &[u8], a: u32, b: u32, c: u32, d: u32) -> bool {
-    let four = [a, b, c, d];
-    let mut expected = [0u8; 16];
-    words::write_words(&mut expected, &four);
-    answer == expected.as_slice()
-}
+// The four words in which the register pages of the refusals differ: SDR1, segment 15, the upper word of the first instruction pair and that of the second
+// data pair. These are a good page's, and those of the pages that are refused with 2, 3, 4 and 5.
+pub const GOOD: [u32; 4] = [SDR1, SEGMENT, OFF, OFF];
 
-// Whether these eight words begin the answer of an access.
-pub fn access_answer_is(answer: &[u8; 48], eight: [u32; 8]) -> bool {
-    let mut expected = [0u8; 32];
-    words::write_words(&mut expected, &eight);
-    let whole = &answer[..];
-    &whole[0..32] == expected.as_slice()
-}
+pub const BROKEN_2: [u32; 4] = [BAD_SDR1, SEGMENT, OFF, OFF];
 
-// Whether it begins with this result and ends with these four words, the record of the rule that decided.
-pub fn record_is(answer: &[u8; 48], res: u32, record: [u32; 4]) -> bool {
-    let whole = &answer[..];
-    (words::read_word(whole, 0) == res)
-        & answer_is(&whole[32..48], record[0], record[1], record[2], record[3])
-}
+pub const BROKEN_3: [u32; 4] = [SDR1, SEGMENT, BAD_BLOCK, OFF];
 
-// Whether these four words begin the answer of an access to one byte: it has no second page, and the byte is in the first where it is done.
-pub fn byte_answer_is(answer: &[u8; 48], a: u32, b: u32, c: u32, d: u32) -> bool {
-    let byte = if a == 0 { 1 } else { 0 };
-    access_answer_is(answer, [a, b, c, d, 0, 0, byte, 0])
-}
+pub const BROKEN_4: [u32; 4] = [SDR1, SEGMENT, OFF, SHARED];
 
-// Whether a refusal left 20 bytes, of which an answer was lent, as it should: at 11 as they were, else the number and three zero words.
-pub fn answer_refused(answer: &[u8], number: u32) -> bool {
-    if number == 11 {
-        return answer == [0xAA; 20].as_slice();
-    }
-    let mut expected = [0xAAu8; 20];
-    words::write_word(&mut expected, 0, number);
-    words::write_word(&mut expected, 4, 0);
-    words::write_word(&mut expected, 8, 0);
-    words::write_word(&mut expected, 12, 0);
-    answer == expected.as_slice()
-}
+pub const BROKEN_5: [u32; 4] = [SDR1, BAD_SEGMENT, OFF, OFF];
 
-// The same of 52 bytes, of which the answer of an access was lent: at 11 as they were, else the number and eleven zero words.
-pub fn access_refused(answer: &[u8], number: u32) -> bool {
-    if number == 11 {
-        return answer == [0xAA; 52].as_slice();
-    }
-    if answer.len() != 52 {
-        return false;
-    }
-    let mut expected = [0u8; 48];
-    words::write_word(&mut expected, 0, number);
-    (&answer[0..48] == expected.as_slice()) & (&answer[48..52] == [0xAA; 4].as_slice())
-}
-
-// The number, or 99 where something lent is not as it should be.
-pub fn kept(number: u32, good: bool) -> u32 {
-    if good { number } else { 99 }
-}
-
-// Whether an access to one byte with a table of zeros answers these words, and leaves the table.
-pub fn access_is(
-    page: [u8; 132],
-    mode: u32,
-    kind: u32,
-    address: u32,
-    res: u32,
-    word: u32,
-    third: u32,
-) -> bool {
-    let mut table = [0u8; 65536];
-    let mut answer = [0xAAu8; 48];
-    let number = mmu::mmu_access(&page, mode, kind, address, 1, &mut table, &mut answer);
-    (number == res) & byte_answer_is(&answer, res, word, third, address) & (table == [0; 65536])
+// A register page of a refusal in the first 132 of 136 bytes: these words, segment 0 as in the cases, and data pair 80001FFE 10000002.
+pub fn refusal_page(four: [u32; 4]) -> [u8; 136] {
+    let [sdr1, segment, instruction, data] = four;
+    registers(&[
+        (0, sdr1),
+        (1, SEGMENT),
+        (16, segment),
+        (17, instruction),
+        (25, 0x80001FFE),
+        (26, 0x10000002),
+        (27, data),
+        (28, 0x20000002),
+    ])
 }

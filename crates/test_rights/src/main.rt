@@ -15,7 +15,7 @@ fn run_pages(rt: &impl Print) -> io::Result<()> {
     pages::places(rt)?;
     pages::protected(rt)?;
     pages::fetches(rt)?;
-    pages::unmatched(rt)?;
+    pages::no_match(rt)?;
     pages::edges(rt)
 }
 
@@ -23,9 +23,9 @@ fn main(rt: HostRuntime) -> io::Result<()> {
     run_pages(&rt)?;
     blocks::real_mode(&rt)?;
     blocks::blocks(&rt)?;
+    blocks::before_page(&rt)?;
     blocks::contradictions(&rt)?;
-    refused::page_lengths(&rt)?;
-    refused::answer_lengths(&rt)?;
+    refused::lengths(&rt)?;
     refused::alone(&rt)?;
     refused::in_order(&rt)
 }

@@ -6,16 +6,16 @@
 --   clear_done, map_taken, protect_taken, unmap_taken, look_taken: a call that is not refused leaves what its work does
 --   unmap_11, look_11: with an answer of another length than 16 all stays
 --   own_group, page_matches: the bytes of a page's group, and the matches in its two groups
---   edited_both: the table with every match of both groups edited; AllEdited: what such an edit leaves, with a word of all marks
+--   edited_both: the table with every match of both groups edited; edit_is: it is one pass over the page's matches
 --   map_full, map_placed: map of a page with no match, where no entry is free and where one is
 --   map_matched: map of a page that has a match
---   unmap_missing, protect_missing, look_missing: these calls on a page with no match
---   look_contradicted, look_done: look at a page whose matches contradict, and at one whose matches do not
---   unmap_done, protect_done: the work of unmap and of protect is the edit of all matches
+--   look_missing, look_contradicted, look_done: look at a page with no match, at one whose matches contradict, and at one whose matches do not
 use mathlib.Core.Path.{◌≡◌, refl, sym, ap, ◌∙◌}
 use mathlib.Core.Bool.{Bool, true, false, cond, not, ◌&&◌}
 use mathlib.Core.List.{List, [], ◌∷◌}
 use mathlib.Core.Option.{Option, none, some}
+use Rattle.std.specs.Prelude.{Some, None}
+use Rattle.std.specs.Prelude as code
 use Prim.Native.Nat.{ℕ, ◌+◌, ◌*◌, ◌^◌, ◌≤◌, ◌<◌}
 use native.Mathlib.Omega.{arith}
 use lib.Dec.{eqb, ltb}
@@ -30,19 +30,17 @@ use Rattle.groups.specs.Page.{Page}
 use Rattle.groups.specs.Hash.{group_number}
 use Rattle.groups.specs.Group as groups
 use Rattle.groups.specs.Group.{group_of, on_group, first_of, put_at}
-use Rattle.matches.specs.Search.{pair_matches, contradict, merged}
+use Rattle.matches.specs.Search.{pair_matches, contradict}
 use Rattle.match_edits.specs.Edit as edits
 use Rattle.match_edits.specs.Edit.{edited, edit_matches}
 use Rattle.match_edits.specs.declared.Edit.{Edit}
-use Rattle.match_edits.specs.declared.Edit.TheVariants.{Clear, Protect}
 use Rattle.groups.specs.declared.Place.{Place}
-use Rattle.groups.specs.declared.Place.TheVariants.{Entry, Full}
 use Rattle.groups.proofs.Hash.{own_groups_differ}
 use Rattle.match_edits.proofs.Edits.{edit_both_each}
 use Rattle.theory_tables.specs.Matches.{Match}
 use Rattle.theory_tables.specs.Layout.{free_entry, free_place, matches_of, overwrite, overwrite_each}
 use Rattle.theory_calls.specs.Request.{ClearCall, MapCall, ProtectCall, AnsweredCall, Request, clear, map_page, unmap, protect, look, sdr1_in, fed}
-use Rattle.theory_calls.specs.Made.{to_map, to_unmap, to_protect, to_look}
+use Rattle.theory_calls.specs.Made.{to_map, to_look}
 use Rattle.theory_calls.specs.Rules.{page_in_range, map_in_range, table_rules, rules, refusal}
 use Rattle.theory_calls.specs.Answers.{word_answer, refused_bytes, answer_refused}
 use Rattle.theory_calls.specs.OnBytes.{layout, Ended, ended, entry_word, bytes_do, on_bytes}
@@ -213,9 +211,9 @@ module _ (c : AnsweredCall (List ℕ)) (t : List ℕ) (wrong : length c.answer �
 -- ---- the search
 
 -- the place of a free entry, as the definition on tables gives it
-abbrev pub place_option : Place → Option (Bool × ℕ)
-place_option (Entry secondary i) = some (secondary, i)
-place_option Full = none
+abbrev pub place_option : code.Option Place → Option (Bool × ℕ)
+place_option (Some place) = some (place.secondary, place.entry)
+place_option None = none
 
 module _ (k : ℕ) (t : List ℕ) (page : Page) where
   -- the 64 bytes of the page's primary (false) or secondary (true) group
@@ -230,7 +228,7 @@ module _ (k : ℕ) (t : List ℕ) (page : Page) where
   free_place_is = go (ltb (groups.first_free (own_group false)) 8) (ltb (groups.first_free (own_group true)) 8)
     where
       go : (a b : Bool) → cond a (some (false, groups.first_free (own_group false))) (cond b (some (true, groups.first_free (own_group true))) none)
-          ≡ place_option (cond a (Entry false (groups.first_free (own_group false))) (cond b (Entry true (groups.first_free (own_group true))) Full))
+          ≡ place_option (cond a (Some (groups.place false (groups.first_free (own_group false)))) (cond b (Some (groups.place true (groups.first_free (own_group true)))) None))
       go true b = refl
       go false true = refl
       go false false = refl
@@ -259,26 +257,18 @@ module _ (k : ℕ) (t : List ℕ) (page : Page) where
   own_are : (ms : List Match) → page_matches ≡ ms → matches_of (layout k) t page ≡ ms
   own_are ms e = matches_by_groups k t page ∙ e
 
-  -- map, unmap, protect and look of a page with no match
+  -- map and look of a page with no match
   module _ (none : page_matches ≡ []) where
     module _ (sdr1 rpn wimg pp : ℕ) where
-      pub map_full : groups.first_free_place (own_group false) (own_group true) ≡ Full → bytes_do k (to_map sdr1 page rpn wimg pp) t ≡ ended 9 t []
+      pub map_full : groups.first_free_place (own_group false) (own_group true) ≡ None → bytes_do k (to_map sdr1 page rpn wimg pp) t ≡ ended 9 t []
       unfolding bytes_do
       map_full full = rw (own_are [] none, free_place_is, full)
 
-      pub map_placed : (secondary : Bool) (i : ℕ) → groups.first_free_place (own_group false) (own_group true) ≡ Entry secondary i
+      pub map_placed : (place : Place) → groups.first_free_place (own_group false) (own_group true) ≡ Some place
           → bytes_do k (to_map sdr1 page rpn wimg pp) t
-          ≡ ended 0 (put_at t (group_number (10 + k) secondary page) i (entry_word secondary page) (second_word rpn 0 0 wimg pp)) []
+          ≡ ended 0 (put_at t (group_number (10 + k) place.secondary page) place.entry (entry_word place.secondary page) (second_word rpn 0 0 wimg pp)) []
       unfolding bytes_do
-      map_placed secondary i place = rw (own_are [] none, free_place_is, place)
-
-    pub unmap_missing : (sdr1 : ℕ) (answer : List ℕ) → bytes_do k (to_unmap sdr1 page answer) t ≡ ended 8 t (word_answer 8 0)
-    unfolding bytes_do
-    unmap_missing sdr1 answer = rw (own_are [] none)
-
-    pub protect_missing : (sdr1 pp : ℕ) → bytes_do k (to_protect sdr1 page pp) t ≡ ended 8 t []
-    unfolding bytes_do
-    protect_missing sdr1 pp = rw (own_are [] none)
+      map_placed place is = rw (own_are [] none, free_place_is, is)
 
     pub look_missing : (sdr1 : ℕ) (answer : List ℕ) → bytes_do k (to_look sdr1 page answer) t ≡ ended 8 t (word_answer 8 0)
     unfolding bytes_do
@@ -297,21 +287,3 @@ module _ (k : ℕ) (t : List ℕ) (page : Page) where
     pub look_done : (sdr1 : ℕ) (answer : List ℕ) → contradict x xs ≡ false → bytes_do k (to_look sdr1 page answer) t ≡ ended 0 t (word_answer 0 x.second)
     unfolding bytes_do
     look_done sdr1 answer d = rw (own_are (x ∷ xs) are, d)
-
-  -- what an edit of every match leaves, of a page whose groups lie in the table: the table, and a word with the marks of all
-  pub record AllEdited (edit : Edit) (u : List ℕ) (word : ℕ) : Type 0 where
-    pub x : Match
-    pub xs : List Match
-    pub are : page_matches ≡ x ∷ xs
-    pub inside : (b : Bool) → 64 * group_number (10 + k) b page + 64 ≤ length t
-    pub table_is : u ≡ edited_both edit
-    pub word_is : word ≡ merged x xs
-
-  pub unmap_done : (sdr1 : ℕ) (answer u : List ℕ) (word : ℕ) → AllEdited Clear u word → ended 0 u (word_answer 0 word) ≡ bytes_do k (to_unmap sdr1 page answer) t
-  unfolding bytes_do edited
-  unmap_done sdr1 answer u word e =
-      rw (e.table_is, e.word_is, edit_is Clear e.inside, own_are (e.x ∷ e.xs) e.are)
-
-  pub protect_done : (sdr1 pp : ℕ) (u : List ℕ) (word : ℕ) → AllEdited (Protect pp) u word → ended 0 u [] ≡ bytes_do k (to_protect sdr1 page pp) t
-  unfolding bytes_do edited
-  protect_done sdr1 pp u word e = rw (e.table_is, edit_is (Protect pp) e.inside, own_are (e.x ∷ e.xs) e.are)

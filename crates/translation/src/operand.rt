@@ -7,6 +7,7 @@ use crate::decision::Decision;
 
 // What an operand answers: the four words of the part that answers for all, and the rule that decided that part; the second part's physical address
 // and attributes, and the bytes in each page.
+// Stays as it is, with its zero words: they are what the C interface writes, and `operand_answer` of specs/ speaks of its fields.
 #[derive(Clone, Copy)]
 pub struct OperandAnswer {
     pub part: Answer,
@@ -18,32 +19,26 @@ pub struct OperandAnswer {
 }
 
 // How many bytes of an operand lie in its first page.
+#[tactic(auto, unfolding(crate::specs::Operand::first_bytes))]
 pub fn first_bytes(address: u32, length: u32) -> u32
     ensures { result ≡ first_bytes address length }
 {
-    let room = numbers::PAGE_SIZE - (address & 0xFFF);
-    if length < room { length } else { room }
+    length.min(numbers::PAGE_SIZE - address % numbers::PAGE_SIZE)
 }
 
 // Where the part behind these bytes starts: after the last address comes address 0.
+// Stays a sum that wraps: a rule of the project asks for it.
 pub fn next_start(address: u32, bytes: u32) -> u32
     ensures { result ≡ (address + bytes) % 2 ^ 32 }
 {
-    std::num::wrapping_add_u32(address, bytes)
+    address.wrapping_add(bytes)
 }
 
 // A part that is not done answers for all.
 pub fn stopped(part: Answer, decision: Decision) -> OperandAnswer
     ensures { result ≡ stopped part decision }
 {
-    OperandAnswer {
-        part,
-        decision,
-        address: 0,
-        attributes: 0,
-        bytes: 0,
-        rest: 0,
-    }
+    within(part, decision, 0)
 }
 
 // An operand within one page that is done.

@@ -4,7 +4,8 @@
 --   byte_0, byte_1, byte_2, byte_3: the bytes of a word made of four bytes; own-bytes: a word is made of its own four
 --   swapped_of, swapped_twice: a word with its bytes in reverse order, and that reversed twice it is itself
 --   turned_0, turned_1, turned_2, turned_3: each byte of the reversed word
---   reverse_same: four bytes reversed equal a word reversed exactly where the four bytes equal the word
+--   reverse_same: two words are equal exactly where they are with their bytes in reverse order
+--   from_low_end, swap_bytes_swapped, low_bytes_swapped: what the library's conversions of words and bytes are
 --   sets_before, sets_behind, sets_in: a run of stores leaves what is before it and behind it, and puts in what it stores
 --   sets_comm: two runs of stores that do not meet may be made in either order
 --   length_word_bytes, length_with_word: a word has four bytes, and a write of a word leaves the length
@@ -16,12 +17,13 @@ use mathlib.Core.Path.{◌≡◌, refl, sym, ap, ap₂, ◌∙◌}
 use mathlib.Core.Logic.{⊎_elim, ◌⊎◌, inl, inr}
 use mathlib.Core.List.{List, [], ◌∷◌, ◌++◌, append_assoc, append-nil}
 use Prim.Native.Nat.{ℕ, zero, suc, ◌+◌, ◌*◌, ◌/◌, ◌%◌, ◌^◌, ◌≤◌, ◌<◌}
-use native.Mathlib.Nat.{add-zero, add-suc, suc-add, not-suc-le-zero, le_of_suc-le-suc}
+use native.Mathlib.Nat.{div-one, add-zero, add-suc, suc-add, not-suc-le-zero, le_of_suc-le-suc}
 use native.Mathlib.Omega.{arith}
 use lib.ListN.{length, get_or, set, take, drop, length-set, length-append}
 use lib.Dec.{eqb, lit≤, lit<}
 use lib.Pow.{shr-shr, split}
 use lib.Seq.{sets, length-sets, sets-eq, get_or-set_same, get_or-set_other, set_out, set_comm, take_at, take-length, length-take-le}
+use Rattle.std.specs.Int.{w32, from_le_bytes, to_le_bytes, swap_bytes}
 use Rattle.words.proofs.Tests.{three, eqb_same}
 use Rattle.words.specs.Bits.{bits, placed}
 use Rattle.words.proofs.Bits.{bits_split, bits_all}
@@ -88,22 +90,28 @@ module _ (w : ℕ) where
   unfolding swapped
   turned_3 = byte_0 (bits 24 31 w) (bits 16 23 w) (bits 8 15 w) (bits 0 7 w) (omega arith) (omega arith) (omega arith) (omega arith)
 
--- four bytes in reverse order are those of a word in reverse order exactly where the word is theirs
-module _ (a b c d w : ℕ) (la : a < 2 ^ 8) (lb : b < 2 ^ 8) (lc : c < 2 ^ 8) (ld : d < 2 ^ 8) (fits : w < 2 ^ 32) where
-  forth : word_of d c b a ≡ swapped w → word_of a b c d ≡ w
-  unfolding swapped
-  forth same =
-      let p : a ≡ bits 0 7 w = sym (byte_3 d c b a ld lc lb la) ∙ ap (bits 24 31) same ∙ byte_3 _ _ _ (bits 0 7 w) (omega arith) (omega arith) (omega arith) (omega arith) in
-      let q : b ≡ bits 8 15 w = sym (byte_2 d c b a ld lc lb la) ∙ ap (bits 16 23) same ∙ byte_2 _ _ (bits 8 15 w) _ (omega arith) (omega arith) (omega arith) (omega arith) in
-      let r : c ≡ bits 16 23 w = sym (byte_1 d c b a ld lc lb la) ∙ ap (bits 8 15) same ∙ byte_1 _ (bits 16 23 w) _ _ (omega arith) (omega arith) (omega arith) (omega arith) in
-      let s : d ≡ bits 24 31 w = sym (byte_0 d c b a ld lc lb la) ∙ ap (bits 0 7) same ∙ byte_0 (bits 24 31 w) _ _ _ (omega arith) (omega arith) (omega arith) (omega arith) in
-      rw (p, q, r, s) (own_bytes w fits)
+-- two words are equal exactly where they are with their bytes in reverse order
+pub reverse_same : (v w : ℕ) → v < 2 ^ 32 → w < 2 ^ 32 → eqb (swapped v) (swapped w) ≡ eqb v w
+reverse_same v w lv lw = eqb_same (swapped v) (swapped w) v w (λ same. sym (swapped_twice v lv) ∙ ap swapped same ∙ swapped_twice w lw) (ap swapped)
 
-  back : word_of a b c d ≡ w → word_of d c b a ≡ swapped w
-  back same = sym (swapped_of a b c d la lb lc ld) ∙ ap swapped same
+-- the library's words of four bytes: low end first and reversed
+pub from_low_end : (s : List ℕ) (at : ℕ) → Bytes s
+    → from_le_bytes w32 (get_or s at 0 ∷ get_or s (at + 1) 0 ∷ get_or s (at + 2) 0 ∷ get_or s (at + 3) 0 ∷ []) ≡ swapped (word_at s at)
+unfolding word_at
+from_low_end s at h =
+    sum (get_or s at 0) (get_or s (at + 1) 0) (get_or s (at + 2) 0) (get_or s (at + 3) 0)
+    ∙ sym (swapped_of _ _ _ _ (h at) (h (at + 1)) (h (at + 2)) (h (at + 3)))
+  where
+    sum : (a b c d : ℕ) → from_le_bytes w32 (a ∷ b ∷ c ∷ d ∷ []) ≡ word_of d c b a
+    sum a b c d = omega arith
 
-  pub reverse_same : eqb (word_of d c b a) (swapped w) ≡ eqb (word_of a b c d) w
-  reverse_same = eqb_same (word_of d c b a) (swapped w) (word_of a b c d) w forth back
+pub swap_bytes_swapped : (w : ℕ) → swap_bytes w32 w ≡ swapped w
+unfolding swapped
+swap_bytes_swapped w = omega arith
+
+pub low_bytes_swapped : (w : ℕ) → to_le_bytes w32 (swapped w) ≡ word_bytes w
+unfolding word_bytes
+low_bytes_swapped w = rw (← turned_0 w, ← turned_1 w, ← turned_2 w, ← turned_3 w, div-one (swapped w)) refl
 
 pub sets_before : (vs l : List ℕ) (i k : ℕ) → k < i → get_or (sets l i vs) k 0 ≡ get_or l k 0
 sets_before [] l i k h = refl

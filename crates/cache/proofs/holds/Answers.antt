@@ -11,4 +11,4 @@ returns c place e =
     let a = c.args in
     let s = a.cache.now in
     let fits = word_lt s a.at (λ i. (c.shared_slice_known-1.given i).fits) in
-    rw (c.read_word.ensures, c.read_word-2.ensures, ← e, tag_same (word_at s a.at) a.vsid fits c.requires.1)
+    rw (c.read_word.ensures, c.read_word-2.ensures, ← e, tag_same (word_at s a.at) a.page.vsid fits c.requires.1)

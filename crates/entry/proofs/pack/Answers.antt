@@ -5,18 +5,17 @@ use Rattle.entry.specs.Entry.{packed}
 use Rattle.entry.proofs.Widths.{within}
 use Rattle.entry.proofs.pack.Goals as goal
 
+pub returns-then-not-within_widths : goal.returns-then-not-within_widths
+unfolding packed
+returns-then-not-within_widths c = rw (sym c.within_widths.ensures ∙ c.if-not-within_widths.true)
+
 pub first_word-requires : goal.first_word-requires
-first_word-requires c = omega (arith, within c.args.f (sym c.within_widths.ensures ∙ c.if-within_widths.true))
+first_word-requires c = omega (arith, within c.args.f (sym c.within_widths.ensures ∙ c.if-not-within_widths.false))
 
 pub second_word-requires : goal.second_word-requires
-second_word-requires c =
-    omega (arith, within c.args.f (sym c.within_widths.ensures ∙ c.if-within_widths.true))
+second_word-requires c = omega (arith, within c.args.f (sym c.within_widths.ensures ∙ c.if-not-within_widths.false))
 
-pub returns-then-within_widths : goal.returns-then-within_widths
+pub returns : goal.returns
 unfolding packed
-returns-then-within_widths c =
-    rw (sym c.within_widths.ensures ∙ c.if-within_widths.true, c.first_word.ensures, c.second_word.ensures)
-
-pub returns-else-within_widths : goal.returns-else-within_widths
-unfolding packed
-returns-else-within_widths c = rw (sym c.within_widths.ensures ∙ c.if-within_widths.false)
+returns c =
+    rw (sym c.within_widths.ensures ∙ c.if-not-within_widths.false, c.first_word.ensures, c.second_word.ensures)

@@ -25,5 +25,5 @@ unfolding entry_free first_at word_at
 returns c =
     let at = 8 * c.args.entry in
     let group = c.args.group.now in
-    let byte : (i : ℕ) → get_or group i 0 < 256 = λ i. omega (arith, c.shared_slice_known-1.given i) in
+    let byte : (i : ℕ) → get_or group i 0 < 256 = λ i. omega (arith, c.type_inv.group i) in
     top_bit (get_or group at 0) (get_or group (at + 1) 0) (get_or group (at + 2) 0) (get_or group (at + 3) 0) (byte at) (byte (at + 1)) (byte (at + 2)) (byte (at + 3))

@@ -1,4 +1,4 @@
--- `edits::edit_both` meets its contract: the parts that are lent are the two groups, edited one after the other; the second is as it was at the start.
+-- `match_edits::edit_both` meets its contract: the two groups are edited one after the other; the second is as it was at the start.
 use Prim.Native.Nat.{ℕ, ◌+◌, ◌*◌, ◌≤◌}
 use mathlib.Core.Path.{◌≡◌, sym, ap, ap₂, ◌∙◌}
 use mathlib.Core.Bool.{Bool, true, false}
@@ -7,7 +7,6 @@ use lib.ListN.{length}
 use Rattle.theory_tables.specs.Matches.{Match}
 use Rattle.groups.specs.Group.{group_of, on_group}
 use Rattle.groups.proofs.Group.{group_other, length_group}
-use Rattle.groups.proofs.Lent.{lent_group, back_on}
 use Rattle.matches.specs.Search.{group_matches, pair_matches, marks_of}
 use Rattle.matches.proofs.Merged.{marks_append}
 use Rattle.match_edits.specs.Edit.{edit_matches}
@@ -29,14 +28,11 @@ returns c vsid api wants =
     let t = a.table.now in
     let p = a.page.primary in
     let s = a.page.secondary in
-    let own = c.edit_group-word.ensures false vsid api wants in
-    let further = c.edit_group.ensures true vsid api (wants.0, wants.1, c.secondary_word-wanted.ensures vsid api wants.0 wants.1 wants.2) in
-    let first = back_on t p (edit_matches a.edit false vsid api) _ own.0 in
+    let own = c.edit_in-word.ensures vsid api wants in
+    let further = c.edit_in.ensures vsid api wants in
     let matching : Bool → List ℕ → List Match = λ b group. group_matches b vsid api group in (
-      back_on _ s (edit_matches a.edit true vsid api) _ further.0 ∙ ap (λ (u : List ℕ). on_group u s (edit_matches a.edit true vsid api)) first,
+      further.0 ∙ ap (λ (u : List ℕ). on_group u s (edit_matches a.edit true vsid api)) own.0,
       further.1
-          ∙ ap₂ marks_of
-          (ap (matching true) (lent_group _ s ∙ ap (λ (u : List ℕ). group_of u s) first ∙ other_stays a.edit vsid api t p s c.requires.1 c.requires.3))
-          (own.1 ∙ ap (λ (group : List ℕ). marks_of (matching false group) a.second) (lent_group t p))
+          ∙ ap₂ marks_of (ap (matching true) (ap (λ (u : List ℕ). group_of u s) own.0 ∙ other_stays a.edit vsid api t p s c.requires.1 c.requires.3)) own.1
           ∙ sym (marks_append (matching false (group_of t p)) (matching true (group_of t s)) a.second),
     )

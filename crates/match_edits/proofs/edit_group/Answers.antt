@@ -1,5 +1,5 @@
--- `edits::edit_group` meets its contract. The loop's invariant: the matches among the first i entries, as the group was at the start, are edited, and the
--- word has their marks.
+-- `match_edits::edit_group` meets its contract. The loop's invariant: the matches among the entries passed, as the group was at the start, are edited, and
+-- the word has their marks.
 use Prim.Native.Nat.{ℕ, ◌*◌, ◌^◌, ◌<◌}
 use lib.Dec.{eqb}
 use Rattle.words.specs.Words.{swapped, word_at}
@@ -8,11 +8,9 @@ use mathlib.Core.Path.{◌≡◌, refl, sym, ap, ap₂, ◌∙◌}
 use mathlib.Core.Bool.{Bool}
 use mathlib.Core.List.{List}
 use native.Mathlib.Omega.{arith}
-use lib.ListN.{length}
 use Rattle.entry.specs.Entry.{matches}
 use Rattle.theory_tables.specs.Matches.{Match, matches_below}
 use Rattle.groups.specs.Group.{first_at, second_at, put_entry}
-use Rattle.groups.proofs.Entries.{length_entry}
 use Rattle.matches.specs.Search.{h_of, WantedWord, matches_to, group_matches, marks_of}
 use Rattle.matches.proofs.Matches.{wanted_matches, entry_at, matches_more, matches_same}
 use Rattle.matches.proofs.Merged.{marks_none, marks_more}
@@ -21,9 +19,9 @@ use Rattle.match_edits.proofs.Edits.{edit_more, edit_later}
 use Rattle.match_edits.proofs.edit_group.Goals as goal
 use Rattle.match_edits.proofs.edit_group.Goals.{then-is_word, else-is_word}
 
-pub loop-i-init : goal.loop-i-init
+pub loop-entry-init : goal.loop-entry-init
 unfolding edit_each matches_below
-loop-i-init c = (omega arith, c.requires.1, λ secondary vsid api wants. (refl, sym (marks_none _)))
+loop-entry-init c = λ secondary vsid api wants. (refl, sym (marks_none _))
 
 -- a turn of the loop, by its values
 module _ (edit : Edit) (start : List ℕ) (wanted i : ℕ) (group : List ℕ) (test : Bool) (secondary : Bool) (vsid api : ℕ) (wants : WantedWord secondary vsid api wanted)
@@ -38,44 +36,36 @@ module _ (edit : Edit) (start : List ℕ) (wanted i : ℕ) (group : List ℕ) (t
   unfolding first_at
   tested is = wanted_matches secondary vsid api _ _ _ wants is ∙ ap (matches vsid (h_of secondary) api) kept.0
 
-pub loop-i-preserved : goal.loop-i-preserved
+pub loop-entry-preserved : goal.loop-entry-preserved
 unfolding first_at second_at edited
-loop-i-preserved c =
+loop-entry-preserved c =
     let a = c.args in
     let g = a.group.now in
-    let i = c.loop-i.i in
+    let i = c.loop-entry.entry in
     elim c.if-is_word.branch [
-      | then-is_word w ↦ (
-        omega arith,
-        ap length (w.group-is ∙ w.write_entry.ensures) ∙ length_entry _ _ _ _ ∙ c.loop-i.invariant.1,
-        λ secondary vsid api wants.
-            let so_far = c.loop-i.invariant.2 secondary vsid api wants in
-            let x = entry_at secondary g i in
-            let own = kept a.edit g a.wanted i _ c.is_word.result secondary vsid api wants so_far.0 in
-            let first : w.read_word-first.result ≡ first_at g i = w.read_word-first.ensures ∙ own.0 in
-            let second : w.read_word-second.result ≡ second_at g i = w.read_word-second.ensures ∙ own.1 in
-            let words : (w.edited_words-made.result.first, w.edited_words-made.result.second) ≡ edited a.edit x =
-            w.edited_words-made.ensures ∙ ap₂ (edited_words a.edit) first second in
-            let more = matches_more secondary vsid api g i (sym (tested a.edit g a.wanted i _ c.is_word.result secondary vsid api wants so_far.0 c.is_word.ensures) ∙ w.if-is_word.true) in (
-              w.group-is ∙ w.write_entry.ensures ∙ ap₂ (λ (b : List ℕ) (uv : ℕ × ℕ). put_entry b i uv.0 uv.1) so_far.0 words
-                  ∙ sym (ap (λ (ms : List Match). edit_each a.edit ms g) more ∙ edit_more _ _ _ _),
-              w.merged-is ∙ w.with_marks-merged.ensures
-                  ∙ marks_more (matches_to secondary vsid api g i) x a.word _ _ _ _ so_far.1 second w.is_referenced-r.ensures w.is_changed-c.ensures
-                  ∙ sym (ap (λ (ms : List Match). marks_of ms a.word) more),
-            ),
-      )
-      | else-is_word w ↦ (
-        omega arith,
-        ap length w.group-is ∙ c.loop-i.invariant.1,
-        λ secondary vsid api wants.
-            let so_far = c.loop-i.invariant.2 secondary vsid api wants in
-            let same = matches_same secondary vsid api g i (sym (tested a.edit g a.wanted i _ c.is_word.result secondary vsid api wants so_far.0 c.is_word.ensures) ∙ w.if-is_word.false) in (
-              w.group-is ∙ so_far.0 ∙ sym (ap (λ (ms : List Match). edit_each a.edit ms g) same),
-              w.merged-is ∙ so_far.1 ∙ sym (ap (λ (ms : List Match). marks_of ms a.word) same),
-            ),
-      )
+      | then-is_word w ↦ λ secondary vsid api wants.
+          let so_far = c.loop-entry.invariant secondary vsid api wants in
+          let x = entry_at secondary g i in
+          let own = kept a.edit g a.wanted i _ c.is_word.result secondary vsid api wants so_far.0 in
+          let first : w.read_word-first.result ≡ first_at g i = w.read_word-first.ensures ∙ own.0 in
+          let second : w.read_word-second.result ≡ second_at g i = w.read_word-second.ensures ∙ own.1 in
+          let words : (w.edited_words-made.result.first, w.edited_words-made.result.second) ≡ edited a.edit x =
+          w.edited_words-made.ensures ∙ ap₂ (edited_words a.edit) first second in
+          let more = matches_more secondary vsid api g i (sym (tested a.edit g a.wanted i _ c.is_word.result secondary vsid api wants so_far.0 c.is_word.ensures) ∙ w.if-is_word.true) in (
+            w.group-is ∙ w.write_entry.ensures ∙ ap₂ (λ (b : List ℕ) (uv : ℕ × ℕ). put_entry b i uv.0 uv.1) so_far.0 words
+                ∙ sym (ap (λ (ms : List Match). edit_each a.edit ms g) more ∙ edit_more _ _ _ _),
+            w.merged-is ∙ w.with_marks-merged.ensures
+                ∙ marks_more (matches_to secondary vsid api g i) x a.word _ _ _ _ so_far.1 second w.is_referenced-r.ensures w.is_changed-c.ensures
+                ∙ sym (ap (λ (ms : List Match). marks_of ms a.word) more),
+          )
+      | else-is_word w ↦ λ secondary vsid api wants.
+          let so_far = c.loop-entry.invariant secondary vsid api wants in
+          let same = matches_same secondary vsid api g i (sym (tested a.edit g a.wanted i _ c.is_word.result secondary vsid api wants so_far.0 c.is_word.ensures) ∙ w.if-is_word.false) in (
+            w.group-is ∙ so_far.0 ∙ sym (ap (λ (ms : List Match). edit_each a.edit ms g) same),
+            w.merged-is ∙ so_far.1 ∙ sym (ap (λ (ms : List Match). marks_of ms a.word) same),
+          )
     ]
 
 pub returns : goal.returns
 unfolding edit_matches group_matches
-returns c secondary vsid api wants = let e : c.loop-i.i ≡ 8 = omega arith in rw e at (c.loop-i.invariant.2 secondary vsid api wants)
+returns c secondary vsid api wants = let e : c.loop-entry.entry ≡ 8 = omega arith in rw e at (c.loop-entry.invariant secondary vsid api wants)

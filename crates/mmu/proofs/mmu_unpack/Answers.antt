@@ -7,7 +7,7 @@ use Rattle.mmu.proofs.mmu_unpack.Goals as goal
 
 pub returns-then-fields-ne-FIELDS_SIZE : goal.returns-then-fields-ne-FIELDS_SIZE
 unfolding unpack_call
-returns-then-fields-ne-FIELDS_SIZE c = sym (wrong_length 36 _ _ c.if-fields-ne-FIELDS_SIZE.true)
+returns-then-fields-ne-FIELDS_SIZE c = rw c.from.ensures (sym (wrong_length 36 _ _ c.if-fields-ne-FIELDS_SIZE.true))
 
 pub returns : goal.returns
 unfolding unpack_call

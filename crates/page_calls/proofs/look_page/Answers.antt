@@ -1,39 +1,39 @@
 -- `page_calls::look_page` meets its contract: by what the search of the page's groups told: none, matches that contradict, or the first one's second word.
-use mathlib.Core.Path.{sym, ap, ◌∙◌}
+use mathlib.Core.Path.{◌≡◌, refl, sym, ap, ◌∙◌}
+use mathlib.Core.Bool.{Bool, true, false, cond}
+use mathlib.Core.List.{List, [], ◌∷◌}
+use denote.Enum.Bare.{sameb}
 use Prim.Native.Nat.{ℕ}
+use lib.ListN.{length}
+use Rattle.groups.specs.Hash.{TableOf}
+use Rattle.theory_tables.specs.Matches.{Match}
+use Rattle.matches.specs.Search.{contradict, others_of}
+use Rattle.matches.specs.contracts.Others.{the_type}
+use Rattle.matches.specs.declared.FirstMatch.{FirstMatch}
+use Rattle.matches.specs.declared.Others.TheVariants.{Agreeing, Differing}
 use Rattle.theory_calls.specs.Answers.{word_answer}
 use Rattle.theory_calls.specs.OnBytes.{ended}
 use Rattle.theory_calls.proofs.PageCalls.{look_missing, look_contradicted, look_done}
-use Rattle.page_calls.proofs.Searched.{locatable, primary_asked, secondary_asked, KnownOf, known, differs_is}
+use Rattle.page_calls.proofs.Searched.{Known, known, first_found, none_found, contradict_is}
 use Rattle.page_calls.proofs.look_page.Goals as goal
-use Rattle.page_calls.proofs.look_page.Goals.{After-any}
+use Rattle.page_calls.proofs.look_page.Goals.{After-search}
 
 -- what was told is of the page's matches and free entries
-module _ (c : After-any) where
-  told_of : KnownOf (record { vsid = c.args.vsid; index = c.args.index }) c.args.table.now c.locate-page.result c.in_secondary-told.result c.any.result
-  told_of = known _ _ _ _ _ _ c.requires.1 c.locate-page.ensures c.in_primary-primary.ensures c.in_secondary-told.ensures c.any.ensures
+told_of : (c : After-search) (sdr1 : ℕ) → TableOf sdr1 (length c.args.table.now)
+    → Known sdr1 c.args.page c.args.table.now c.search.result.0 c.search.result.1
+told_of c = known _ c.args.table.now _ c.requires.1 c.search.ensures
 
-pub locate-page-requires : goal.locate-page-requires
-locate-page-requires c = locatable _ _ c.requires.0 c.requires.1
+pub returns-in_default : goal.returns-in_default
+returns-in_default c sdr1 right =
+    sym (look_missing _ _ _ (none_found _ (sym (told_of (goal.at.returns-in_default c).After-search sdr1 right).first_is ∙ c.in_default.is)) _ _)
 
-pub in_primary-primary-requires : goal.in_primary-primary-requires
-in_primary-primary-requires c = primary_asked _ c.args.table.now _ c.requires.0 c.requires.1 c.locate-page.ensures
-
-pub in_secondary-told-requires : goal.in_secondary-told-requires
-in_secondary-told-requires c = secondary_asked _ c.args.table.now _ c.requires.0 c.requires.1 c.locate-page.ensures
-
-pub returns-then-not-any : goal.returns-then-not-any
-returns-then-not-any c sdr1 right =
-    rw c.refused.ensures (sym (look_missing _ _ _ ((told_of (goal.at.returns-then-not-any c).After-any sdr1 right).unmatched c.if-not-any.true) _ _))
-
-pub returns-then-differs : goal.returns-then-differs
-returns-then-differs c sdr1 right =
-    let f = (told_of (goal.at.returns-then-differs c).After-any sdr1 right).matched c.if-not-any.false in
-    rw c.refused-then-differs.ensures
-    (sym (look_contradicted _ _ _ _ _ f.are _ _ (differs_is _ _ _ _ _ _ _ f _ c.differs.ensures ∙ c.if-differs.true)))
+pub returns-then-eq : goal.returns-then-eq
+returns-then-eq c sdr1 right =
+    let f = first_found _ _ (sym (told_of (goal.at.returns-then-eq c).After-search sdr1 right).first_is ∙ c.in-Some.is) in
+    sym (look_contradicted _ _ _ _ _ f.are _ _ (contradict_is _ _ ∙ ap (λ (x : FirstMatch). sameb the_type x.others Differing) f.is ∙ sym c.eq.ensures ∙ c.if-eq.true))
 
 pub returns : goal.returns
 returns c sdr1 right =
-    let f = (told_of (goal.at.returns c).After-any sdr1 right).matched c.if-not-any.false in
-    ap (λ (word : ℕ). ended 0 c.args.table.now (word_answer 0 word)) f.word
-    ∙ sym (look_done _ _ _ _ _ f.are _ _ (differs_is _ _ _ _ _ _ _ f _ c.differs.ensures ∙ c.if-differs.false))
+    let f = first_found _ _ (sym (told_of (goal.at.returns c).After-search sdr1 right).first_is ∙ c.in-Some.is) in
+    ap (λ (x : FirstMatch). ended 0 c.args.table.now (word_answer 0 x.second)) (sym f.is)
+    ∙ sym (look_done _ _ _ _ _ f.are _ _ (contradict_is _ _ ∙ ap (λ (x : FirstMatch). sameb the_type x.others Differing) f.is ∙ sym c.eq.ensures ∙ c.if-eq.false))

@@ -31,4 +31,4 @@ narrow true d w = go (ltb w 12) refl (ltb w (2 ^ 4)) refl
 pub returns : goal.returns
 returns c sdr1 =
     let a = c.args in
-    rw c.page_in_range.ensures (narrow (page_in_range (record { vsid = a.vsid; index = a.index }) && ltb a.rpn (2 ^ 20)) (ltb a.pp (2 ^ 2)) a.wimg)
+    rw c.page_in_range.ensures (narrow (page_in_range a.page && ltb a.rpn (2 ^ 20)) (ltb a.pp (2 ^ 2)) a.wimg)

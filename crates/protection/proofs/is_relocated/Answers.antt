@@ -1,14 +1,14 @@
 -- `protection::is_relocated` meets its contract: the mask leaves the mode's bit of the kind.
-use borrow.Author.Tests.{eq-eqb, ne_eqb}
+use mathlib.Core.Path.{sym, ◌∙◌}
 use Prim.Native.Nat.{◌/◌}
 use lib.Bits.{and_mask}
-use Rattle.protection.specs.Access.{fetching, relocated}
+use Rattle.protection.specs.Access.{relocated}
 use Rattle.protection.proofs.is_relocated.Goals as goal
 
-pub returns-then-kind-eq-FETCH : goal.returns-then-kind-eq-FETCH
-unfolding relocated fetching
-returns-then-kind-eq-FETCH c = rw (eq-eqb _ _ c.if-kind-eq-FETCH.true, and_mask (c.args.mode / 2) 1)
+pub returns-then-is_fetch : goal.returns-then-is_fetch
+unfolding relocated
+returns-then-is_fetch c = rw (sym c.is_fetch.ensures ∙ c.if-is_fetch.true, and_mask (c.args.mode / 2) 1)
 
-pub returns-else-kind-eq-FETCH : goal.returns-else-kind-eq-FETCH
-unfolding relocated fetching
-returns-else-kind-eq-FETCH c = rw (ne_eqb _ _ c.if-kind-eq-FETCH.false, and_mask c.args.mode 1)
+pub returns-else-is_fetch : goal.returns-else-is_fetch
+unfolding relocated
+returns-else-is_fetch c = rw (sym c.is_fetch.ensures ∙ c.if-is_fetch.false, and_mask c.args.mode 1)

@@ -1,9 +1,10 @@
 -- `register_pages::blocks_refusal` meets its contract. The invariant: what the laws of Sides say of the sides that were passed.
 use native.Mathlib.Omega.{arith}
-use mathlib.Core.Bool.{Bool, cond, ◌&&◌, and-true}
+use mathlib.Core.Bool.{Bool, false, cond, ◌&&◌, and-true}
 use mathlib.Core.Path.{◌≡◌, refl, sym, ap, subst, ◌∙◌}
 use Prim.Native.Nat.{ℕ, ◌+◌, ◌-◌, ◌*◌, ◌/◌}
 use lib.ListN.{length}
+use Rattle.words.proofs.Tests.{both}
 use Rattle.register_words.specs.Asked.{bl_place}
 use Rattle.registers.specs.Set.{block_pairs}
 use Rattle.register_pages.proofs.Page.{PageSize, short_size, long_size, page_size_law}
@@ -53,7 +54,7 @@ loop-side-preserved c =
           (lent_good page any-right s H A (A + H) below half_is refl refl _ (32 * s) seen.result lengths refl told)
           (λ shape. elim c.if-seen-ne0.branch [
             | then-seen-ne0 w ↦
-                w.apart-is ∙ ap (λ (t : Bool). l.apart && t) (w.side_apart-apart.ensures ∙ lent_apart page any-right s H A (A + H) below half_is refl refl shape)
+                w.apart-is ∙ ap (λ (t : Bool). l.apart && t) (w.side_apart.ensures ∙ lent_apart page any-right s H A (A + H) below half_is refl refl shape)
             | else-seen-ne0 w ↦
                 w.apart-is ∙ sym (ap (λ (t : Bool). l.apart && t)
                 (lent_rises page any-right s H A (A + H) below half_is refl refl _ (32 * s) seen.result lengths refl told w.if-seen-ne0.false shape) ∙ and-true l.apart)
@@ -67,17 +68,19 @@ both_sides c =
     let two : l.side ≡ 2 = let upto = l.invariant.0 in omega (arith, c.loop-side-test.false) in
     subst (λ (n : ℕ). SidesSeen c.args.page.now c.requires n l.good l.apart) two (l.invariant.4 c.requires)
 
-pub returns-then-not-good : goal.returns-then-not-good
-returns-then-not-good c =
+pub returns-then-good-apart : goal.returns-then-good-apart
+returns-then-good-apart c =
     let l = c.loop-side in
-    sides_wrong _ _ l.good l.apart (both_sides (goal.at.returns-then-not-good c).After-loop-side) c.if-not-good.true
+    let (good, apart) = both l.good l.apart c.if-good-apart.true in
+    ap (λ (t : Bool). cond t 0 4) (sym apart) ∙ sides_right _ _ l.good l.apart (both_sides (goal.at.returns-then-good-apart c).After-loop-side) good
 
-pub returns-then-apart : goal.returns-then-apart
-returns-then-apart c =
+pub returns-then-good : goal.returns-then-good
+returns-then-good c =
     let l = c.loop-side in
-    ap (λ (t : Bool). cond t 0 4) (sym c.if-apart.true) ∙ sides_right _ _ l.good l.apart (both_sides (goal.at.returns-then-apart c).After-loop-side) c.if-not-good.false
+    let shared : l.apart ≡ false = ap (λ (t : Bool). t && l.apart) (sym c.if-good.true) ∙ c.if-good-apart.false in
+    ap (λ (t : Bool). cond t 0 4) (sym shared) ∙ sides_right _ _ l.good l.apart (both_sides (goal.at.returns-then-good c).After-loop-side) c.if-good.true
 
-pub returns : goal.returns
-returns c =
+pub returns-else-good : goal.returns-else-good
+returns-else-good c =
     let l = c.loop-side in
-    ap (λ (t : Bool). cond t 0 4) (sym c.if-apart.false) ∙ sides_right _ _ l.good l.apart (both_sides (goal.at.returns c).After-loop-side) c.if-not-good.false
+    sides_wrong _ _ l.good l.apart (both_sides (goal.at.returns-else-good c).After-loop-side) c.if-good.false

@@ -1,42 +1,41 @@
 -- `register_pages::check` meets its contract: SDR1, then the blocks, then the segments, in the order of the rules; where no block is on, none breaks one.
-use mathlib.Core.Bool.{Bool, true, cond}
+use mathlib.Core.Bool.{true}
 use mathlib.Core.Path.{◌≡◌, sym, ap, ◌∙◌}
+use native.Mathlib.Omega.{arith}
 use lib.ListN.{length}
 use Rattle.words.specs.Words.{word_at}
+use Rattle.std.specs.Prelude.{Err}
+use Rattle.numbers.specs.Refused.{refusal_number, result_number}
+use Rattle.numbers.proofs.Refused.{refused_number}
 use Rattle.register_words.specs.Sdr1.{sdr1_shape}
 use Rattle.registers.specs.Set.{is_long, register_words}
 use Rattle.register_pages.specs.Side.{blocks_refusal}
 use Rattle.register_pages.proofs.Sides.{sdr1_broken, blocks_broken, blocks_kept}
 use Rattle.register_pages.proofs.check.Goals as goal
-use Rattle.register_pages.proofs.check.Goals.{After-sdr1_shape, Else-not-sdr1_shape, Joined-blocks_on, then-blocks_on+else-refused-ne-DONE, else-blocks_on}
+use Rattle.register_pages.proofs.check.Goals.{After-sdr1_shape, Else-not-sdr1_shape}
 
 -- what the test of SDR1 told
-sdr1_told : (c : After-sdr1_shape) → c.sdr1_shape.result ≡ sdr1_shape (word_at c.args.whole.now 0)
+sdr1_told : (c : After-sdr1_shape) → c.sdr1_shape.result ≡ sdr1_shape (word_at c.args.page.now 0)
 sdr1_told c = c.sdr1_shape.ensures ∙ ap sdr1_shape c.read_word.ensures
 
-sdr1_kept : (c : Else-not-sdr1_shape) → sdr1_shape (word_at c.args.whole.now 0) ≡ true
+sdr1_kept : (c : Else-not-sdr1_shape) → sdr1_shape (word_at c.args.page.now 0) ≡ true
 sdr1_kept c = sym (c.sdr1_shape.ensures ∙ ap sdr1_shape c.read_word.ensures) ∙ c.if-not-sdr1_shape.false
-
--- past the blocks none of their rules is broken
-none_broken : (c : Joined-blocks_on) → let page = c.args.whole.now in blocks_refusal (is_long (length page)) (register_words page) ≡ 0
-none_broken c = elim c.if-blocks_on.branch [
-  | then-blocks_on+else-refused-ne-DONE w ↦ sym w.blocks_refusal-refused.ensures ∙ w.if-refused-ne-DONE.false
-  | else-blocks_on w ↦ c.blocks_on.ensures w.if-blocks_on.false
-]
 
 pub returns-then-not-sdr1_shape : goal.returns-then-not-sdr1_shape
 returns-then-not-sdr1_shape c =
-    sdr1_broken c.args.whole.now (sym (sdr1_told (goal.at.returns-then-not-sdr1_shape c).After-sdr1_shape) ∙ c.if-not-sdr1_shape.true)
+    sdr1_broken c.args.page.now (sym (sdr1_told (goal.at.returns-then-not-sdr1_shape c).After-sdr1_shape) ∙ c.if-not-sdr1_shape.true)
 
-pub returns-then-refused-ne-DONE : goal.returns-then-refused-ne-DONE
-returns-then-refused-ne-DONE c =
-    let refusal = c.blocks_refusal-refused.ensures in
-    refusal ∙ blocks_broken _ (sdr1_kept (goal.at.returns-then-refused-ne-DONE c).Else-not-sdr1_shape) (λ none. c.if-refused-ne-DONE.true (refusal ∙ none))
+pub returns-then-not-blocks_on : goal.returns-then-not-blocks_on
+returns-then-not-blocks_on c =
+    c.segments_refusal-segments.ensures ∙ blocks_kept _ (sdr1_kept (goal.at.returns-then-not-blocks_on c).Else-not-sdr1_shape) (c.blocks_on.ensures c.if-not-blocks_on.true)
 
-pub returns-then-segments_good : goal.returns-then-segments_good
-returns-then-segments_good c =
-    ap (λ (t : Bool). cond t 0 5) (sym (sym c.segments_good.ensures ∙ c.if-segments_good.true)) ∙ blocks_kept _ (sdr1_kept (goal.at.returns-then-segments_good c).Else-not-sdr1_shape) (none_broken (goal.at.returns-then-segments_good c).Joined-blocks_on)
+pub returns-in_err-blocks_refusal : goal.returns-in_err-blocks_refusal
+returns-in_err-blocks_refusal c =
+    let refusal = c.in_err-blocks_refusal.field-0.0 in
+    let handed : c.from_residual.result ≡ Err refusal = grind arith in
+    let number : refusal_number refusal ≡ blocks_refusal (is_long (length c.args.page.now)) (register_words c.args.page.now) = c.in_err-blocks_refusal.ensures in
+    ap result_number handed ∙ number ∙ blocks_broken _ (sdr1_kept (goal.at.returns-in_err-blocks_refusal c).Else-not-sdr1_shape) (λ none. refused_number refusal (number ∙ none))
 
 pub returns : goal.returns
 returns c =
-    ap (λ (t : Bool). cond t 0 5) (sym (sym c.segments_good.ensures ∙ c.if-segments_good.false)) ∙ blocks_kept _ (sdr1_kept (goal.at.returns c).Else-not-sdr1_shape) (none_broken (goal.at.returns c).Joined-blocks_on)
+    c.segments_refusal-segments.ensures ∙ blocks_kept _ (sdr1_kept (goal.at.returns c).Else-not-sdr1_shape) (sym c.in_ok-blocks_refusal.ensures)

@@ -3,21 +3,26 @@
 use borrow.Author.Count.{below_more}
 use mathlib.Core.Path.{◌≡◌, sym, ap, ◌∙◌}
 use mathlib.Core.Bool.{Bool}
-use Prim.Native.Nat.{ℕ, ◌+◌, ◌*◌, ◌/◌, ◌%◌, ◌<◌, ◌-◌}
+use Prim.Native.Nat.{ℕ, ◌+◌, ◌*◌, ◌/◌, ◌≤◌, ◌<◌, ◌-◌}
 use native.Mathlib.Omega.{arith}
 use lib.ListN.{length}
 use Rattle.words.specs.Words.{word_at}
 use Rattle.words.proofs.Below.{first_found}
 use Rattle.register_words.specs.Block.{covers}
 use Rattle.registers.specs.Set.{is_long, block_pairs, set_words, pair_covers, covering_pair}
-use Rattle.register_pages.proofs.Page.{PageSize, short_size, long_size, own_pairs, page_size_law, pairs_most, upper_at_law, none_covers}
+use Rattle.register_pages.proofs.Page.{PageSize, short_size, long_size, page_size_law, pairs_most, upper_at_law, none_covers}
 use Rattle.register_pages.proofs.covering_pair.Goals as goal
 use Rattle.register_pages.proofs.covering_pair.Goals.{After-block_covers}
 
 -- the pair at hand is the page's own, four pairs at a time
-own_pair : {size : ℕ} {long : Bool} → PageSize size long → (first i : ℕ) → first % 4 ≡ 0 → first < (size - 68) / 16 → i < first + 4 → i < block_pairs long
-own_pair short_size first i whole left l = omega arith
-own_pair long_size first i whole left l = omega arith
+own_pair : {size : ℕ} {long : Bool} → PageSize size long → (four i : ℕ) → four < (size - 68) / 16 / 4 → i < 4 * four + 4 → i < block_pairs long
+own_pair short_size four i left l = omega arith
+own_pair long_size four i left l = omega arith
+
+-- and behind the last four are none
+all_pairs : {size : ℕ} {long : Bool} → PageSize size long → (four : ℕ) → (size - 68) / 16 / 4 ≤ four → block_pairs long ≤ 4 * four
+all_pairs short_size four past = omega arith
+all_pairs long_size four past = omega arith
 
 -- what the call gave is the test of that pair of the set
 covers_is : (c : After-block_covers) → (c.loop-i.i < block_pairs (is_long (length c.args.page.now)))
@@ -27,7 +32,7 @@ covers_is c =
     let a = c.args in
     let i = c.loop-i.i in
     let size = page_size_law (length a.page.now) c.requires in
-    let own = own_pair size c.loop-first.first i c.loop-first.invariant.1 c.loop-first-test.true c.loop-i-test.true in (
+    let own = own_pair size c.loop-four.four i c.loop-four-test.true c.loop-i-test.true in (
       own,
       c.block_covers.ensures
           ∙ ap (λ (u : ℕ). covers 15 a.user u a.address)
@@ -41,7 +46,7 @@ unfolding covering_pair
 returns-then-block_covers c =
     let (own, is) = covers_is (goal.at.returns-then-block_covers c).After-block_covers in
     let most = pairs_most (is_long (length c.args.page.now)) in
-    sym (first_found _ 8 c.loop-i.i (omega arith) (sym is ∙ c.if-block_covers.true) c.loop-i.invariant.1)
+    record { number = sym (first_found _ 8 c.loop-i.i (omega arith) (sym is ∙ c.if-block_covers.true) c.loop-i.invariant.1); own = own }
 
 pub loop-i-preserved : goal.loop-i-preserved
 loop-i-preserved c =
@@ -51,5 +56,8 @@ loop-i-preserved c =
 pub returns : goal.returns
 returns c =
     let a = c.args in
-    let pairs = own_pairs (page_size_law (length a.page.now) c.requires) in
-    sym (none_covers a.page.now a.side a.user a.address c.loop-first.first (omega (arith, c.loop-first-test.false)) c.loop-first.invariant.2)
+    let pairs = all_pairs (page_size_law (length a.page.now) c.requires) c.loop-four.four (omega (arith, c.loop-four-test.false)) in
+    record {
+      number = sym (none_covers a.page.now a.side a.user a.address (4 * c.loop-four.four) pairs c.loop-four.invariant.1);
+      own = tt;
+    }

@@ -2,7 +2,7 @@
 -- the set's are zero, so they are off and cover nothing.
 use mathlib.Core.Path.{◌≡◌}
 use mathlib.Core.Bool.{Bool, false}
-use Prim.Native.Nat.{ℕ, ◌+◌, ◌%◌, ◌≤◌, ◌<◌, ◌-◌}
+use Prim.Native.Nat.{ℕ, ◌+◌, ◌*◌, ◌/◌, ◌≤◌, ◌<◌}
 use mathlib.Core.List.{List}
 use Rattle.registers.specs.Set.{set_words, pair_covers}
 use Rattle.register_pages.proofs.covering_pair.Given as goal
@@ -12,13 +12,7 @@ abbrev pub NoneBefore : List ℕ → Bool → Bool → ℕ → ℕ → Type 0
 NoneBefore page side user address n = (k : ℕ) → k < n → pair_covers 8 15 (set_words page) side user address k ≡ false
 
 abbrev pub invariant-loop-i : goal.invariant-loop-i
-invariant-loop-i l = (l.i ≤ l.first + 4) × NoneBefore l.page l.side l.user l.address l.i
+invariant-loop-i l = (l.i ≤ 4 * l.four + 4) × NoneBefore l.page l.side l.user l.address l.i
 
-abbrev pub decreases-loop-i : goal.decreases-loop-i
-decreases-loop-i l = l.first + 4 - l.i
-
-abbrev pub invariant-loop-first : goal.invariant-loop-first
-invariant-loop-first l = (l.first ≤ l.pairs) × (l.first % 4 ≡ 0) × NoneBefore l.page l.side l.user l.address l.first
-
-abbrev pub decreases-loop-first : goal.decreases-loop-first
-decreases-loop-first l = l.pairs - l.first
+abbrev pub invariant-loop-four : goal.invariant-loop-four
+invariant-loop-four l = (l.four ≤ l.pairs / 4) × NoneBefore l.page l.side l.user l.address (4 * l.four)

@@ -17,5 +17,4 @@ returns c = λ long side lengths sum on.
     let x = bit_and (bit_xor a.pair a.lengths) a.ones in
     let is : x ≡ asked (bl_width long) a.pair =
     ap₂ (λ (p o : ℕ). bit_and (bit_xor a.pair p) o) (lengths ∙ place_is long) c.requires in
-    let more : c.wrapping_add_u64.result ≡ (x + side_sum side) % 2 ^ 64 = c.wrapping_add_u64.ensures.value ∙ ap (λ (n : ℕ). (x + n) % 2 ^ 64) sum in
-    rw (more, is) (asked_shape long a.pair c.ranges.pair.fits side on)
+    rw (sum, is) (asked_shape long a.pair c.ranges.pair.fits side on)

@@ -27,22 +27,23 @@ real_done address length kind second = refl
 
 -- the first part's answer and what decided it
 first_is : (c : After-real_part-first) (kind : ℕ) →
-    let a = c.args in
+    let a = c.args.access in
     (c.real_part-first.result.answer ≡ real a.address a.length kind false) × (c.real_part-first.result.decision ≡ rule false)
 first_is c kind =
-    let a = c.args in
+    let a = c.args.access in
     let is = c.real_part-first.ensures kind in
     (ap (λ (p : Part). p.answer) is ∙ ap (λ (s : ℕ). answer_of kind s Real) (sym (start_first a.address a.length)), ap (λ (p : Part). p.decision) is)
 
-pub returns-then-bytes-length : goal.returns-then-bytes-length
+pub returns-then-bytes-access : goal.returns-then-bytes-access
 unfolding over_edge
-returns-then-bytes-length c kind =
-    let a = c.args in
+returns-then-bytes-access c =
+    let a = c.args.access in
+    let kind = a.kind in
     let bytes = c.first_bytes-bytes.ensures in
-    let over = lt-ltb (first_bytes a.address a.length) a.length (rw bytes at c.if-bytes-length.true) in
+    let over = lt-ltb (first_bytes a.address a.length) a.length (rw bytes at c.if-bytes-access.true) in
     let behind = c.next_start.ensures ∙ ap (λ (n : ℕ). (a.address + n) % 2 ^ 32) bytes ∙ sym (start_second a.address a.length) in
     let second = ap (λ (p : Part). p.answer) (c.real_part-second.ensures kind) ∙ ap (λ (s : ℕ). answer_of kind s Real) behind in
-    let (answer, decides) = first_is (goal.at.returns-then-bytes-length c).After-real_part-first kind in
+    let (answer, decides) = first_is (goal.at.returns-then-bytes-access c).After-real_part-first kind in
     c.across_edge.ensures
     ∙ ap₂ (λ (x y : Answer). across_edge x c.real_part-first.result.decision y c.first_bytes-bytes.result a.length) answer second
     ∙ ap₂ (λ (d : Decision) (n : ℕ). across_edge (real a.address a.length kind false) d (real a.address a.length kind true) n a.length) decides bytes
@@ -50,10 +51,11 @@ returns-then-bytes-length c kind =
 
 pub returns : goal.returns
 unfolding over_edge
-returns c kind =
-    let a = c.args in
+returns c =
+    let a = c.args.access in
+    let kind = a.kind in
     let bytes = c.first_bytes-bytes.ensures in
-    let one = le-ltb (first_bytes a.address a.length) a.length (rw bytes at c.if-bytes-length.false) in
+    let one = le-ltb (first_bytes a.address a.length) a.length (rw bytes at c.if-bytes-access.false) in
     let (answer, decides) = first_is (goal.at.returns c).After-real_part-first kind in
     c.within.ensures
     ∙ ap₂ (λ (x : Answer) (d : Decision). within x d a.length) answer decides

@@ -1,4 +1,4 @@
--- `case6` is safe: SDR1 0F980000 has its shape.
+-- `case6` is safe: SDR1 0F980000 has its shape. Unfolding the same definitions by an attribute of the function was tried and did not close it.
 use Rattle.std.specs.Prelude.{refl}
 use Rattle.std.specs.Float.Ieee.{size, span, climb}
 use Rattle.words.specs.Ones.{low_ones}

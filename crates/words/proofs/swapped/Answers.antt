@@ -1,8 +1,7 @@
--- `words::swapped` meets its contract: the four remainders are the four bytes.
-use native.Mathlib.Nat.{div-one}
-use Rattle.words.specs.Words.{swapped}
+-- `words::swapped` meets its contract: the library's reversed bytes are the word's.
+use mathlib.Core.Path.{◌∙◌}
+use Rattle.words.proofs.Words.{swap_bytes_swapped}
 use Rattle.words.proofs.swapped.Goals as goal
 
 pub returns : goal.returns
-unfolding swapped
-returns c = rw (c.word_of.ensures, div-one c.args.w)
+returns c = c.swap_bytes.ensures ∙ swap_bytes_swapped c.args.w

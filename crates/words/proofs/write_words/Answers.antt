@@ -1,5 +1,4 @@
 -- `words::write_words` meets its contract. The invariant: the first `i` words are written; once all are, their bytes fill the slice.
-use borrow.Author.Rules.{rules}
 use mathlib.Core.Path.{◌≡◌, refl, sym, ap, ◌∙◌}
 use mathlib.Core.List.{List}
 use Prim.Native.Nat.{ℕ, ◌+◌, ◌*◌, ◌<◌}
@@ -13,7 +12,7 @@ use Rattle.words.proofs.write_words.Goals as goal
 
 pub loop-i-init : goal.loop-i-init
 unfolding written
-loop-i-init c = (search rules, refl, refl)
+loop-i-init c = (refl, refl)
 
 pub loop-i-preserved : goal.loop-i-preserved
 loop-i-preserved c =
@@ -28,18 +27,14 @@ loop-i-preserved c =
     ∙ ap (written s₀ 0) (take-suc words i 0 below)
     ∙ written_more (take i words) s₀ 0 w
     ∙ ap (λ (k : ℕ). with_word (written s₀ 0 (take i words)) k w) (omega (arith, length-take-le i words (omega arith))) in (
-      search rules,
-      ap length done ∙ length_with_word c.loop-i.s (4 * i) w ∙ c.loop-i.invariant.1,
-      done ∙ ap (λ (l : List ℕ). with_word l (4 * i) w) c.loop-i.invariant.2 ∙ sym next,
+      ap length done ∙ length_with_word c.loop-i.s (4 * i) w ∙ c.loop-i.invariant.0,
+      done ∙ ap (λ (l : List ℕ). with_word l (4 * i) w) c.loop-i.invariant.1 ∙ sym next,
     )
-
-pub shape_of-s : goal.shape_of-s
-shape_of-s c = c.loop-i.invariant.1
 
 pub returns : goal.returns
 returns c =
     let words = c.args.words.now in
     let end : c.loop-i.i ≡ length words = omega arith in
-    c.loop-i.invariant.2
+    c.loop-i.invariant.1
     ∙ ap (written c.args.s.now 0) (ap (λ (k : ℕ). take k words) end ∙ take-length words)
     ∙ written_all words c.args.s.now c.requires

@@ -1,12 +1,8 @@
 -- `words::write_words` meets its contract. The invariant: the first `i` words are written; once all are, their bytes fill the slice.
 use mathlib.Core.Path.{◌≡◌}
-use Prim.Native.Nat.{◌-◌, ◌≤◌}
 use lib.ListN.{length, take}
 use Rattle.words.proofs.Words.{written}
 use Rattle.words.proofs.write_words.Given as goal
 
 abbrev pub invariant-loop-i : goal.invariant-loop-i
-invariant-loop-i l = (l.i ≤ length l.words) × (length l.s ≡ length l.initial.s) × (l.s ≡ written l.initial.s 0 (take l.i l.words))
-
-abbrev pub decreases-loop-i : goal.decreases-loop-i
-decreases-loop-i l = length l.words - l.i
+invariant-loop-i l = (length l.s ≡ length l.initial.s) × (l.s ≡ written l.initial.s 0 (take l.i l.words))

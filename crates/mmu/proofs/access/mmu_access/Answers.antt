@@ -21,9 +21,10 @@ lengths c =
 pub returns-then-not-is_page-answer : goal.returns-then-not-is_page-answer
 returns-then-not-is_page-answer c =
     let a = c.args in
-    sym
+    rw c.from.ensures
+    (sym
     (access_wrong_length (record { registers = a.registers.now; mode = a.mode; kind = a.kind; address = a.address; length = a.length; answer = a.answer.now }) a.table.now
-    (ap (λ (b : Bool). b && eqb (length a.answer.now) 48) (sym c.is_page.ensures) ∙ c.if-not-is_page-answer.true))
+    (ap (λ (b : Bool). b && eqb (length a.answer.now) 48) (sym c.is_page.ensures) ∙ c.if-not-is_page-answer.true)))
 
 pub translate-requires : goal.translate-requires
 translate-requires c = let (page, answer) = lengths (goal.at.translate-requires c).Else-not-is_page-answer in (page, λ other. refl, answer)

@@ -38,9 +38,10 @@ one_wrong c lent wrong = go (eqb (length lent.1) 2048) refl (is_page (length c.r
 pub returns-then-not-lent-cache : goal.returns-then-not-lent-cache
 returns-then-not-lent-cache c =
     let a = c.args in
-    sym
+    rw c.from.ensures
+    (sym
     (one_wrong (record { registers = a.registers.now; mode = a.mode; kind = a.kind; address = a.address; length = a.length; answer = a.answer.now }) (a.table.now, a.cache.now)
-    (ap (λ (b : Bool). (b && eqb (length a.answer.now) 48) && eqb (length a.cache.now) 2048) (sym c.is_page.ensures) ∙ c.if-not-lent-cache.true))
+    (ap (λ (b : Bool). (b && eqb (length a.answer.now) 48) && eqb (length a.cache.now) 2048) (sym c.is_page.ensures) ∙ c.if-not-lent-cache.true)))
 
 pub translate-requires : goal.translate-requires
 translate-requires c = let (page, answer, cache) = lengths (goal.at.translate-requires c).Else-not-lent-cache in (page, λ other. absurd (other cache), answer)

@@ -141,6 +141,12 @@ class Edit:
     def areas(self):
         return {name.split("/")[0] for name, _, _ in self.pairs}
 
+    def has_function(self, name):
+        """Whether the crate has a public function of this name; `Type::name` names a method."""
+        paths = glob.glob(os.path.join(ROOT, "crates", self.crate, "src", "**", "*.rt"), recursive=True)
+        sources = "".join(open(path, encoding="utf-8").read() for path in paths)
+        return re.search(rf"\bpub fn {re.escape(name.split('::')[-1])}\b", sources) is not None
+
     @property
     def of_code(self):
         return self.areas == {"src"}
@@ -163,6 +169,8 @@ def breach(edit, known):
     if len(edit.areas) != 1:
         return "changes code and definitions at once"
     if edit.of_code:
+        if "function" in edit.said and not edit.has_function(edit.said["function"]):
+            return f"names no public function of its crate: {edit.said['function']}"
         return None if set(edit.said) & {"call", "machine", "reading", "quick", "function"} else "does not say whose wrong program it is"
     if edit.said.get("by") not in known:
         return f"names no statement of specs/ that refuses it: {edit.said.get('by')}"
@@ -212,6 +220,7 @@ RULES = [
     (True, "It is wrong.\nby: Rows\nfile: specs/A.antt\nold: a\nnew: b\n"),
     (True, "It is wrong.\ncall: mmu_map\nfile: src/lib.rt\nold: a\nnew: b\n"),
     (True, "It is wrong.\nfunction: result_of\nfile: src/lib.rt\nold: a\nnew: b\n"),
+    (False, "It is wrong.\nfunction: result_off\nfile: src/lib.rt\nold: a\nnew: b\n"),
 ]
 
 
@@ -224,7 +233,7 @@ def self_test():
     if TOLD.findall("rt: edit 2 of 3: must-fail low/e.edit: NOT TRIED: x\nrt: must-fail low/f-2.edit: refused, as it must be\n") != [("low", "e", "NOT TRIED: x"), ("low", "f-2", "refused, as it must be")]:
         wrong.append("the lines of rt")
     wrong += [edit for wanted, edit in EDITS if (fault(Edit(edit)) is None) != wanted]
-    wrong += [edit for wanted, edit in RULES if (breach(Edit(edit), {"Rows"}) is None) != wanted]
+    wrong += [edit for wanted, edit in RULES if (breach(Edit(edit, "numbers"), {"Rows"}) is None) != wanted]
     whole = [sample("mmu", "src", "call: mmu_map"), sample("page_calls", "src", "call: mmu_map")]
     both = [sample("theory_calls", area, f"{key}: {number}") for area in ("src", "specs") for key, last in (("machine", 6), ("reading", 5)) for number in range(1, last + 1)]
     if lacking(whole + both, ["mmu_map"]):
@@ -277,7 +286,8 @@ PROGRAMS = """
 ## Wrong programs
 
 Each changes the code alone, and is refused since the contract is an equation with the definition: two for each exported
-call, the machines and readings of document 01, and one for each quick path that would let something through.
+call, the machines and readings of document 01, one for each quick path that would let something through, and one for
+each public function of the design pass that none of these names.
 
 | wrong program | edit | of |
 |---|---|---|

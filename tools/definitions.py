@@ -51,7 +51,7 @@ ORDER = [
 
 WORD = re.compile(r"[^\s(){},;.]+")
 USE = re.compile(r"use Rattle\.(\w+)\.specs\.(\w+)\.\{([^}]*)\}")
-DECLARED = re.compile(r"use Rattle\.(\w+)\.specs\.declared\.(?:\w+\.)?(?!TheVariants)(\w+)(?:\.TheVariants)?\.\{([^}]*)\}")
+DECLARED = re.compile(r"use Rattle\.(\w+)\.specs\.declared\.(?:\w+\.)?(?!TheVariants)(\w+)(?:\.TheVariants)?(?:\.\{([^}]*)\}| as (\w+))")
 HEAD = re.compile(r"(?:(?:abbrev|unfoldable|pub|record|data) )+([^\s(){}:]+)\s*(?:[({:]|$)")
 MARKS = re.compile(r"^(\s*)(?:(?:unfoldable|abbrev|pub) )+(?!mod |use )")
 
@@ -101,8 +101,8 @@ def read(path):
     for crate, module, names in USE.findall(text):
         for name in names.split(","):
             imported[name.split(" as ")[0].strip()] = (crate, module)
-    for crate, declared, names in DECLARED.findall(text):
-        for name in names.split(","):
+    for crate, declared, names, alias in DECLARED.findall(text):
+        for name in (alias or names).split(","):
             imported[name.strip()] = (crate, "the type " + declared)
     definitions = {}
     for block, sections in blocks_of(text):

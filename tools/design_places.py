@@ -105,7 +105,7 @@ def point_1_types(name, text, out):
             out["1 a struct with a flag or a number beside values"].append(f"{name}:{line_of(text, found.start())} {found[1]} ({', '.join(flags)})")
 
 
-CODES = r"REFUSED_\w+|RULE_\w+|FETCH|LOAD|STORE|NO_MATCH|NO_FETCH|PROTECTION|NO_ENTRY|NONE|AGREE|DIFFER"
+CODES = r"REFUSED_\w+|RULE_\w+|FETCH|LOAD|STORE|NO_MATCH|NO_FETCH|PROTECTION|NO_ENTRY|HIT_ENTRY|NONE|AGREE|DIFFER"
 
 
 def point_1_lines(name, text, out):

@@ -5,15 +5,17 @@
 ghost use Rattle.std.specs.Prelude.{◌≡◌, true, List, ℕ, length};
 ghost use Rattle.register_words.specs.Sdr1.{mask_ones};
 ghost use Rattle.register_words.specs.Block.{bl_width};
-ghost use Rattle.registers.specs.Set.{is_page, block_pairs, sdr1_of, set_words};
+ghost use Rattle.registers.specs.Set.{block_pairs, sdr1_of, set_words};
+ghost use Rattle.groups.specs.Hash.{TableOf};
 ghost use Rattle.translation.specs.Steps.{before_search};
 ghost use Rattle.theory_calls.specs.Request.{access, fed};
 ghost use Rattle.theory_calls.specs.Rules.{refusal};
-ghost use Rattle.table_access.specs.Part.{PageAndTable, table_found, part_by};
+ghost use Rattle.table_access.specs.Part.{table_found, part_by};
 ghost use Rattle.access_rights.specs.Rights.{asking, would_end};
 ghost use Rattle.access_rights.specs.Held.{right_refused, rights_refused, stands_at, StandsIn, newly_marked, Tells, TellsAll};
 
 use numbers::Refusal;
+use register_pages::RegisterPage;
 use std::ops::ControlFlow;
 use table_access::{Access, Found, Part};
 use translation::operand::OperandAnswer;
@@ -72,16 +74,17 @@ impl Rights {
 
 // What stands at an address, by one search for the three kinds.
 #[tactic(auto, using(table_access::proofs::Parts::covered_is, entry::proofs::Addresses::index_lt), unfolding(register_words::specs::Segment::segment_vsid))]
-fn standing_at(registers: &[u8], mode: u32, address: u32, table: &[u8]) -> Standing
-    requires { PageAndTable registers.now table.now }
-    ensures { result ≡ stands_at (set_words registers.now) mode address (mask_ones (sdr1_of (set_words registers.now))) table.now }
+fn standing_at(registers: RegisterPage<'_>, mode: u32, address: u32, table: &[u8]) -> Standing
+    requires { TableOf (sdr1_of (set_words registers.bytes.now)) (length table.now) }
+    ensures { result ≡ stands_at (set_words registers.entry.bytes.now) mode address
+        (mask_ones (sdr1_of (set_words registers.entry.bytes.now))) table.now }
 {
     let user = protection::user_mode(mode);
-    let segment = register_pages::segment(registers, (address >> 28) as usize);
+    let segment = registers.segment((address >> 28) as usize);
     let wanted = translation::wanted_of(user, segment, address);
     Standing {
-        ibat: register_pages::covering_pair(registers, false, user, address),
-        dbat: register_pages::covering_pair(registers, true, user, address),
+        ibat: registers.covering_pair(false, user, address),
+        dbat: registers.covering_pair(true, user, address),
         found: table_access::search(table, wanted),
     }
 }
@@ -89,12 +92,11 @@ fn standing_at(registers: &[u8], mode: u32, address: u32, table: &[u8]) -> Stand
 // Steps 1 to 6 of an access, by what stands at its address.
 #[inline(always)]
 #[tactic(auto, using(translation::proofs::Steps::before_real, translation::proofs::Steps::searches), unfolding(table_access::specs::Part::begun_by, table_access::specs::Part::part_by, protection::specs::Access::side_of))]
-fn part_at(registers: &[u8], asked: Access, at: Standing) -> Part
-    requires { (is_page (length registers.now) ≡ true)
-        × ((k : ℕ) × ((t : List ℕ) × (at ≡ stands_at (set_words registers.now) asked.mode asked.address k t))) }
-    ensures { (k : ℕ) (t : List ℕ) → at ≡ stands_at (set_words registers.now) asked.mode asked.address k t
+fn part_at(registers: RegisterPage<'_>, asked: Access, at: Standing) -> Part
+    requires { (k : ℕ) × ((t : List ℕ) × (at ≡ stands_at (set_words registers.bytes.now) asked.mode asked.address k t)) }
+    ensures { (k : ℕ) (t : List ℕ) → at ≡ stands_at (set_words registers.entry.bytes.now) asked.mode asked.address k t
         → result ≡ part_by asked.kind asked.address (table_found k t)
-        (before_search (block_pairs true) (bl_width true) (set_words registers.now) asked.mode asked.kind asked.address) }
+        (before_search (block_pairs true) (bl_width true) (set_words registers.entry.bytes.now) asked.mode asked.kind asked.address) }
 {
     if !protection::is_relocated(asked.mode, asked.kind) {
         return table_access::real_part(asked.address);
@@ -123,12 +125,12 @@ fn new_marks(kind: u32, found: Found) -> u32
 
 // What an access of one byte that its arguments do not refuse would come to.
 #[inline(always)]
-fn right_of(registers: &[u8], asked: Access, at: Standing) -> Right
-    requires { (is_page (length registers.now) ≡ true)
-        × ((t : List ℕ) × StandsIn (record { registers = registers.now; mode = asked.mode; address = asked.address }) t at) }
-    ensures { (t : List ℕ) → StandsIn (record { registers = registers.entry.now; mode = asked.mode; address = asked.address }) t at
-        → refusal (fed (access (asking (record { registers = registers.entry.now; mode = asked.mode; address = asked.address }) asked.kind))) (length t) ≡ 0
-        → Tells t (would_end (record { registers = registers.entry.now; mode = asked.mode; address = asked.address }) t asked.kind) result }
+fn right_of(registers: RegisterPage<'_>, asked: Access, at: Standing) -> Right
+    requires { (t : List ℕ) × StandsIn (record { registers = registers.bytes.now; mode = asked.mode; address = asked.address }) t at }
+    ensures { (t : List ℕ) → StandsIn (record { registers = registers.entry.bytes.now; mode = asked.mode; address = asked.address }) t at
+        → refusal (fed (access (asking (record { registers = registers.entry.bytes.now; mode = asked.mode; address = asked.address })
+        asked.kind))) (length t) ≡ 0
+        → Tells t (would_end (record { registers = registers.entry.bytes.now; mode = asked.mode; address = asked.address }) t asked.kind) result }
 {
     let part = part_at(registers, asked, at);
     let answer = part.answer;
@@ -145,9 +147,13 @@ fn right_of(registers: &[u8], asked: Access, at: Standing) -> Right
 }
 
 // What the three accesses of one byte would come to, where the lent lengths are right, or the rule that refuses each of them.
-pub fn tell(registers: &[u8], mode: u32, address: u32, table: &[u8]) -> Result<Rights, Refusal>
-    requires { is_page (length registers.now) ≡ true }
-    ensures { TellsAll (record { registers = registers.entry.now; mode = mode; address = address }) table.now result }
+pub fn tell(
+    registers: RegisterPage<'_>,
+    mode: u32,
+    address: u32,
+    table: &[u8],
+) -> Result<Rights, Refusal>
+    ensures { TellsAll (record { registers = registers.entry.bytes.now; mode = mode; address = address }) table.now result }
 {
     let fetch = Access {
         mode,

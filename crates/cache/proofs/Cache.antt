@@ -30,7 +30,8 @@ use Rattle.words.specs.Words.{word_at, with_word}
 use Rattle.words.proofs.Tests.{both, by_test, three}
 use Rattle.words.proofs.Words.{length_with_word, word_before, word_behind, word_same, sets_before, sets_behind, sets_in}
 use Rattle.entry.specs.Entry.{changed}
-use Rattle.groups.specs.Page.{Page, InRange}
+use Rattle.groups.specs.declared.Page.{Page}
+use Rattle.groups.specs.Page.{InRange}
 use Rattle.cache.specs.Cache.{set_of, place_at, first_in, second_in, index_in, newer_in, holds, met, hit, older_place, load_place, put_place, loaded, set_zeroed}
 
 -- ---- where sets and places lie

@@ -15,7 +15,8 @@ use Rattle.words.specs.Words.{word_at, with_word}
 use Rattle.words.proofs.Tests.{by_test, three}
 use Rattle.words.proofs.Words.{byte_before, byte_behind, word_before, word_behind, word_same}
 use Rattle.entry.specs.Entry.{changed}
-use Rattle.groups.specs.Page.{Page, InRange}
+use Rattle.groups.specs.declared.Page.{Page}
+use Rattle.groups.specs.Page.{InRange}
 use Rattle.cache.specs.Cache.{set_of, place_at, first_in, index_in, newer_in, holds, met, hit, load_place, put_place, loaded, set_zeroed}
 use Rattle.cache.specs.Placed.{Placed}
 use Rattle.cache.proofs.Cache.{place_0, place_1, place_in, place_le, hit_0, hit_1, hit_none, load_0, holds_same, same_first, same_second, same_index, same_newer, same_holds, same_hit, same_load, length_put, put_newer, number_of, kept, loaded_first, loaded_second, loaded_index, zeroed_out_of, zeroed_same}

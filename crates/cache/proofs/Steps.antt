@@ -1,22 +1,24 @@
 -- What the functions' proofs cite: the test of a place as the code makes it, what a hit, a load and a zeroed set are by what the code found.
 use mathlib.Core.Bool.{Bool, true, false, not, ◌&&◌}
-use mathlib.Core.List.{List, ◌++◌, append_assoc}
+use mathlib.Core.List.{List, [], ◌∷◌, ◌++◌, append_assoc}
 use mathlib.Core.Option.{none, some}
-use mathlib.Core.Path.{◌≡◌, sym, ap, ap₂, ◌∙◌}
-use Prim.Native.Nat.{ℕ, ◌+◌, ◌-◌, ◌*◌, ◌/◌, ◌^◌, ◌<◌, ◌≤◌}
+use mathlib.Core.Path.{◌≡◌, refl, sym, ap, ap₂, ◌∙◌}
+use Prim.Native.Nat.{ℕ, suc, ◌+◌, ◌-◌, ◌*◌, ◌/◌, ◌^◌, ◌<◌, ◌≤◌}
+use native.Mathlib.Nat.{add-zero}
 use native.Mathlib.Omega.{arith}
 use borrow.Author.Tests.{eqb-true, eq-eqb}
 use borrow.Rule.Slice.PartMut.{put_mid, mid_of, Post-is, mid_len}
 use lib.Bits.{bit_or}
 use lib.Dec.{eqb}
-use lib.ListN.{length, replicate, take, drop, length-replicate}
+use lib.ListN.{length, set, replicate, take, drop, length-replicate}
 use lib.Seq.{sets, sets-eq}
 use Rattle.words.specs.Bits.{bits}
-use Rattle.words.specs.Words.{with_word}
+use Rattle.words.specs.Words.{word_bytes, with_word, bytes_of}
 use Rattle.words.proofs.Masks.{or_bit}
+use Rattle.words.proofs.Words.{length_word_bytes}
 use Rattle.words.proofs.Tests.{both, same_test}
 use Rattle.entry.specs.Entry.{changed}
-use Rattle.groups.specs.Page.{Page}
+use Rattle.groups.specs.declared.Page.{Page}
 use Rattle.cache.specs.Cache.{set_of, place_at, first_in, second_in, holds, met, load_place, put_place, loaded, set_zeroed}
 use Rattle.cache.proofs.Cache.{set_lt, place_0, place_1}
 
@@ -80,22 +82,53 @@ module _ (page : Page) (first second : ℕ) (cache : List ℕ) where
     loaded_1 put e =
         rw put (ap₂ written (omega (arith, place_1 page.index)) (omega (arith, place_0 page.index)) ∙ sym (loaded_by_law true e))
 
--- ---- a set lent as a part of the cache and zeroed
+-- ---- a part of the cache that was lent
 
--- a part that comes back with zeros is a run of stores of zeros
-part_zeros : (n a : ℕ) (s b : List ℕ) → a + n ≤ length s → b ≡ replicate (length (mid_of a (a + n - a) s)) 0
-    → put_mid a (a + n - a) s b ≡ sets s a (replicate n 0)
-part_zeros n a s b inside zeros =
-    let width : a + n - a ≡ n = omega arith in
-    let full : b ≡ replicate n 0 = zeros ∙ ap (λ (k : ℕ). replicate k 0) (mid_len a (a + n) s inside ∙ width) in
-    let v : List ℕ = replicate n 0 in
-    let end : a + length v ≡ a + n = ap (λ (k : ℕ). a + k) (length-replicate n 0) in
-    ap₂ (λ (x y : List ℕ). take a s ++ (x ++ y)) full (Post-is a (a + n) s (omega arith))
+-- a part that comes back with n bytes is a run of stores of them
+part_stored : (v : List ℕ) (n a : ℕ) (s b : List ℕ) → length v ≡ n → a + n ≤ length s → b ≡ v → put_mid a (a + n - a) s b ≡ sets s a v
+part_stored v n a s b has inside is =
+    let end : a + length v ≡ a + n = ap (λ (k : ℕ). a + k) has in
+    ap₂ (λ (x y : List ℕ). take a s ++ (x ++ y)) is (Post-is a (a + n) s (omega arith))
     ∙ sym (append_assoc (take a s) v (drop (a + n) s))
     ∙ sym (sets-eq v s a (rw end inside) ∙ ap (λ (k : ℕ). take a s ++ v ++ drop k s) end)
+
+-- one run of stores behind another
+sets_append : (us vs l : List ℕ) (i : ℕ) → sets l i (us ++ vs) ≡ sets (sets l i us) (i + length us) vs
+sets_append [] vs l i = ap (λ (k : ℕ). sets l k vs) (sym (add-zero i))
+sets_append (a ∷ us) vs l i =
+    sets_append us vs (set l i a) (suc i) ∙ ap (λ (k : ℕ). sets (sets (set l i a) (suc i) us) k vs) (omega arith)
+
+-- a run of stores that begins with a word's bytes
+word_first : (w : ℕ) (rest s : List ℕ) (at : ℕ) → sets s at (word_bytes w ++ rest) ≡ sets (with_word s at w) (at + 4) rest
+unfolding with_word
+word_first w rest s at =
+    sets_append (word_bytes w) rest s at ∙ ap (λ (k : ℕ). sets (sets s at (word_bytes w)) (at + k) rest) (length_word_bytes w)
+
+-- the bytes of four words, stored, are a place
+four_words : (s : List ℕ) (at first second index newer : ℕ)
+    → sets s at (bytes_of (first ∷ second ∷ index ∷ newer ∷ [])) ≡ put_place s at first second index newer
+unfolding bytes_of put_place
+four_words s at first second index newer =
+    word_first first _ s at
+    ∙ word_first second _ (with_word s at first) (at + 4)
+    ∙ word_first index _ (with_word (with_word s at first) (at + 4) second) (at + 4 + 4)
+    ∙ word_first newer [] (with_word (with_word (with_word s at first) (at + 4) second) (at + 4 + 4) index) (at + 4 + 4 + 4)
+    ∙ ap₂ (λ (x y : ℕ). with_word (with_word (with_word (with_word s at first) (at + 4) second) x index) y newer) (omega arith) (omega arith)
+
+sixteen : (first second index newer : ℕ) → length (bytes_of (first ∷ second ∷ index ∷ newer ∷ [])) ≡ 16
+unfolding bytes_of word_bytes
+sixteen first second index newer = refl
+
+pub placed_part : (cache b : List ℕ) (at first second index : ℕ) → at + 16 ≤ length cache → b ≡ bytes_of (first ∷ second ∷ index ∷ 1 ∷ [])
+    → put_mid at (at + 16 - at) cache b ≡ put_place cache at first second index 1
+placed_part cache b at first second index inside is =
+    part_stored _ 16 at cache b (sixteen first second index 1) inside is ∙ four_words cache at first second index 1
 
 pub zeroed_part : (cache b : List ℕ) (index start : ℕ) → length cache ≡ 2048 → start ≡ 32 * set_of index
     → b ≡ replicate (length (mid_of start (start + 32 - start) cache)) 0 → put_mid start (start + 32 - start) cache b ≡ set_zeroed index cache
 unfolding set_zeroed
 zeroed_part cache b index start whole at zeros =
-    part_zeros 32 start cache b (omega (arith, set_lt index)) zeros ∙ ap (λ (a : ℕ). sets cache a (replicate 32 0)) at
+    let inside : start + 32 ≤ length cache = omega (arith, set_lt index) in
+    let width : start + 32 - start ≡ 32 = omega arith in
+    let full : b ≡ replicate 32 0 = zeros ∙ ap (λ (k : ℕ). replicate k 0) (mid_len start (start + 32) cache inside ∙ width) in
+    part_stored (replicate 32 0) 32 start cache b (length-replicate {A = ℕ} 32 0) inside full ∙ ap (λ (a : ℕ). sets cache a (replicate 32 0)) at

@@ -7,7 +7,7 @@ use Rattle.words.specs.Bits.{bits}
 use Rattle.words.specs.Words.{word_at, with_word}
 use Rattle.entry.specs.Entry.{changed}
 use Rattle.entry.specs.declared.Words.{Words}
-use Rattle.groups.specs.Page.{Page}
+use Rattle.groups.specs.declared.Page.{Page}
 
 -- the length of a cache
 abbrev pub cache_size : ℕ

@@ -4,7 +4,7 @@ use Rattle.std.proofs.Math.Option.{none, some}
 use Rattle.std.specs.Int.Bits.{bit_xor}
 use Rattle.words.specs.Rows.{Hold, each_bit, only_at}
 use Rattle.words.specs.Words.{bytes_of}
-use Rattle.groups.specs.Page.{Page}
+use Rattle.groups.specs.declared.Page.{Page}
 use Rattle.groups.specs.Examples.{page_at}
 use Rattle.cache.specs.Cache.{cache_size, set_of, place_at, holds, hit, older_place, load_place, loaded, set_zeroed}
 

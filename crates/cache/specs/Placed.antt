@@ -1,6 +1,6 @@
 -- What a load of a page into a place does to the page's set, by the cache before it and the cache that it leaves.
 use Rattle.std.specs.Prelude.{ℕ, Bool, true, not, List, ◌≡◌}
-use Rattle.groups.specs.Page.{Page}
+use Rattle.groups.specs.declared.Page.{Page}
 use Rattle.cache.specs.Cache.{first_in, second_in, index_in, newer_in, holds}
 
 pub record Placed (page : Page) (place : Bool) (cache left : List ℕ) : Type 0 where

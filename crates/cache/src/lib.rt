@@ -34,6 +34,8 @@ fn holds(cache: &[u8], at: usize, page: Page) -> bool
 }
 
 // What the cache has of a page, place 0 of its set first: the two words of its entry. A store that meets C clear is no hit.
+// Length and VSID stay clauses here and below: the slice that an access lends may be empty, so its caller would make an array of it where it now asks
+// its length, which is no plainer; and a page has no invariant (docs/DECISIONS.md, 164).
 pub fn find(cache: &[u8], storing: bool, page: Page) -> Option<Words>
     requires { (length cache.now ≡ cache_size) × (page.vsid < 2 ^ 24) }
     ensures { found result ≡ hit storing cache.now page }
@@ -74,15 +76,15 @@ fn load_place(cache: &[u8], start: usize, page: Page) -> bool
 }
 
 // Writes the two words of an entry, a page index and 1 as the place that begins at a byte.
-#[tactic(auto, unfolding(crate::specs::Cache::put_place))]
+#[tactic(auto, using(crate::proofs::Steps::placed_part))]
 fn write_place(cache: &mut [u8], at: usize, words: Words, index: u32)
     requires { at + 16 ≤ length cache.old }
     ensures { cache.new ≡ put_place cache.old at words.first words.second index 1 }
 {
-    words::write_word(cache, at, words.first);
-    words::write_word(cache, at + 4, words.second);
-    words::write_word(cache, at + 8, index);
-    words::write_word(cache, at + 12, 1);
+    words::write_words(
+        &mut cache[at..at + PLACE_SIZE],
+        &[words.first, words.second, index, 1],
+    );
 }
 
 // Loads a page with the two words of its entry. The other place of the set is not the newer load any more.

@@ -31,7 +31,7 @@ pub struct Words {
 }
 
 // The first word of an entry.
-// (Packing stays by shifts and masks, here and below: a form that the rules bind.)
+// Packing stays by shifts and masks, here and below: a binding form (docs/DECISIONS.md, forms).
 pub fn first_word(v: u32, vsid: u32, h: u32, api: u32) -> u32
     requires { (v < 2 ^ 1) × (vsid < 2 ^ 24) × (h < 2 ^ 1) × (api < 2 ^ 6) }
     ensures { result ≡ first_word v vsid h api }
@@ -109,6 +109,7 @@ pub fn secondary_word(primary: u32) -> u32
 }
 
 // The first word of a page's entry in its primary (false) or secondary group (true), by the word that matches in the primary.
+// Stays beside `Located::wanted_in` of groups, the same in reverse order: `page_calls::map_page` calls it, and a public function keeps its promise.
 pub fn first_in(secondary: bool, primary: u32) -> u32
     ensures { (vsid api : ℕ) → vsid < 2 ^ 24 → api < 2 ^ 6 → primary ≡ swapped (first_word 1 vsid 0 api) → result ≡ first_word 1 vsid (cond secondary 1 0) api }
 {
@@ -129,6 +130,7 @@ pub fn is_free(first: u32) -> bool
 }
 
 // Whether R is set in a second word.
+// This and `is_changed` stay two: each is a sentence of the rules by its own name, and one function with the bit as a number is no plainer.
 #[tactic(auto, unfolding(crate::specs::Entry::referenced))]
 pub fn is_referenced(second: u32) -> bool
     ensures { result ≡ referenced second }
@@ -148,7 +150,7 @@ pub fn is_changed(second: u32) -> bool
 pub fn with_marks(second: u32, referenced: bool, changed: bool) -> u32
     ensures { result ≡ with_marks referenced changed second }
 {
-    second | ((referenced as u32) << 8) | ((changed as u32) << 7)
+    second | (u32::from(referenced) << 8) | (u32::from(changed) << 7)
 }
 
 // A second word with another PP.
@@ -160,7 +162,7 @@ pub fn with_pp(second: u32, pp: u32) -> u32
 }
 
 // The VSID of a first word.
-// (What is read of one word stays a function of it: a search and a cache read one word of the two, and a `Words` would have to be made for it.)
+// What is read of one word stays a function of it: a search and a cache read one word of the two, and a `Words` would have to be made for it.
 pub fn vsid_of(first: u32) -> u32
     ensures { result ≡ bits 1 24 first }
 {

@@ -25,7 +25,8 @@ use Rattle.words.proofs.Tests.{both}
 use Rattle.entry.specs.Entry.{api_of}
 use Rattle.register_words.specs.Sdr1.{origin_of, mask_of, sdr1_shape, table_length, mask_ones, hash_bits}
 use Rattle.register_words.proofs.Sdr1.{mask_is, length_is}
-use Rattle.groups.specs.Page.{Page, same_page}
+use Rattle.groups.specs.declared.Page.{Page}
+use Rattle.groups.specs.Page.{same_page}
 use Rattle.groups.specs.Hash.{hash_of, primary_group, secondary_group, groups_of, group_number, group_address}
 
 -- ---- exclusive or undoes itself

@@ -4,7 +4,8 @@ use Rattle.std.specs.Prelude.{ℕ, ◌-◌, ◌^◌, true, false, List, [], ◌�
 use Rattle.words.specs.Rows.{Hold, powers}
 use Rattle.words.specs.Words.{bytes_of}
 use Rattle.register_words.specs.Sdr1.{hash_bits}
-use Rattle.groups.specs.Page.{Page, same_page}
+use Rattle.groups.specs.declared.Page.{Page}
+use Rattle.groups.specs.Page.{same_page}
 use Rattle.groups.specs.Hash.{hash_of, groups_of, group_number, group_address}
 use Rattle.groups.specs.Group.{group_of, first_of, second_of, put_at, place, first_free_place, free_after}
 

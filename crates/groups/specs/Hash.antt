@@ -5,7 +5,7 @@ use Rattle.words.specs.Bits.{placed}
 use Rattle.words.specs.Words.{swapped}
 use Rattle.entry.specs.Entry.{first_word, api_of}
 use Rattle.register_words.specs.Sdr1.{origin_of, sdr1_shape, table_length}
-use Rattle.groups.specs.Page.{Page}
+use Rattle.groups.specs.declared.Page.{Page}
 use Rattle.groups.specs.declared.Groups.{Groups}
 use Rattle.groups.specs.declared.Located.{Located}
 

@@ -1,9 +1,6 @@
 -- A virtual page (rules 4): a VSID and a page index.
 use Rattle.std.specs.Prelude.{◌^◌, ◌<◌, Bool, ◌&&◌, eqb}
-use Rattle.groups.specs.declared.Page as declared
-
-abbrev pub Page : Type 0
-Page = declared.Page
+use Rattle.groups.specs.declared.Page.{Page}
 
 -- a VSID below 2 ^ 24 and a page index below 65,536
 pub record InRange (page : Page) : Type 0 where

@@ -11,6 +11,7 @@ ghost use Rattle.groups.specs.Hash.{hash_of, groups_of, group_address, located};
 ghost use Rattle.groups.specs.Group.{first_of, second_of, put_entry, put_at, entry_free, first_free_place, free_after};
 
 // A virtual page: a VSID and a page index.
+// Has no invariant, so that `InRange` stands in contracts: `page_calls::page_in_range` asks a page of any numbers, and `cache::find` takes any page index.
 #[derive(Clone, Copy, PartialEq, Eq, Debug)]
 pub struct Page {
     pub vsid: u32,
@@ -99,8 +100,8 @@ pub fn locate(lent: usize, page: Page) -> Located
 }
 
 // Whether an entry of a group has V = 0: V is the highest bit of its first byte.
-fn entry_free(group: &[u8], entry: usize) -> bool
-    requires { (entry < group_entries) × (length group.now ≡ group_size) }
+fn entry_free(group: &[u8; numbers::GROUP_SIZE], entry: usize) -> bool
+    requires { entry < group_entries }
     ensures { result ≡ entry_free group.now entry }
 {
     group[numbers::ENTRY_SIZE * entry] < 0x80
@@ -111,8 +112,7 @@ fn entry_free(group: &[u8], entry: usize) -> bool
 // eight bytes in every definition, and chunks of the group would be a second way to say that. It is joined with every caller: out of line a map with
 // its unmap takes 365 instructions in place of 297.)
 #[inline(always)]
-pub fn free_after(before: u32, group: &[u8]) -> u32
-    requires { length group.now ≡ group_size }
+pub fn free_after(before: u32, group: &[u8; numbers::GROUP_SIZE]) -> u32
     ensures { before < 2 ^ group_entries → result ≡ free_after before group.now }
 {
     let mut free = before;
@@ -151,6 +151,8 @@ pub fn free_place(free: u32) -> Option<Place>
 }
 
 // The second word of an entry of a group of the table.
+// Table, group and entry stay three here and in the three functions below: a table is lent anew to each call, so that a value of group and entry could
+// not promise that they lie in it, and the bounds would be asked all the same.
 pub fn second_of(table: &[u8], group: usize, entry: usize) -> u32
     requires { (entry < group_entries) × (group_size * group + group_size ≤ length table.now) }
     ensures { result ≡ second_of table.now group entry }
@@ -162,6 +164,9 @@ pub fn second_of(table: &[u8], group: usize, entry: usize) -> u32
 }
 
 // Writes two words as an entry of the one group that it is handed.
+// (The group that is written stays a slice with its length in a clause, here and in `match_edits::edit_group`, where one that is read is an array: tried as
+// `&mut [u8; 64]` by `split_at_mut` and `first_chunk_mut`, it proves and misses a bar of speed: a map with its unmap takes 345 instructions in place of
+// 289. Of `&mut table[from..to]` by `as_mut_array` the proof is not told what was written.)
 #[tactic(auto, unfolding(crate::specs::Group::put_entry))]
 pub fn write_entry(group: &mut [u8], entry: usize, first: u32, second: u32)
     requires { (entry < group_entries) × (length group.old ≡ group_size) }

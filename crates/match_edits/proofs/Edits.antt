@@ -3,26 +3,18 @@ use mathlib.Core.Path.{◌≡◌, refl, sym, ap, ap₂, ◌∙◌}
 use mathlib.Core.Logic.{◌≢◌}
 use mathlib.Core.Bool.{Bool, true, false}
 use mathlib.Core.List.{List, [], ◌∷◌, ◌++◌, foldl-append, Memᴰ}
-use Prim.Native.Nat.{ℕ, ◌+◌, ◌*◌, ◌^◌, ◌≤◌, ◌<◌}
+use Prim.Native.Nat.{ℕ, ◌+◌, ◌*◌, ◌≤◌}
 use native.Mathlib.Omega.{arith}
 use lib.ListN.{length}
-use Rattle.entry.proofs.Marks.{with_pp_lt}
 use Rattle.theory_tables.specs.Matches.{Match}
 use Rattle.groups.specs.Group.{group_of, on_group, first_at, second_at, put_entry, put_at}
 use Rattle.matches.specs.Search.{matches_to, group_matches, pair_matches}
-use Rattle.match_edits.specs.Edit.{EditFits, edited, edit_each, edit_matches, put_each}
+use Rattle.match_edits.specs.Edit.{edited, edit_each, edit_matches, put_each}
 use Rattle.match_edits.specs.declared.Edit.{Edit}
-use Rattle.match_edits.specs.declared.Edit.TheVariants.{Clear, Protect}
 use Rattle.groups.proofs.Group.{length_group, put_same, group_other, length_on, on_on}
 use Rattle.groups.proofs.Entries.{length_entry, first_other, second_other}
 use Rattle.groups.proofs.Stored.{stored_length}
 use Rattle.matches.proofs.Matches.{match_is, match_in}
-
--- an edit makes words of words
-pub edited_fits : (edit : Edit) (m : Match) → EditFits edit → m.first < 2 ^ 32 → m.second < 2 ^ 32 → ((edited edit m).0 < 2 ^ 32) × ((edited edit m).1 < 2 ^ 32)
-unfolding edited
-edited_fits Clear m h u v = (omega arith, omega arith)
-edited_fits (Protect pp) m h u v = (u, with_pp_lt pp m.second h v)
 
 module _ (edit : Edit) where
   -- one match more

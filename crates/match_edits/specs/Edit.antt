@@ -1,5 +1,5 @@
 -- What unmap and protect do to each match of a page (rules 6).
-use Rattle.std.specs.Prelude.{ℕ, ◌^◌, ◌<◌, Bool, true, false}
+use Rattle.std.specs.Prelude.{ℕ, Bool, true, false}
 use mathlib.Core.List.{List, foldl}
 use Rattle.entry.specs.Entry.{with_pp}
 use Rattle.theory_tables.specs.Matches.{Match}
@@ -8,15 +8,10 @@ use Rattle.matches.specs.Search.{group_matches}
 use Rattle.match_edits.specs.declared.Edit.{Edit}
 use Rattle.match_edits.specs.declared.Edit.TheVariants.{Clear, Protect}
 
--- an edit's argument is in its range: PP below 4
-abbrev pub EditFits : Edit → Type 0
-EditFits Clear = Unit {0}
-EditFits (Protect pp) = pp < 2 ^ 2
-
 -- the words that an edit makes of an entry's two: eight zero bytes, or another PP
 abbrev pub edited_words : Edit → ℕ → ℕ → ℕ × ℕ
 edited_words Clear first second = (0, 0)
-edited_words (Protect pp) first second = (first, with_pp pp second)
+edited_words (Protect pp) first second = (first, with_pp pp.value second)
 
 unfoldable pub edited : Edit → Match → ℕ × ℕ
 edited edit m = edited_words edit m.first m.second

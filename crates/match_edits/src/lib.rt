@@ -5,20 +5,24 @@ ghost use Rattle.std.specs.Prelude.{◌≡◌, Bool, false, cond, ℕ, ◌+◌, 
 ghost use Rattle.numbers.specs.Numbers.{group_size, group_entries};
 ghost use Rattle.groups.specs.Group.{group_of, on_group, second_of};
 ghost use Rattle.matches.specs.Search.{WantedWord, group_matches, pair_matches, found_of, marks_of};
-ghost use Rattle.match_edits.specs.Edit.{EditFits, edited_words, edit_at, edit_matches, edit_pair};
+ghost use Rattle.match_edits.specs.Edit.{edited_words, edit_at, edit_matches, edit_pair};
 
 use matches::{FirstMatch, Others};
 
+mod pp;
+
+pub use pp::Pp;
+
 // What is done to each match: eight zero bytes, or another PP.
+// Stays an enum and no closure: `edited_words`, `edit_matches` and `edited` of specs/, and theorems of the theory crates over them, speak of an edit.
 #[derive(Clone, Copy, PartialEq, Eq, Debug)]
 pub enum Edit {
     Clear,
-    Protect(u32),
+    Protect(Pp),
 }
 
 // The words that an edit makes of an entry's two.
 pub fn edited_words(edit: Edit, first: u32, second: u32) -> entry::Words
-    requires { EditFits edit }
     ensures { (result.first, result.second) ≡ edited_words edit first second }
 {
     match edit {
@@ -28,20 +32,25 @@ pub fn edited_words(edit: Edit, first: u32, second: u32) -> entry::Words
         },
         Edit::Protect(pp) => entry::Words {
             first,
-            second: entry::with_pp(second, pp),
+            second: entry::with_pp(second, pp.value),
         },
     }
 }
 
 // Edits an entry of a group of the table, and answers its second word as it was.
 pub fn edit_entry(table: &mut [u8], group: usize, entry: usize, edit: Edit) -> u32
-    requires { (EditFits edit) × (entry < group_entries) × (group_size * group + group_size ≤ length table.old) }
+    requires { (entry < group_entries) × (group_size * group + group_size ≤ length table.old) }
     ensures { (table.new ≡ edit_at edit table.old group entry) × (result ≡ second_of table.old group entry) }
 {
     let second = groups::second_of(table, group, entry);
     match edit {
         Edit::Clear => groups::put_entry(table, group, entry, 0, 0),
-        Edit::Protect(pp) => groups::put_second(table, group, entry, entry::with_pp(second, pp)),
+        Edit::Protect(pp) => groups::put_second(
+            table,
+            group,
+            entry,
+            entry::with_pp(second, pp.value),
+        ),
     }
     second
 }
@@ -49,7 +58,7 @@ pub fn edit_entry(table: &mut [u8], group: usize, entry: usize, edit: Edit) -> u
 // Edits each match of one group, and answers a word with their marks as they were.
 // (The loop goes by the entries' numbers: the entry writer is lent the group's 64 bytes and a number, a form that the rules bind.)
 fn edit_group(group: &mut [u8], wanted: u32, edit: Edit, word: u32) -> u32
-    requires { (EditFits edit) × (length group.old ≡ group_size) }
+    requires { length group.old ≡ group_size }
     ensures { (secondary : Bool) (vsid api : ℕ) → WantedWord secondary vsid api wanted
         → (group.new ≡ edit_matches edit secondary vsid api group.old) × (result ≡ marks_of (group_matches secondary vsid api group.old) word) }
 {
@@ -70,7 +79,7 @@ fn edit_group(group: &mut [u8], wanted: u32, edit: Edit, word: u32) -> u32
 
 // Edits each match of a page's primary (false) or secondary (true) group in the table, and answers a word with their marks as they were.
 fn edit_in(table: &mut [u8], page: groups::Located, secondary: bool, edit: Edit, word: u32) -> u32
-    requires { (EditFits edit) × (group_size * cond secondary page.secondary page.primary + group_size ≤ length table.old) }
+    requires { group_size * cond secondary page.secondary page.primary + group_size ≤ length table.old }
     ensures { (vsid api : ℕ) → WantedWord false vsid api page.wanted → let group = cond secondary page.secondary page.primary in
         (table.new ≡ on_group table.old group (edit_matches edit secondary vsid api))
         × (result ≡ marks_of (group_matches secondary vsid api (group_of table.old group)) word) }
@@ -82,7 +91,7 @@ fn edit_in(table: &mut [u8], page: groups::Located, secondary: bool, edit: Edit,
 
 // Edits each match of a page's primary group, then of its secondary. The answer is the first one's second word as it was, with the marks of all.
 pub fn edit_both(table: &mut [u8], page: groups::Located, second: u32, edit: Edit) -> u32
-    requires { (EditFits edit) × (group_size * page.primary + group_size ≤ length table.old) × (group_size * page.secondary + group_size ≤ length table.old)
+    requires { (group_size * page.primary + group_size ≤ length table.old) × (group_size * page.secondary + group_size ≤ length table.old)
         × (page.primary ≡ page.secondary → ⊥) }
     ensures { (vsid api : ℕ) → WantedWord false vsid api page.wanted
         → (table.new ≡ edit_pair edit vsid api page.primary page.secondary table.old)
@@ -94,7 +103,7 @@ pub fn edit_both(table: &mut [u8], page: groups::Located, second: u32, edit: Edi
 
 // Edits each match of a page, by the first one that its search found. The answer is that one's second word as it was, with the marks of all.
 pub fn edit_page(table: &mut [u8], page: groups::Located, first: FirstMatch, edit: Edit) -> u32
-    requires { (EditFits edit) × (first.place.entry < group_entries) × (group_size * page.primary + group_size ≤ length table.old)
+    requires { (first.place.entry < group_entries) × (group_size * page.primary + group_size ≤ length table.old)
         × (group_size * page.secondary + group_size ≤ length table.old) × (page.primary ≡ page.secondary → ⊥) }
     ensures { (vsid api : ℕ) → WantedWord false vsid api page.wanted
         → found_of (pair_matches vsid api (group_of table.old page.primary) (group_of table.old page.secondary)) ≡ Some first

@@ -16,7 +16,8 @@ use Rattle.entry.proofs.Packing.{FirstFields, first_lt}
 use Rattle.entry.proofs.Addresses.{api_lt}
 use Rattle.entry.proofs.Matches.{matched, match_whole, match_used}
 use Rattle.theory_tables.specs.Matches.{Match, matches_below}
-use Rattle.groups.specs.Page.{Page, InRange}
+use Rattle.groups.specs.declared.Page.{Page}
+use Rattle.groups.specs.Page.{InRange}
 use Rattle.groups.specs.Hash.{group_number}
 use Rattle.groups.specs.Group.{first_at, second_at}
 use Rattle.matches.specs.Search.{h_of, WantedWord, matches_to, group_matches, pair_matches}

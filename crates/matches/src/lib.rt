@@ -46,8 +46,7 @@ pub struct Told {
 // Whether a match of a group disagrees with a second word. It is run only where there are several matches, and left out of the search.
 #[cold]
 #[inline(never)]
-fn disagree(group: &[u8], wanted: u32, second: u32) -> bool
-    requires { length group.now ≡ group_size }
+fn disagree(group: &[u8; numbers::GROUP_SIZE], wanted: u32, second: u32) -> bool
     ensures { (secondary : Bool) (vsid api : ℕ) → WantedWord secondary vsid api wanted
         → result ≡ any_match (disagrees second) (group_matches secondary vsid api group.now) }
 {
@@ -61,8 +60,7 @@ fn disagree(group: &[u8], wanted: u32, second: u32) -> bool
 }
 
 // A first match where there are others, those of this group among them.
-fn with_others(group: &[u8], wanted: u32, first: FirstMatch) -> FirstMatch
-    requires { length group.now ≡ group_size }
+fn with_others(group: &[u8; numbers::GROUP_SIZE], wanted: u32, first: FirstMatch) -> FirstMatch
     ensures { (secondary : Bool) (vsid api : ℕ) (m : Match) (ms : List Match) → WantedWord secondary vsid api wanted → first ≡ first_match m ms
         → result ≡ with_others m (ms ++ group_matches secondary vsid api group.now) }
 {
@@ -78,11 +76,11 @@ fn with_others(group: &[u8], wanted: u32, first: FirstMatch) -> FirstMatch
 }
 
 // The search of a page's primary (false) or secondary (true) group: its matches and its free entries, behind what was told before.
+// `WantedWord` stays in the clauses of the search: the word alone is handed on, and of which page it is the word no value tells.
 // (The loop goes by the entries' numbers, since an entry's number is what is told. It is joined with every caller, as are the two functions below, or
 // a look would take 469 instructions in place of 111.)
 #[inline(always)]
-pub fn search(group: &[u8], secondary: bool, wanted: u32, before: Told) -> Told
-    requires { length group.now ≡ group_size }
+pub fn search(group: &[u8; numbers::GROUP_SIZE], secondary: bool, wanted: u32, before: Told) -> Told
     ensures { (vsid api : ℕ) (ms : List Match) (free : ℕ) → WantedWord secondary vsid api wanted → free < 2 ^ group_entries → before ≡ told ms free
         → result ≡ told (ms ++ group_matches secondary vsid api group.now) (free_after free group.now) }
 {
@@ -116,12 +114,8 @@ fn in_group(table: &[u8], page: groups::Located, secondary: bool, before: Told) 
 {
     let from = page.group(secondary) * numbers::GROUP_SIZE;
     let to = from + numbers::GROUP_SIZE;
-    search(
-        &table[from..to],
-        secondary,
-        page.wanted_in(secondary),
-        before,
-    )
+    let group = table[from..to].as_array().unwrap();
+    search(group, secondary, page.wanted_in(secondary), before)
 }
 
 // The search of a page's two groups: the primary, then the secondary, which goes on from what the primary told.

@@ -4,6 +4,7 @@ ghost use Rattle.theory_calls.specs.Request.{access};
 ghost use Rattle.theory_calls.specs.OnBytes.{ended, on_bytes};
 
 use numbers::Refusal;
+use register_pages::RegisterPage;
 
 // Translates one access and marks the entries that did it.
 #[unsafe(no_mangle)]
@@ -25,7 +26,7 @@ pub extern "C" fn mmu_access(
       answer = answer.old;
     })) table.old }
 {
-    if !(registers::is_page(registers.len()) & (answer.len() == numbers::ACCESS_ANSWER_SIZE)) {
+    if answer.len() != numbers::ACCESS_ANSWER_SIZE {
         return u32::from(Refusal::LentLength);
     }
     let asked = table_access::Access {
@@ -34,7 +35,10 @@ pub extern "C" fn mmu_access(
         address,
         length,
     };
-    // No cache is lent.
+    let Ok(page) = RegisterPage::new(registers) else {
+        return u32::from(Refusal::LentLength);
+    };
+    // No cache is lent; it has no bytes and is no `Option` for the reason that `translate` gives.
     let mut none = [0u8; 8];
-    table_access::translate(registers, asked, table, &mut none[0..0], answer)
+    table_access::translate(page, asked, table, &mut none[0..0], answer)
 }

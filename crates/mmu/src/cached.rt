@@ -4,6 +4,7 @@ ghost use Rattle.theory_calls.specs.OnBytes.{ended};
 ghost use Rattle.theory_cache.specs.Cached.{on_cached, invalidate_call};
 
 use numbers::Refusal;
+use register_pages::RegisterPage;
 
 // Translates one access by the cache, and by the table where the cache has no hit; what went to the table is marked there and loaded.
 #[unsafe(no_mangle)]
@@ -26,17 +27,19 @@ pub extern "C" fn mmu_access_cached(
       answer = answer.old;
     }) (table.old, cache.old) }
 {
-    let lent = registers::is_page(registers.len()) & (answer.len() == numbers::ACCESS_ANSWER_SIZE);
-    if !(lent & (cache.len() == cache::SIZE)) {
+    if !((answer.len() == numbers::ACCESS_ANSWER_SIZE) & (cache.len() == cache::SIZE)) {
         return u32::from(Refusal::LentLength);
     }
+    let Ok(page) = RegisterPage::new(registers) else {
+        return u32::from(Refusal::LentLength);
+    };
     let asked = table_access::Access {
         mode,
         kind,
         address,
         length,
     };
-    table_access::translate(registers, asked, table, cache, answer)
+    table_access::translate(page, asked, table, cache, answer)
 }
 
 // Zeroes the set of a page index in the cache.

@@ -15,6 +15,7 @@ pub use access::mmu_access;
 pub use cached::{mmu_access_cached, mmu_invalidate};
 use numbers::Refusal;
 pub use pages::{mmu_clear, mmu_look, mmu_map, mmu_protect, mmu_unmap};
+use register_pages::RegisterPage;
 pub use rights::mmu_rights;
 
 // Checks a register page.
@@ -23,10 +24,10 @@ pub use rights::mmu_rights;
 pub extern "C" fn mmu_check(registers: &[u8]) -> u32
     ensures { result ≡ check_call registers.now }
 {
-    if !registers::is_page(registers.len()) {
-        return u32::from(Refusal::LentLength);
+    match RegisterPage::new(registers) {
+        Ok(page) => numbers::result_of(page.check()),
+        Err(refusal) => u32::from(refusal),
     }
-    numbers::result_of(register_pages::check(registers))
 }
 
 // Replaces one word of a register page.

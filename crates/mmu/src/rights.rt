@@ -6,6 +6,7 @@ ghost use Rattle.access_rights.specs.Rights.{rights_size, rights_call};
 
 use access_rights::Rights;
 use numbers::Refusal;
+use register_pages::RegisterPage;
 
 // Writes three answers and the marks of each.
 fn write_rights(answer: &mut [u8], told: Rights)
@@ -36,10 +37,13 @@ pub extern "C" fn mmu_rights(
     ensures { (result, answer.new)
         ≡ rights_call (record { registers = registers.entry.now; mode = mode; address = address }) answer.old table.now }
 {
-    if !(registers::is_page(registers.len()) & (answer.len() == access_rights::SIZE)) {
+    if answer.len() != access_rights::SIZE {
         return u32::from(Refusal::LentLength);
     }
-    match access_rights::tell(registers, mode, address, table) {
+    let Ok(page) = RegisterPage::new(registers) else {
+        return u32::from(Refusal::LentLength);
+    };
+    match access_rights::tell(page, mode, address, table) {
         Ok(told) => {
             write_rights(answer, told);
             numbers::DONE

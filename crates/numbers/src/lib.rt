@@ -1,4 +1,4 @@
-// The numbers that calls hand back and the lengths of what they are lent, under the names that include/mmu.h has for them.
+// The numbers that calls hand back, a refusal's by its name, and the lengths of what they are lent; include/mmu.h has the same of them.
 #![tactic(auto)]
 
 ghost use Rattle.std.specs.Prelude.{◌≡◌};
@@ -29,6 +29,7 @@ pub enum Refusal {
     OperandLength = 12,
 }
 
+// The number of a refusal.
 impl From<Refusal> for u32 {
     ghost from_gives = { λ refusal number. number ≡ refusal_number refusal };
 
@@ -48,6 +49,7 @@ pub fn result_of(outcome: Result<(), Refusal>) -> u32
 }
 
 // The kinds of access (rules 5).
+// Stay numbers: the calls answer for any kind, and the fault word is a match over them, a binding form (docs/DECISIONS.md, forms).
 pub const FETCH: u32 = 0;
 
 pub const LOAD: u32 = 1;
@@ -58,6 +60,7 @@ pub const STORE: u32 = 2;
 pub const ATTRIBUTES_REAL: u32 = 3;
 
 // The rules that decide an access (rules 5): rule r is step r + 1.
+// Stay numbers: a rule is a word of the answer that C reads.
 pub const RULE_REAL: u32 = 0;
 
 pub const RULE_BLOCK: u32 = 1;

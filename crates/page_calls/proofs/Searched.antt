@@ -24,7 +24,8 @@ use Rattle.entry.specs.Entry.{first_word, api_of}
 use Rattle.entry.proofs.Addresses.{api_lt}
 use Rattle.register_words.specs.Sdr1.{table_length, mask_ones, hash_bits}
 use Rattle.register_words.proofs.Sdr1.{length_is}
-use Rattle.groups.specs.Page.{Page, InRange}
+use Rattle.groups.specs.declared.Page.{Page}
+use Rattle.groups.specs.Page.{InRange}
 use Rattle.groups.specs.Hash.{group_number, located, TableOf, SomeTable}
 use Rattle.groups.specs.Group.{group_of, put_at, free_after, first_free_place}
 use Rattle.groups.specs.declared.Located.{Located}
@@ -41,6 +42,7 @@ use Rattle.matches.specs.declared.Told.{Told}
 use Rattle.match_edits.specs.Edit.{edited, edit_pair}
 use Rattle.match_edits.specs.declared.Edit.{Edit}
 use Rattle.match_edits.specs.declared.Edit.TheVariants.{Clear, Protect}
+use Rattle.match_edits.specs.declared.pp.Pp.{Pp}
 use Rattle.match_edits.proofs.Alone.{entry_is}
 use Rattle.theory_calls.specs.Made.{to_unmap, to_protect}
 use Rattle.theory_calls.specs.Answers.{word_answer}
@@ -225,7 +227,7 @@ module _ (k : ℕ) (page : Page) (t : List ℕ) where
     unfolding bytes_do edited
     unmap_by answer e = by_edit (λ p. ended p.0 p.1.0 (word_answer p.0 p.1.1)) Clear (number, (u, word)) e
 
-    pub protect_by : (pp : ℕ) → ◌≡◌ {A = ℕ × (List ℕ × ℕ)} (number, (u, word)) (page_edited k page (Protect pp) t)
-        → ended number u [] ≡ bytes_do k (to_protect sdr1 page pp) t
+    pub protect_by : (pp : Pp) → ◌≡◌ {A = ℕ × (List ℕ × ℕ)} (number, (u, word)) (page_edited k page (Protect pp) t)
+        → ended number u [] ≡ bytes_do k (to_protect sdr1 page pp.value) t
     unfolding bytes_do edited
     protect_by pp e = by_edit (λ p. ended p.0 p.1.0 []) (Protect pp) (number, (u, word)) e

@@ -5,7 +5,7 @@ use Rattle.numbers.specs.Numbers.{done, refused_no_match}
 use Rattle.numbers.specs.Refused.{result_number}
 use Rattle.numbers.specs.declared.Refusal.{Refusal}
 use Rattle.entry.specs.Entry.{api_of}
-use Rattle.groups.specs.Page.{Page}
+use Rattle.groups.specs.declared.Page.{Page}
 use Rattle.groups.specs.Hash.{group_number}
 use Rattle.groups.specs.Group.{group_of}
 use Rattle.matches.specs.Search.{in_both, merged}

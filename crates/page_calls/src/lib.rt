@@ -9,14 +9,13 @@ ghost use Rattle.registers.specs.Rules.{first_broken};
 ghost use Rattle.register_words.specs.Sdr1.{mask_ones};
 ghost use Rattle.groups.specs.Page.{InRange};
 ghost use Rattle.groups.specs.Hash.{TableOf, SomeTable, located};
-ghost use Rattle.match_edits.specs.Edit.{EditFits};
 ghost use Rattle.theory_calls.specs.Request.{map_page, unmap, protect, look};
 ghost use Rattle.theory_calls.specs.Rules.{page_in_range, map_in_range, table_rules};
 ghost use Rattle.theory_calls.specs.OnBytes.{ended, bytes_do};
 ghost use Rattle.page_calls.specs.PageWork.{page_told, page_edited, page_answer};
 
 use groups::Page;
-use match_edits::Edit;
+use match_edits::{Edit, Pp};
 use matches::Others;
 use numbers::Refusal;
 
@@ -64,6 +63,7 @@ pub fn search(page: Page, table: &[u8]) -> (groups::Located, matches::Told)
 }
 
 // Maps a page that has no match: its entry goes into the first free place of its two groups.
+// RPN, WIMG and PP stay numbers with their widths in a clause: `map_in_range` asks each once, and a type of each for this one call is no plainer.
 pub fn map_page(page: Page, rpn: u32, wimg: u32, pp: u32, table: &mut [u8]) -> Result<(), Refusal>
     requires { SomeTable (length table.old) × InRange page × (rpn < 2 ^ 20) × (wimg < 2 ^ 4) × (pp < 2 ^ 2) }
     ensures { (sdr1 : ℕ) → TableOf sdr1 (length table.old) → ended (result_number result) table.new []
@@ -87,7 +87,7 @@ pub fn map_page(page: Page, rpn: u32, wimg: u32, pp: u32, table: &mut [u8]) -> R
 // would take 149 instructions in place of 115.)
 #[inline(always)]
 fn edit_page(page: Page, edit: Edit, table: &mut [u8]) -> Result<u32, Refusal>
-    requires { SomeTable (length table.old) × InRange page × EditFits edit }
+    requires { SomeTable (length table.old) × InRange page }
     ensures { (sdr1 : ℕ) → TableOf sdr1 (length table.old)
         → (result_number result, (table.new, result_unwrap_or result 0)) ≡ page_edited (mask_ones sdr1) page edit table.old }
 {
@@ -113,7 +113,7 @@ pub fn protect_page(page: Page, pp: u32, table: &mut [u8]) -> Result<(), Refusal
     ensures { (sdr1 : ℕ) → TableOf sdr1 (length table.old) → ended (result_number result) table.new []
         ≡ bytes_do (mask_ones sdr1) (protect (record { sdr1 = sdr1; page = page; pp = pp })) table.old }
 {
-    edit_page(page, Edit::Protect(pp), table)?;
+    edit_page(page, Edit::Protect(Pp { value: pp }), table)?;
     Ok(())
 }
 

@@ -8,7 +8,7 @@ ghost use Rattle.protection.specs.Protection.{page_allows, block_allows, guarded
 ghost use Rattle.protection.specs.Fault.{fault_of};
 
 // The causes of a fault: no match, N or G, protection.
-// Stay numbers: `fault_of` of specs/ takes any, and a rule of the project asks for a match over them.
+// Stay numbers: `fault_of` of specs/ takes any, and the fault word is a match over them, a binding form (docs/DECISIONS.md, forms).
 pub const NO_MATCH: u32 = 0;
 
 pub const NO_FETCH: u32 = 1;
@@ -16,6 +16,7 @@ pub const NO_FETCH: u32 = 1;
 pub const PROTECTION: u32 = 2;
 
 // A storage fault: its result number, the fault word and the interrupt offset.
+// Its result stays a number: it is the word that C reads.
 #[derive(Clone, Copy)]
 pub struct Fault {
     pub result: u32,
@@ -31,6 +32,7 @@ pub fn user_mode(mode: u32) -> bool
 }
 
 // Whether the access is a fetch.
+// This and `is_store` stay two: each is a sentence of the rules by its own name, and one function with the kind as a number is no plainer.
 #[tactic(auto, unfolding(crate::specs::Access::fetching))]
 pub fn is_fetch(kind: u32) -> bool
     ensures { result ≡ fetching kind }
@@ -108,7 +110,7 @@ pub fn block_allows(pp: u32, kind: u32) -> bool
 }
 
 // The fault of a cause and a kind of access.
-// Stays a match over the numbers of cause and kind, and no enum: a rule of the project, and `fault_of` of specs/ answers for any number.
+// Stays a match over the numbers of cause and kind, and no enum: a binding form (docs/DECISIONS.md, forms), and `fault_of` of specs/ answers for any number.
 #[tactic(auto, unfolding(crate::specs::Fault::fault_of, crate::specs::Fault::cause_word, crate::specs::Access::fetching, crate::specs::Access::storing))]
 pub fn fault_of(cause: u32, kind: u32) -> Fault
     ensures { result ≡ fault_of cause kind }

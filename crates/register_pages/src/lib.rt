@@ -10,7 +10,10 @@ ghost use Rattle.register_pages.specs.Side.{side_byte, Gathered, pairs_off, apar
 ghost use Rattle.register_pages.specs.Pair.{pair_number};
 ghost use Rattle.register_pages.specs.Replace.{page_replaced, page_after};
 
+mod register_page;
+
 use numbers::Refusal;
+pub use register_page::RegisterPage;
 
 // What a pass over the pairs of a side gathers of those that are on: what is asked of each, put together by or, and how many begin at or before the end
 // of the one before.
@@ -94,86 +97,84 @@ fn any_on(pairs: &[u8]) -> bool
     false
 }
 
-// The rules of a page's blocks: the first that they break, of one that has not its shape or of two that share an address.
-fn blocks_refusal(page: &[u8]) -> Result<(), Refusal>
-    requires { is_page (length page.now) ≡ true }
-    ensures { result_number result ≡ blocks_refusal (is_long (length page.now)) (register_words page.now) }
-{
-    let half = (page.len() - 68) / 2;
-    // The place of BL, of 15 bits on a long page and of 11 on a short one.
-    let lengths = if half == 64 {
-        0x1FFFC00000000
-    } else {
-        0x1FFC00000000
-    };
-    let mut good = true;
-    let mut apart = true;
-    for side in 0..2usize {
-        let at = 68 + side * half;
-        let to = at + half;
-        let seen = side_of(&page[at..to], lengths, 32 * side as u64);
-        // Of an instruction pair W and G are zero too.
-        good = good & (seen.any & (0xFFFFFFFFFFFFFFCC - 0x48 * side as u64) == 0);
-        if seen.falls != 0 {
-            apart = apart & side_apart(&page[at..to]);
+impl RegisterPage<'_> {
+    // The rules of a page's blocks: the first that they break, of one that has not its shape or of two that share an address.
+    fn blocks_refusal(self) -> Result<(), Refusal>
+        ensures { result_number result ≡ blocks_refusal (is_long (length self.entry.bytes.now)) (register_words self.entry.bytes.now) }
+    {
+        let half = (self.bytes.len() - 68) / 2;
+        // The place of BL, of 15 bits on a long page and of 11 on a short one.
+        let lengths = if half == 64 {
+            0x1FFFC00000000
+        } else {
+            0x1FFC00000000
+        };
+        let mut good = true;
+        let mut apart = true;
+        for side in 0..2usize {
+            let at = 68 + side * half;
+            let to = at + half;
+            let seen = side_of(&self.bytes[at..to], lengths, 32 * side as u64);
+            // Of an instruction pair W and G are zero too.
+            good = good & (seen.any & (0xFFFFFFFFFFFFFFCC - 0x48 * side as u64) == 0);
+            if seen.falls != 0 {
+                apart = apart & side_apart(&self.bytes[at..to]);
+            }
+        }
+        if good & apart {
+            return Ok(());
+        }
+        Err(if good {
+            Refusal::BlocksShare
+        } else {
+            Refusal::Block
+        })
+    }
+
+    // Whether a block of the page is on.
+    fn blocks_on(self) -> bool
+        ensures { result ≡ false → blocks_refusal (is_long (length self.entry.bytes.now)) (register_words self.entry.bytes.now) ≡ 0 }
+    {
+        if any_on(&self.bytes[68..132]) {
+            return true;
+        }
+        if self.bytes.len() == numbers::REGISTERS_SIZE_LONG {
+            return any_on(&self.bytes[132..196]);
+        }
+        false
+    }
+
+    // The rule of the sixteen segment registers, which are put together by or as they lie in memory, two at a time.
+    fn segments_refusal(self) -> Result<(), Refusal>
+        ensures { result_number result ≡ cond (segments_shape (register_words self.entry.bytes.now)) done refused_segment }
+    {
+        let mut any: u64 = 0;
+        for i in 0..8usize {
+            any = any | words::raw_pair(self.bytes, 4 + 8 * i);
+        }
+        if any & 0x8F0000008F == 0 {
+            Ok(())
+        } else {
+            Err(Refusal::Segment)
         }
     }
-    if good & apart {
-        return Ok(());
-    }
-    Err(if good {
-        Refusal::BlocksShare
-    } else {
-        Refusal::Block
-    })
-}
 
-// Whether a block of the page is on.
-fn blocks_on(page: &[u8]) -> bool
-    requires { is_page (length page.now) ≡ true }
-    ensures { result ≡ false → blocks_refusal (is_long (length page.now)) (register_words page.now) ≡ 0 }
-{
-    if any_on(&page[68..132]) {
-        return true;
+    // The rules of a register page in their order: the first that it breaks.
+    pub fn check(self) -> Result<(), Refusal>
+        ensures { result_number result ≡ check_words (block_pairs (is_long (length self.entry.bytes.now)))
+            (bl_width (is_long (length self.entry.bytes.now))) (register_words self.entry.bytes.now) }
+    {
+        if !register_words::sdr1_shape(words::read_word(self.bytes, 0)) {
+            return Err(Refusal::Sdr1);
+        }
+        // Asked before the blocks, so that on a page whose blocks are off no registers are saved.
+        let segments = self.segments_refusal();
+        if !self.blocks_on() {
+            return segments;
+        }
+        self.blocks_refusal()?;
+        segments
     }
-    if page.len() == numbers::REGISTERS_SIZE_LONG {
-        return any_on(&page[132..196]);
-    }
-    false
-}
-
-// The rule of the sixteen segment registers, which are put together by or as they lie in memory, two at a time.
-fn segments_refusal(page: &[u8]) -> Result<(), Refusal>
-    requires { is_page (length page.now) ≡ true }
-    ensures { result_number result ≡ cond (segments_shape (register_words page.now)) done refused_segment }
-{
-    let mut any: u64 = 0;
-    for i in 0..8usize {
-        any = any | words::raw_pair(page, 4 + 8 * i);
-    }
-    if any & 0x8F0000008F == 0 {
-        Ok(())
-    } else {
-        Err(Refusal::Segment)
-    }
-}
-
-// The rules of a register page in their order: the first that it breaks.
-pub fn check(page: &[u8]) -> Result<(), Refusal>
-    requires { is_page (length page.now) ≡ true }
-    ensures { result_number result ≡ check_words (block_pairs (is_long (length page.now))) (bl_width (is_long (length page.now)))
-        (register_words page.now) }
-{
-    if !register_words::sdr1_shape(words::read_word(page, 0)) {
-        return Err(Refusal::Sdr1);
-    }
-    // Asked before the blocks, so that on a page whose blocks are off no registers are saved.
-    let segments = segments_refusal(page);
-    if !blocks_on(page) {
-        return segments;
-    }
-    blocks_refusal(page)?;
-    segments
 }
 
 // The register set by value: the bytes of a page of N.
@@ -193,7 +194,7 @@ impl<const N: usize> Set<N> {
         }
         let mut bytes = self.bytes;
         words::write_word(&mut bytes, 4 * (number as usize), word);
-        check(&bytes)?;
+        RegisterPage { bytes: &bytes }.check()?;
         Ok(Set { bytes })
     }
 }
@@ -243,26 +244,6 @@ fn side_at(size: usize, side: bool) -> usize
     if side { size / 2 + 34 } else { 68 }
 }
 
-// The first pair of a side that covers the address for the user or the supervisor. Four pairs at a time, for the compiler writes the inner loop out; a
-// loop over the pairs one by one, or `find`, tried, makes the rights of a page 7 % slower.
-#[inline]
-pub fn covering_pair(page: &[u8], side: bool, user: bool, address: u32) -> Option<usize>
-    requires { is_page (length page.now) ≡ true }
-    ensures number { pair_number result ≡ covering_pair (block_pairs true) (bl_width true) (set_words page.now) side user address }
-    ensures own { IfSome result (λ i. i < block_pairs (is_long (length page.now))) }
-{
-    let start = side_at(page.len(), side);
-    let pairs = (page.len() - 68) / 16;
-    for four in 0..pairs / 4 {
-        for i in 4 * four..4 * four + 4 {
-            if register_words::block_covers(user, words::read_word(page, start + 8 * i), address) {
-                return Some(i);
-            }
-        }
-    }
-    None
-}
-
 // The byte of a pair of a side, which lies on the page.
 fn pair_at(size: usize, side: bool, i: usize) -> usize
     requires { (is_page size ≡ true) × (i < block_pairs (is_long size)) }
@@ -271,27 +252,54 @@ fn pair_at(size: usize, side: bool, i: usize) -> usize
     side_at(size, side) + 8 * i
 }
 
-// The upper and the lower word of a pair of the page.
-pub fn pair(page: &[u8], side: bool, i: usize) -> (u32, u32)
-    requires { (is_page (length page.now) ≡ true) × (i < block_pairs (is_long (length page.now))) }
-    ensures { result ≡ (upper_of (block_pairs true) (set_words page.now) side i, lower_of (block_pairs true) (set_words page.now) side i) }
-{
-    let at = pair_at(page.len(), side, i);
-    (words::read_word(page, at), words::read_word(page, at + 4))
-}
+impl RegisterPage<'_> {
+    // The first pair of a side that covers the address for the user or the supervisor. Four pairs at a time, for the compiler writes the inner loop out;
+    // a loop over the pairs one by one, or `find`, tried, makes the rights of a page 7 % slower.
+    #[inline]
+    pub fn covering_pair(self, side: bool, user: bool, address: u32) -> Option<usize>
+        ensures number { pair_number result ≡ covering_pair (block_pairs true) (bl_width true) (set_words self.entry.bytes.now) side user address }
+        ensures own { IfSome result (λ i. i < block_pairs (is_long (length self.entry.bytes.now))) }
+    {
+        let start = side_at(self.bytes.len(), side);
+        let pairs = (self.bytes.len() - 68) / 16;
+        for four in 0..pairs / 4 {
+            for i in 4 * four..4 * four + 4 {
+                let upper = words::read_word(self.bytes, start + 8 * i);
+                if register_words::block_covers(user, upper, address) {
+                    return Some(i);
+                }
+            }
+        }
+        None
+    }
 
-// A segment register of the page.
-pub fn segment(page: &[u8], i: usize) -> u32
-    requires { (is_page (length page.now) ≡ true) × (i < 16) }
-    ensures { result ≡ segment_of (set_words page.now) i }
-{
-    words::read_word(page, 4 + 4 * i)
-}
+    // The upper and the lower word of a pair of the page.
+    pub fn pair(self, side: bool, i: usize) -> (u32, u32)
+        requires { i < block_pairs (is_long (length self.bytes.now)) }
+        ensures { result ≡ (
+          upper_of (block_pairs true) (set_words self.entry.bytes.now) side i,
+          lower_of (block_pairs true) (set_words self.entry.bytes.now) side i,
+        ) }
+    {
+        let at = pair_at(self.bytes.len(), side, i);
+        (
+            words::read_word(self.bytes, at),
+            words::read_word(self.bytes, at + 4),
+        )
+    }
 
-// SDR1 of the page.
-pub fn sdr1(page: &[u8]) -> u32
-    requires { is_page (length page.now) ≡ true }
-    ensures { result ≡ sdr1_of (set_words page.now) }
-{
-    words::read_word(page, 0)
+    // A segment register of the page.
+    pub fn segment(self, i: usize) -> u32
+        requires { i < 16 }
+        ensures { result ≡ segment_of (set_words self.entry.bytes.now) i }
+    {
+        words::read_word(self.bytes, 4 + 4 * i)
+    }
+
+    // SDR1 of the page.
+    pub fn sdr1(self) -> u32
+        ensures { result ≡ sdr1_of (set_words self.entry.bytes.now) }
+    {
+        words::read_word(self.bytes, 0)
+    }
 }

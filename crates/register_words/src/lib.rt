@@ -98,7 +98,7 @@ pub fn in_block(upper: u32, address: u32) -> bool
 }
 
 // Whether a block is valid for the user or the supervisor and holds the address.
-// A pair stays two words, here and below: `covers` and `block_physical` of specs/ take them, and an access asks each for itself.
+// A pair stays two words, here and below: the test of a covering pair needs the upper word alone, and `block_physical` of specs/ takes both.
 pub fn block_covers(user: bool, upper: u32, address: u32) -> bool
     ensures { result ≡ covers (bl_width true) user upper address }
 {

@@ -13,7 +13,7 @@ use Rattle.registers.specs.Rules.{first_broken}
 use Rattle.register_words.specs.Sdr1.{mask_ones}
 use Rattle.register_words.specs.Block.{bl_width}
 use Rattle.registers.specs.Set.{is_page, is_long, block_pairs, sdr1_of, register_words, set_words}
-use Rattle.groups.specs.Page.{Page}
+use Rattle.groups.specs.declared.Page.{Page}
 use Rattle.groups.specs.Hash.{TableOf}
 use Rattle.theory_tables.specs.Layout.{matches_of}
 use Rattle.protection.specs.Access.{storing, relocated}

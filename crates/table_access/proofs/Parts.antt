@@ -20,7 +20,8 @@ use Rattle.entry.proofs.Marks.{marks_lt}
 use Rattle.entry.proofs.Addresses.{api_lt}
 use Rattle.register_words.specs.Sdr1.{mask_ones}
 use Rattle.register_words.proofs.Sdr1.{length_is}
-use Rattle.groups.specs.Page.{Page, InRange}
+use Rattle.groups.specs.declared.Page.{Page}
+use Rattle.groups.specs.Page.{InRange}
 use Rattle.groups.specs.Hash.{group_number, TableOf}
 use Rattle.groups.specs.Group.{first_of, put_at}
 use Rattle.groups.proofs.Stored.{words_fit}

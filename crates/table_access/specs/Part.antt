@@ -7,8 +7,8 @@ use Rattle.numbers.specs.Numbers.{group_entries}
 use Rattle.words.specs.Bits.{bits}
 use Rattle.entry.specs.Entry.{page_index, with_marks}
 use Rattle.register_words.specs.Block.{bl_width}
-use Rattle.registers.specs.Set.{is_page, block_pairs, covering_pair, sdr1_of, set_words}
-use Rattle.groups.specs.Hash.{group_number, TableOf}
+use Rattle.registers.specs.Set.{block_pairs, covering_pair}
+use Rattle.groups.specs.Hash.{group_number}
 use Rattle.groups.specs.Group.{first_of, put_at}
 use Rattle.matches.specs.Search.{contradict}
 use Rattle.theory_tables.specs.Layout.{matches_of}
@@ -48,10 +48,6 @@ call_of registers access answer = record {
   length = access.length;
   answer = answer;
 }
-
--- a register page and a table of the length that its SDR1 asks for
-abbrev pub PageAndTable : List ℕ → List ℕ → Type 0
-PageAndTable registers table = (is_page (length registers) ≡ true) × TableOf (sdr1_of (set_words registers)) (length table)
 
 -- a cache, or none, which has no bytes
 abbrev pub CacheOrNone : List ℕ → Type 0

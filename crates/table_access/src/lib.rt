@@ -1,5 +1,6 @@
 // One access on a lent table, with a cache of translations or without one: the rules of its arguments in order, the parts of its operand, each by the
-// steps, the marks, the loads and the answer. The steps of a part are inlined, so that what they hand on stays in registers.
+// steps, the marks, the loads and the answer. The search and what follows it are joined with a part by hints, so that
+// what is handed on stays in the registers of the processor.
 #![tactic(auto)]
 
 ghost use Rattle.std.specs.Prelude.{◌≡◌, true, false, not, ◌&&◌, [], ◌∷◌, ◌++◌, ℕ, ◌+◌, ◌*◌, ◌<◌, eqb, ltb, length};
@@ -8,7 +9,7 @@ ghost use Rattle.numbers.specs.Refused.{refusal_number, result_number};
 ghost use Rattle.registers.specs.Rules.{first_broken};
 ghost use Rattle.register_words.specs.Sdr1.{table_length, mask_ones};
 ghost use Rattle.register_words.specs.Block.{bl_width};
-ghost use Rattle.registers.specs.Set.{is_page, is_long, block_pairs, sdr1_of, register_rules, register_words, set_words};
+ghost use Rattle.registers.specs.Set.{is_long, block_pairs, sdr1_of, register_rules, register_words, set_words};
 ghost use Rattle.groups.specs.Page.{InRange};
 ghost use Rattle.groups.specs.Hash.{TableOf, SomeTable};
 ghost use Rattle.protection.specs.Access.{user_mode, relocated, side_of};
@@ -23,11 +24,12 @@ ghost use Rattle.theory_calls.specs.Rules.{operand_in_range};
 ghost use Rattle.theory_calls.specs.Answers.{access_answer};
 ghost use Rattle.theory_calls.specs.OnBytes.{ended, wanted_page, on_bytes};
 ghost use Rattle.theory_cache.specs.Cached.{on_cached};
-ghost use Rattle.table_access.specs.Part.{call_of, covered_by, PageAndTable, CacheOrNone, LiesIn, table_found, found_by, without_page, by_outcome, part_as, by_found, begun_by, part_by, taken_by, part_early, Comes};
+ghost use Rattle.table_access.specs.Part.{call_of, covered_by, CacheOrNone, LiesIn, table_found, found_by, without_page, by_outcome, part_as, by_found, begun_by, part_by, taken_by, part_early, Comes};
 
 use groups::Page;
 use matches::Others;
 use numbers::Refusal;
+use register_pages::RegisterPage;
 use std::ops::ControlFlow;
 use translation::Wanted;
 use translation::decision::{self, Decision, Used};
@@ -43,7 +45,7 @@ pub struct Access {
 }
 
 // The entry number that an answer shows of a hit, in its last word.
-const NO_ENTRY: u32 = 8;
+const HIT_ENTRY: u32 = 8;
 
 // What the cache or the search finds of a page: no match, matches that contradict, or the entry's second word and the number of its group; of an
 // entry in the table its number there too, since it is marked where the operand is done.
@@ -65,13 +67,12 @@ pub struct Part {
 
 // Whether an access may go on after the lent lengths, or the first rule that it breaks: the arguments' ranges, then the register page, then the
 // table's length.
-pub fn check(registers: &[u8], access: Access, lent: usize) -> Result<(), Refusal>
-    requires { is_page (length registers.now) ≡ true }
+pub fn check(registers: RegisterPage<'_>, access: Access, lent: usize) -> Result<(), Refusal>
     ensures { result_number result ≡ first_broken ((not (ltb access.mode 8 && ltb access.kind 3), refused_argument)
         ∷ (not (operand_in_range access.length), refused_operand_length)
-        ∷ register_rules (block_pairs (is_long (length registers.now))) (bl_width (is_long (length registers.now)))
-        (register_words registers.now)
-        ++ ((not (eqb lent (table_length (sdr1_of (register_words registers.now)))), refused_table_length) ∷ [])) }
+        ∷ register_rules (block_pairs (is_long (length registers.entry.bytes.now))) (bl_width (is_long (length registers.entry.bytes.now)))
+        (register_words registers.entry.bytes.now)
+        ++ ((not (eqb lent (table_length (sdr1_of (register_words registers.entry.bytes.now)))), refused_table_length) ∷ [])) }
 {
     if !((access.mode < 8) & (access.kind < 3)) {
         return Err(Refusal::Argument);
@@ -79,8 +80,8 @@ pub fn check(registers: &[u8], access: Access, lent: usize) -> Result<(), Refusa
     if !((0 < access.length) & (access.length <= numbers::LONGEST_OPERAND)) {
         return Err(Refusal::OperandLength);
     }
-    register_pages::check(registers)?;
-    if lent != register_words::table_length(register_pages::sdr1(registers)) {
+    registers.check()?;
+    if lent != register_words::table_length(registers.sdr1()) {
         return Err(Refusal::TableLength);
     }
     Ok(())
@@ -158,13 +159,13 @@ pub fn real_part(address: u32) -> Part
 
 // Step 2, by the block of a pair that covers the address.
 #[tactic(auto, unfolding(translation::specs::Steps::block_outcome, translation::specs::Steps::answer_of, translation::specs::Decision::decision_of))]
-fn by_block(registers: &[u8], access: Access, pair: usize) -> Part
-    requires { (is_page (length registers.now) ≡ true) × (pair < block_pairs (is_long (length registers.now))) }
+fn by_block(registers: RegisterPage<'_>, access: Access, pair: usize) -> Part
+    requires { pair < block_pairs (is_long (length registers.bytes.now)) }
     ensures { result ≡ by_outcome access.kind access.address
-        (block_outcome (block_pairs true) (bl_width true) (set_words registers.now) access.kind access.address pair) }
+        (block_outcome (block_pairs true) (bl_width true) (set_words registers.entry.bytes.now) access.kind access.address pair) }
 {
     let side = protection::side_of(access.kind);
-    let (upper, lower) = register_pages::pair(registers, side, pair);
+    let (upper, lower) = registers.pair(side, pair);
     if !protection::block_allows(register_words::block_pp(lower), access.kind) {
         let fault = translation::fault_answer(protection::PROTECTION, access.kind, access.address);
         return without_page(fault, numbers::RULE_BLOCK, pair as u32);
@@ -175,23 +176,25 @@ fn by_block(registers: &[u8], access: Access, pair: usize) -> Part
     without_page(done, numbers::RULE_BLOCK, pair as u32)
 }
 
+// That the access is translated stays a clause here and in the two functions that come to it: `translate` asks it once, and a type for it would be no
+// plainer than that test.
 // Steps 2 and 3 of a translated part, by the pair that covers the address: they end with the part, by a block or at a fetch with N = 1, or go on to
 // the search of a page.
 #[tactic(auto, using(crate::proofs::Parts::some_covered, crate::proofs::Parts::none_covered, register_pages::proofs::Page::covering_own), unfolding(crate::specs::Part::begun_by, translation::specs::Steps::before_search, translation::specs::Steps::answer_of, translation::specs::Decision::decision_of))]
 pub fn before_search(
-    registers: &[u8],
+    registers: RegisterPage<'_>,
     access: Access,
     pair: Option<usize>,
 ) -> ControlFlow<Part, Wanted>
-    requires { (is_page (length registers.now) ≡ true) × (relocated access.mode access.kind ≡ true)
-        × (pair ≡ covered_by (set_words registers.now) (side_of access.kind) (user_mode access.mode) access.address) }
+    requires { (relocated access.mode access.kind ≡ true)
+        × (pair ≡ covered_by (set_words registers.bytes.now) (side_of access.kind) (user_mode access.mode) access.address) }
     ensures { result ≡ begun_by access.kind access.address
-        (before_search (block_pairs true) (bl_width true) (set_words registers.now) access.mode access.kind access.address) }
+        (before_search (block_pairs true) (bl_width true) (set_words registers.entry.bytes.now) access.mode access.kind access.address) }
 {
     if let Some(pair) = pair {
         return ControlFlow::Break(by_block(registers, access, pair));
     }
-    let segment = register_pages::segment(registers, (access.address >> 28) as usize);
+    let segment = registers.segment((access.address >> 28) as usize);
     if protection::is_fetch(access.kind) & register_words::no_execute(segment) {
         let fault = translation::fault_answer(protection::NO_FETCH, access.kind, access.address);
         return ControlFlow::Break(without_page(fault, numbers::RULE_NO_EXECUTE, 0));
@@ -250,7 +253,7 @@ pub fn after_search(access: Access, key: bool, found: Found) -> Part
             let used = Used {
                 key,
                 group,
-                entry: NO_ENTRY,
+                entry: HIT_ENTRY,
             };
             by_entry(access, found, second, used)
         }
@@ -268,15 +271,16 @@ pub fn after_search(access: Access, key: bool, found: Found) -> Part
 // Steps 2 to 6 of a translated part.
 #[inline(always)]
 #[tactic(auto, using(crate::proofs::Parts::covered_is, theory_calls::proofs::Access::part_valid), unfolding(crate::specs::Part::begun_by, crate::specs::Part::part_by))]
-fn part_of(registers: &[u8], table: &[u8], cache: &[u8], access: Access) -> Part
-    requires { PageAndTable registers.now table.now × CacheOrNone cache.now × (relocated access.mode access.kind ≡ true) }
+fn part_of(registers: RegisterPage<'_>, table: &[u8], cache: &[u8], access: Access) -> Part
+    requires { TableOf (sdr1_of (set_words registers.bytes.now)) (length table.now) × CacheOrNone cache.now
+        × (relocated access.mode access.kind ≡ true) }
     ensures { result ≡ part_by access.kind access.address
-        (found_by (mask_ones (sdr1_of (set_words registers.now))) access.kind table.now cache.now)
-        (before_search (block_pairs true) (bl_width true) (set_words registers.now) access.mode access.kind access.address) }
+        (found_by (mask_ones (sdr1_of (set_words registers.entry.bytes.now))) access.kind table.now cache.now)
+        (before_search (block_pairs true) (bl_width true) (set_words registers.entry.bytes.now) access.mode access.kind access.address) }
 {
     let side = protection::side_of(access.kind);
     let user = protection::user_mode(access.mode);
-    let pair = register_pages::covering_pair(registers, side, user, access.address);
+    let pair = registers.covering_pair(side, user, access.address);
     match before_search(registers, access, pair) {
         ControlFlow::Break(part) => part,
         ControlFlow::Continue(wanted) => {
@@ -348,10 +352,16 @@ pub fn tell(answer: &mut [u8], told: OperandAnswer) -> u32
 
 // The parts of a translated operand that is not refused: the first page's, and then the next page's where the operand goes on there. They are taken
 // where all are done.
-fn by_parts(registers: &[u8], access: Access, table: &mut [u8], cache: &mut [u8]) -> OperandAnswer
-    requires { PageAndTable registers.now table.old × CacheOrNone cache.old × (relocated access.mode access.kind ≡ true) }
-    ensures { Comes access (mask_ones (sdr1_of (set_words registers.now))) (table.old, cache.old)
-        (part_early (set_words registers.now) access) result (table.new, cache.new) }
+fn by_parts(
+    registers: RegisterPage<'_>,
+    access: Access,
+    table: &mut [u8],
+    cache: &mut [u8],
+) -> OperandAnswer
+    requires { TableOf (sdr1_of (set_words registers.bytes.now)) (length table.old) × CacheOrNone cache.old
+        × (relocated access.mode access.kind ≡ true) }
+    ensures { Comes access (mask_ones (sdr1_of (set_words registers.entry.bytes.now))) (table.old, cache.old)
+        (part_early (set_words registers.entry.bytes.now) access) result (table.new, cache.new) }
 {
     let first = part_of(registers, table, cache, access);
     if first.answer.result != numbers::DONE {
@@ -413,19 +423,19 @@ pub fn refused(refusal: Refusal) -> OperandAnswer
 // One access whose lent lengths are right: its answer is written, the marks are made, and what went to the table is loaded. Where no cache is lent, it
 // has no bytes: the definitions of a cache answer for none already, and with an `Option` each clause would speak of it twice.
 pub fn translate(
-    registers: &[u8],
+    registers: RegisterPage<'_>,
     asked: Access,
     table: &mut [u8],
     cache: &mut [u8],
     answer: &mut [u8],
 ) -> u32
-    requires { (is_page (length registers.now) ≡ true) × CacheOrNone cache.old × (length answer.old ≡ access_answer_size) }
+    requires { CacheOrNone cache.old × (length answer.old ≡ access_answer_size) }
     ensures cached { length cache.old ≡ cache_size
         → ended result (table.new, cache.new) answer.new
-        ≡ on_cached (call_of registers.now asked answer.old) (table.old, cache.old) }
+        ≡ on_cached (call_of registers.entry.bytes.now asked answer.old) (table.old, cache.old) }
     ensures uncached { length cache.old ≡ 0
         → ended result table.new answer.new
-        ≡ on_bytes (access (call_of registers.now asked answer.old)) table.old }
+        ≡ on_bytes (access (call_of registers.entry.bytes.now asked answer.old)) table.old }
 {
     if let Err(refusal) = check(registers, asked, table.len()) {
         return tell(answer, refused(refusal));

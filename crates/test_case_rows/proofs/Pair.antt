@@ -16,7 +16,7 @@ use Rattle.words.proofs.Tests.{both, cond_by}
 use Rattle.entry.specs.Entry.{second_word, matches, free, api_of, with_marks, with_pp}
 use Rattle.register_words.specs.Sdr1.{table_length, mask_ones}
 use Rattle.register_words.proofs.Sdr1.{made_ones, made_length}
-use Rattle.groups.specs.Page.{Page}
+use Rattle.groups.specs.declared.Page.{Page}
 use Rattle.groups.specs.Hash.{group_number}
 use Rattle.groups.specs.Group.{group_of, first_at, second_at, first_of, second_of, put_entry, put_at}
 use Rattle.matches.specs.Search.{h_of, contradict, merged}

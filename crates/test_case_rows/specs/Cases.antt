@@ -4,7 +4,7 @@ use Rattle.numbers.specs.Numbers.{done, data_storage_fault, refused_sdr1, refuse
 use Rattle.words.specs.Words.{bytes_of}
 use Rattle.entry.specs.Entry.{page_index}
 use Rattle.register_words.specs.Sdr1.{table_length, hash_bits}
-use Rattle.groups.specs.Page.{Page}
+use Rattle.groups.specs.declared.Page.{Page}
 use Rattle.groups.specs.Hash.{hash_of, group_number, group_address}
 use Rattle.groups.specs.Group.{group_of}
 use Rattle.theory_tables.specs.Runs.{run, after, Each}

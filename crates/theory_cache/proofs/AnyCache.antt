@@ -14,7 +14,7 @@ use Rattle.words.proofs.Tests.{by_test}
 use Rattle.words.specs.Bits.{bits}
 use Rattle.words.specs.Words.{bytes_of}
 use Rattle.register_words.specs.Sdr1.{mask_ones}
-use Rattle.groups.specs.Page.{Page}
+use Rattle.groups.specs.declared.Page.{Page}
 use Rattle.groups.specs.Hash.{group_number}
 use Rattle.protection.specs.Access.{storing}
 use Rattle.translation.specs.Steps.{after_search, outcome_of, answer_of}

@@ -13,7 +13,8 @@ use lib.Dec.{eqb, lit<, lit≤}
 use borrow.Author.Tests.{eqb-true, eqb-false}
 use Rattle.entry.specs.Entry.{referenced, changed, with_marks}
 use Rattle.entry.proofs.Marks.{marks_above, marks_below, marks_own, marks_again, marks_referenced, marks_changed}
-use Rattle.groups.specs.Page.{Page, InRange, same_page}
+use Rattle.groups.specs.declared.Page.{Page}
+use Rattle.groups.specs.Page.{InRange, same_page}
 use Rattle.groups.proofs.Hash.{same_page_eq}
 use Rattle.matches.specs.Search.{agree, contradict}
 use Rattle.theory_tables.specs.Matches.{Match}

@@ -10,7 +10,8 @@ use Rattle.entry.specs.Entry.{api_of, with_marks}
 use Rattle.entry.proofs.Addresses.{api_lt}
 use Rattle.entry.proofs.Matches.{matched}
 use Rattle.entry.proofs.Packing.{FirstFields}
-use Rattle.groups.specs.Page.{Page, InRange}
+use Rattle.groups.specs.declared.Page.{Page}
+use Rattle.groups.specs.Page.{InRange}
 use Rattle.matches.specs.Search.{h_of, contradict}
 use Rattle.theory_tables.specs.Matches.{Match}
 use Rattle.theory_tables.specs.Layout.{matches_of}

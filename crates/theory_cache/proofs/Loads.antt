@@ -10,7 +10,8 @@ use lib.ListN.{length, get_or}
 use Rattle.words.proofs.Tests.{by_test}
 use Rattle.register_words.specs.Block.{bl_width}
 use Rattle.registers.specs.Set.{block_pairs, register_words}
-use Rattle.groups.specs.Page.{Page, same_page}
+use Rattle.groups.specs.declared.Page.{Page}
+use Rattle.groups.specs.Page.{same_page}
 use Rattle.theory_tables.specs.Matches.{Match}
 use Rattle.theory_tables.specs.Layout.{matches_of}
 use Rattle.protection.specs.Access.{storing}

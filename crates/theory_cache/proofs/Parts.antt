@@ -15,7 +15,8 @@ use Rattle.entry.specs.Entry.{wimg_of, pp_of, changed}
 use Rattle.entry.proofs.Marks.{marks_referenced}
 use Rattle.register_words.specs.Block.{bl_width}
 use Rattle.registers.specs.Set.{block_pairs, register_words}
-use Rattle.groups.specs.Page.{Page, InRange}
+use Rattle.groups.specs.declared.Page.{Page}
+use Rattle.groups.specs.Page.{InRange}
 use Rattle.groups.specs.Hash.{group_number}
 use Rattle.matches.proofs.Agreement.{agree_self}
 use Rattle.theory_tables.specs.Matches.{Match}

@@ -4,7 +4,7 @@ use Rattle.std.proofs.Math.Option.{none, some}
 use Rattle.numbers.specs.Numbers.{done, data_storage_fault, instruction_storage_fault, refused_lent_length}
 use Rattle.words.specs.Bits.{bits}
 use Rattle.words.specs.Words.{bytes_of}
-use Rattle.groups.specs.Page.{Page}
+use Rattle.groups.specs.declared.Page.{Page}
 use Rattle.groups.specs.Hash.{group_number}
 use Rattle.protection.specs.Access.{storing}
 use Rattle.translation.specs.Steps.{after_search, answer_of}

@@ -18,7 +18,8 @@ use Rattle.entry.specs.Entry.{referenced, changed, with_marks}
 use Rattle.entry.proofs.Marks.{marks_above, marks_below, marks_referenced, marks_changed}
 use Rattle.register_words.specs.Sdr1.{mask_ones}
 use Rattle.registers.specs.Set.{block_pairs, register_words}
-use Rattle.groups.specs.Page.{Page, same_page}
+use Rattle.groups.specs.declared.Page.{Page}
+use Rattle.groups.specs.Page.{same_page}
 use Rattle.groups.specs.Group.{first_of, second_of}
 use Rattle.groups.proofs.Hash.{group_lt}
 use Rattle.matches.specs.Search.{contradict}

@@ -23,7 +23,7 @@ use lib.Dec.{eqb}
 use borrow.Author.Tests.{eqb-true, eqb-false}
 use Rattle.matches.specs.Search.{agree, contradict}
 use Rattle.matches.proofs.Agreement.{contradicted, agreeing}
-use Rattle.groups.specs.Page.{Page}
+use Rattle.groups.specs.declared.Page.{Page}
 use Rattle.groups.specs.Group.{first_of, second_of}
 use Rattle.theory_tables.specs.Matches.{Match}
 use Rattle.theory_tables.specs.Layout.{groups, matches_of, free_place, overwrite_each}

@@ -14,7 +14,7 @@ use Rattle.words.proofs.Tests.{three, both, by_test}
 use Rattle.entry.specs.Entry.{wimg_of, pp_of}
 use Rattle.register_words.specs.Segment.{no_execute}
 use Rattle.registers.specs.Set.{block_pairs, register_words, covering_pair, pair_covers}
-use Rattle.groups.specs.Page.{Page}
+use Rattle.groups.specs.declared.Page.{Page}
 use Rattle.groups.specs.Hash.{group_number}
 use Rattle.matches.specs.Search.{contradict}
 use Rattle.theory_tables.specs.Matches.{Match}

@@ -13,7 +13,7 @@ use Rattle.entry.specs.Entry.{second_word, referenced, changed, with_pp}
 use Rattle.entry.proofs.Marks.{marks_above, marks_below}
 use Rattle.entry.proofs.Packing.{second_lt}
 use Rattle.register_words.specs.Sdr1.{mask_ones}
-use Rattle.groups.specs.Page.{Page}
+use Rattle.groups.specs.declared.Page.{Page}
 use Rattle.groups.proofs.Stored.{words_fit}
 use Rattle.matches.specs.Search.{any_match, contradict, merged}
 use Rattle.matches.proofs.Agreement.{any_true, any_member}

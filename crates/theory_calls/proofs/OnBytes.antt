@@ -7,7 +7,7 @@ use lib.ListN.{length}
 use borrow.Author.Tests.{eq-eqb, ne_eqb}
 use Rattle.entry.specs.Entry.{api_of}
 use Rattle.register_words.specs.Sdr1.{mask_ones}
-use Rattle.groups.specs.Page.{Page}
+use Rattle.groups.specs.declared.Page.{Page}
 use Rattle.groups.specs.Hash.{group_number}
 use Rattle.groups.specs.Group.{group_of, first_of, second_of}
 use Rattle.matches.specs.Search.{group_matches, pair_matches}

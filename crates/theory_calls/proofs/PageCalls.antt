@@ -26,7 +26,7 @@ use Rattle.entry.specs.Entry.{second_word, api_of}
 use Rattle.registers.specs.Rules.{first_broken}
 use Rattle.register_words.specs.Sdr1.{sdr1_shape, table_length, mask_ones}
 use Rattle.registers.proofs.Set.{rule_kept}
-use Rattle.groups.specs.Page.{Page}
+use Rattle.groups.specs.declared.Page.{Page}
 use Rattle.groups.specs.Hash.{group_number}
 use Rattle.groups.specs.Group as groups
 use Rattle.groups.specs.Group.{group_of, on_group, first_of, put_at}

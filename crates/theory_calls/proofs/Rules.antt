@@ -12,7 +12,8 @@ use Rattle.register_words.specs.Sdr1.{sdr1_shape, table_length}
 use Rattle.registers.specs.Rules.{first_broken}
 use Rattle.registers.specs.Set.{is_page, block_pairs, sdr1_of, side_shape, side_apart, segments_shape, register_words}
 use Rattle.registers.proofs.Set.{rule_kept}
-use Rattle.groups.specs.Page.{Page, InRange}
+use Rattle.groups.specs.declared.Page.{Page}
+use Rattle.groups.specs.Page.{InRange}
 use Rattle.theory_calls.specs.Request.{ClearCall, MapCall, ProtectCall, AnsweredCall, Request, clear, map_page, unmap, protect, look, access, sdr1_in}
 use Rattle.theory_calls.specs.Rules.{on_long_page, page_in_range, write_through_inhibited, map_in_range, table_rules, rules, refusal, operand_in_range}
 

@@ -15,7 +15,8 @@ use Rattle.entry.specs.Entry.{api_of, with_marks, with_pp}
 use Rattle.entry.proofs.Addresses.{api_lt}
 use Rattle.entry.proofs.Matches.{match_own, free_zero}
 use Rattle.entry.proofs.Packing.{first_lt}
-use Rattle.groups.specs.Page.{Page, InRange, same_page}
+use Rattle.groups.specs.declared.Page.{Page}
+use Rattle.groups.specs.Page.{InRange, same_page}
 use Rattle.matches.specs.Search.{h_of, contradict}
 use Rattle.theory_tables.specs.Layout.{matches_of, free_place, overwrite_each}
 use Rattle.theory_tables.proofs.Represented.{OneMatch, unmapped_matches, mapped_match, full_branch, free_branch}

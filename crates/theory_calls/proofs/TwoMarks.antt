@@ -21,7 +21,8 @@ use lib.Dec.{eqb}
 use borrow.Author.Tests.{eqb-true, eqb-false}
 use Rattle.entry.specs.Entry.{page_index, with_marks}
 use Rattle.entry.proofs.Marks.{marks_lt}
-use Rattle.groups.specs.Page.{Page, InRange, same_page}
+use Rattle.groups.specs.declared.Page.{Page}
+use Rattle.groups.specs.Page.{InRange, same_page}
 use Rattle.groups.specs.Group.{first_of, second_of}
 use Rattle.groups.proofs.Hash.{same_page_refl, same_page_eq}
 use Rattle.groups.proofs.Stored.{words_fit, stored_comm}

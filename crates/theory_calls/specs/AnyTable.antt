@@ -12,7 +12,7 @@ use Rattle.register_words.specs.Block.{bl_width}
 use Rattle.registers.specs.Set.{block_pairs, register_words, pair_covers}
 use Rattle.protection.specs.Access.{user_mode, relocated, side_of}
 use Rattle.protection.specs.Protection.{page_allows, guarded}
-use Rattle.groups.specs.Page.{Page}
+use Rattle.groups.specs.declared.Page.{Page}
 use Rattle.groups.specs.Hash.{group_number}
 use Rattle.groups.specs.Group.{first_of, second_of}
 use Rattle.matches.specs.Search.{h_of, agree}

@@ -1,6 +1,6 @@
 -- Requests made of their values in order, and fed ones, for rows and proofs.
 use Rattle.std.specs.Prelude.{ℕ, List, length}
-use Rattle.groups.specs.Page.{Page}
+use Rattle.groups.specs.declared.Page.{Page}
 use Rattle.theory_calls.specs.Request.{AnsweredCall, AccessCall, Request, clear, map_page, unmap, protect, look, access}
 
 abbrev pub to_clear : {A : Type 0} → ℕ → Request A

@@ -6,7 +6,7 @@ use Rattle.entry.specs.Entry.{first_word, second_word, matches, free, api_of, wi
 use Rattle.register_words.specs.Sdr1.{mask_ones}
 use Rattle.register_words.specs.Block.{bl_width}
 use Rattle.registers.specs.Set.{block_pairs, register_words}
-use Rattle.groups.specs.Page.{Page}
+use Rattle.groups.specs.declared.Page.{Page}
 use Rattle.groups.specs.Hash.{group_number}
 use Rattle.groups.specs.Group.{first_of, second_of, put_at}
 use Rattle.matches.specs.Search.{h_of, contradict, merged}

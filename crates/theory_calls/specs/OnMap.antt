@@ -9,7 +9,8 @@ use Rattle.theory_placement.specs.Placement.{Arrangement}
 use Rattle.theory_placement.proofs.Decision.{arrangement?}
 use Rattle.theory_placement.specs.FiniteMap.{fields_at, put_in, take_out, revise, mapped_pages}
 use Rattle.register_words.specs.Sdr1.{mask_ones}
-use Rattle.groups.specs.Page.{Page, same_page}
+use Rattle.groups.specs.declared.Page.{Page}
+use Rattle.groups.specs.Page.{same_page}
 use Rattle.groups.specs.Hash.{group_number}
 use Rattle.groups.proofs.Hash.{group_mirror}
 use Rattle.protection.specs.Access.{storing}

@@ -6,7 +6,7 @@ use Rattle.numbers.specs.Numbers.{done, data_storage_fault, instruction_storage_
 use Rattle.numbers.specs.Numbers.{refused_segment, refused_argument, refused_mapped, refused_no_match, refused_contradiction, refused_lent_length, refused_operand_length}
 use Rattle.words.specs.Rows.{Hold}
 use Rattle.words.specs.Words.{with_word, bytes_of}
-use Rattle.groups.specs.Page.{Page}
+use Rattle.groups.specs.declared.Page.{Page}
 use Rattle.theory_calls.specs.Made.{to_clear, to_map, to_unmap, to_protect, to_look, to_access}
 use Rattle.theory_calls.specs.Rules.{refusal}
 use Rattle.theory_calls.specs.Answers.{word_answer, seen_of, compared}

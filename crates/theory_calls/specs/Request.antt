@@ -1,6 +1,6 @@
 -- What each call on a table brings, by name (rules 5 and 6).
 use Rattle.std.specs.Prelude.{ℕ, List, length}
-use Rattle.groups.specs.Page.{Page}
+use Rattle.groups.specs.declared.Page.{Page}
 use Rattle.registers.specs.Set.{sdr1_of, register_words}
 
 pub record ClearCall : Type 0 where

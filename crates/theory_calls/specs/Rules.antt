@@ -6,7 +6,7 @@ use Rattle.registers.specs.Rules.{first_broken}
 use Rattle.register_words.specs.Sdr1.{sdr1_shape, table_length}
 use Rattle.register_words.specs.Block.{bl_width}
 use Rattle.registers.specs.Set.{is_page, is_long, block_pairs, sdr1_of, register_rules, register_words}
-use Rattle.groups.specs.Page.{Page}
+use Rattle.groups.specs.declared.Page.{Page}
 use Rattle.theory_calls.specs.Request.{MapCall, AccessCall, Request, clear, map_page, unmap, protect, look, access}
 
 -- a VSID below 2 ^ 24 and a page index below 65,536

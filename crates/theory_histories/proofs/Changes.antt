@@ -9,7 +9,8 @@ use lib.Dec.{eqb}
 use borrow.Author.Tests.{eqb-true, eqb-false}
 use Rattle.theory_placement.specs.FiniteMap.{fields_at, put_in, take_out, revise, mapped_pages}
 use Rattle.register_words.specs.Sdr1.{mask_ones}
-use Rattle.groups.specs.Page.{Page, same_page}
+use Rattle.groups.specs.declared.Page.{Page}
+use Rattle.groups.specs.Page.{same_page}
 use Rattle.protection.specs.Access.{storing}
 use Rattle.translation.specs.Operand.{over_edge}
 use Rattle.translation.specs.declared.Early.{Early}

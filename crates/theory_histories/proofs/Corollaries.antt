@@ -18,7 +18,8 @@ use Rattle.register_words.specs.Sdr1.{mask_ones}
 use Rattle.entry.specs.Entry.{wimg_of, pp_of, physical_address}
 use Rattle.entry.proofs.Packing.{SecondFields, second_packed}
 use Rattle.entry.proofs.Addresses.{physical_lt, physical_fields}
-use Rattle.groups.specs.Page.{Page, same_page}
+use Rattle.groups.specs.declared.Page.{Page}
+use Rattle.groups.specs.Page.{same_page}
 use Rattle.theory_tables.specs.Runs.{after, Each}
 use Rattle.theory_tables.proofs.Runs.{each_append}
 use Rattle.theory_tables.proofs.Represented.{unmapped_matches}

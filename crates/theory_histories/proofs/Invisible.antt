@@ -15,7 +15,8 @@ use Rattle.words.proofs.Below.{every_not}
 use Rattle.words.proofs.Ones.{size_ones}
 use Rattle.words.proofs.Tests.{by_test}
 use Rattle.register_words.specs.Sdr1.{mask_ones}
-use Rattle.groups.specs.Page.{Page, InRange}
+use Rattle.groups.specs.declared.Page.{Page}
+use Rattle.groups.specs.Page.{InRange}
 use Rattle.theory_tables.specs.Layout.{matches_of}
 use Rattle.translation.specs.Operand.{over_edge}
 use Rattle.translation.specs.declared.Early.{Early}

@@ -13,7 +13,8 @@ use Rattle.entry.specs.Entry.{second_word, with_pp}
 use Rattle.entry.proofs.Marks.{with_pp_lt}
 use Rattle.entry.proofs.Matches.{free_zero}
 use Rattle.entry.proofs.Packing.{second_lt}
-use Rattle.groups.specs.Page.{Page, InRange, same_page}
+use Rattle.groups.specs.declared.Page.{Page}
+use Rattle.groups.specs.Page.{InRange, same_page}
 use Rattle.groups.proofs.Hash.{same_page_eq}
 use Rattle.groups.proofs.Stored.{words_fit}
 use Rattle.matches.specs.Search.{contradict}

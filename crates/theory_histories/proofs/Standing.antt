@@ -23,7 +23,8 @@ use Rattle.theory_placement.specs.FiniteMap.{fields_at, take_out, revise, put_in
 use Rattle.theory_placement.proofs.FiniteMap.{mapped_pages_take_out, mapped_pages_revise}
 use Rattle.register_words.specs.Sdr1.{sdr1_shape, table_length, mask_ones}
 use Rattle.theory_tables.specs.Runs.{after, Each}
-use Rattle.groups.specs.Page.{Page, same_page}
+use Rattle.groups.specs.declared.Page.{Page}
+use Rattle.groups.specs.Page.{same_page}
 use Rattle.groups.specs.Hash.{group_number}
 use Rattle.protection.specs.Access.{storing}
 use Rattle.translation.specs.Operand.{over_edge}

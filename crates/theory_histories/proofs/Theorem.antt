@@ -10,7 +10,8 @@ use native.Mathlib.Omega.{arith}
 use lib.ListN.{length}
 use Rattle.theory_placement.specs.FiniteMap.{fields_at, put_in, mapped_pages}
 use Rattle.register_words.specs.Sdr1.{origin_of, mask_ones}
-use Rattle.groups.specs.Page.{Page, InRange, same_page}
+use Rattle.groups.specs.declared.Page.{Page}
+use Rattle.groups.specs.Page.{InRange, same_page}
 use Rattle.theory_calls.specs.Made.{fed_answered}
 use Rattle.theory_calls.specs.Request.{MapCall, AnsweredCall, ProtectCall, Request, map_page, unmap, protect, look, fed, sdr1_in}
 use Rattle.theory_calls.specs.Rules.{refusal}

@@ -3,7 +3,7 @@
 use Rattle.std.specs.Prelude.{ℕ, zero, suc, ◌*◌, false, List, [], ◌∷◌, ◌++◌, ◌≡◌, replicate}
 use Rattle.std.proofs.Math.Option.{none, some}
 use Rattle.words.specs.Words.{with_word}
-use Rattle.groups.specs.Page.{Page}
+use Rattle.groups.specs.declared.Page.{Page}
 use Rattle.theory_calls.specs.Request.{MapCall, Request, map_page}
 use Rattle.theory_calls.specs.Made.{to_map, to_unmap}
 use Rattle.theory_calls.specs.PageRows.{page_of}

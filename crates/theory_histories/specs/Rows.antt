@@ -5,7 +5,7 @@ use Rattle.std.proofs.Math.Option.{Option, none, some}
 use Rattle.numbers.specs.Numbers.{done}
 use Rattle.words.specs.Rows.{Hold}
 use Rattle.words.specs.Words.{bytes_of}
-use Rattle.groups.specs.Page.{Page}
+use Rattle.groups.specs.declared.Page.{Page}
 use Rattle.theory_calls.specs.Request.{Request, access}
 use Rattle.theory_calls.specs.Made.{to_clear, to_map, to_unmap, to_protect, to_look}
 use Rattle.theory_calls.specs.OnBytes.{Ended}

@@ -8,7 +8,8 @@ use Rattle.words.specs.Words.{word_at}
 use Rattle.theory_placement.specs.FiniteMap.{fields_at, mapped_pages}
 use Rattle.register_words.specs.Sdr1.{mask_ones}
 use Rattle.theory_tables.specs.Runs.{run, after}
-use Rattle.groups.specs.Page.{Page, same_page}
+use Rattle.groups.specs.declared.Page.{Page}
+use Rattle.groups.specs.Page.{same_page}
 use Rattle.translation.specs.Steps.{answer_of}
 use Rattle.translation.specs.Decision.{decided}
 use Rattle.translation.specs.Operand.{over_edge, stopped}

@@ -16,7 +16,8 @@ use Rattle.theory_placement.specs.FiniteMap.{fields_at}
 use Rattle.register_words.specs.Sdr1.{sdr1_shape, table_length, mask_ones}
 use Rattle.theory_tables.specs.Runs.{Each}
 use Rattle.theory_tables.proofs.Runs.{each_append}
-use Rattle.groups.specs.Page.{Page, same_page}
+use Rattle.groups.specs.declared.Page.{Page}
+use Rattle.groups.specs.Page.{same_page}
 use Rattle.groups.specs.Hash.{group_number}
 use Rattle.groups.proofs.Hash.{group_mirror, same_page_refl, same_page_eq}
 use Rattle.theory_calls.specs.Request.{Request, look, fed, sdr1_in}

@@ -1,6 +1,6 @@
 -- Instances of what is assumed of a lost call, over every table of 65,536 bytes and every cache of 2,048: a lost map and a lost unmap, each of which matters.
 use Rattle.std.specs.Prelude.{List, [], ◌∷◌, ◌≡◌}
-use Rattle.groups.specs.Page.{Page}
+use Rattle.groups.specs.declared.Page.{Page}
 use Rattle.theory_calls.specs.OnMap.{Map}
 use Rattle.theory_histories.specs.Calls.{slices, State, Call, lengths_of}
 use Rattle.theory_lost_call.specs.Lost.{LostCall, lacking, map_after_run, Mapped}

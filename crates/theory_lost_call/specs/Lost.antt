@@ -5,7 +5,8 @@ use Rattle.std.proofs.Math.Option.{some}
 use Rattle.numbers.specs.Numbers.{done, refused_no_match, answer_size}
 use Rattle.theory_placement.specs.FiniteMap.{fields_at}
 use Rattle.theory_tables.specs.Runs.{after}
-use Rattle.groups.specs.Page.{Page, same_page}
+use Rattle.groups.specs.declared.Page.{Page}
+use Rattle.groups.specs.Page.{same_page}
 use Rattle.theory_calls.specs.Request.{MapCall, AnsweredCall, Request, map_page, unmap, look}
 use Rattle.theory_calls.specs.OnBytes.{on_bytes}
 use Rattle.theory_calls.specs.OnMap.{PageFields, Map}

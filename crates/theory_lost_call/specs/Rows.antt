@@ -4,7 +4,7 @@ use Rattle.std.specs.Prelude.{ℕ, ◌*◌, ◌/◌, List, [], ◌∷◌, ◌++�
 use Rattle.numbers.specs.Numbers.{answer_size}
 use Rattle.words.specs.Rows.{Hold}
 use Rattle.theory_tables.specs.Runs.{after}
-use Rattle.groups.specs.Page.{Page}
+use Rattle.groups.specs.declared.Page.{Page}
 use Rattle.theory_calls.specs.Made.{to_map, to_unmap}
 use Rattle.theory_calls.specs.OnMap.{PageFields}
 use Rattle.theory_histories.specs.Calls.{Call, slices, plain}

@@ -32,9 +32,8 @@ module _ (pairs width : ℕ) where
   -- step 2, by the block of pair i of the access's side
   unfoldable pub block_outcome : List ℕ → ℕ → ℕ → ℕ → Outcome
   block_outcome words kind address i =
-      let upper = upper_of pairs words (side_of kind) i in
       let lower = lower_of pairs words (side_of kind) i in
-      cond (block_allows (block_pp lower) kind) (Block i (block_physical width upper lower address) (block_attributes lower)) (BlockProtection i)
+      cond (block_allows (block_pp lower) kind) (Block i (block_physical width (upper_of pairs words (side_of kind) i) lower address) (block_attributes lower)) (BlockProtection i)
 
   -- steps 1 to 3: real mode, else a block, else a fetch with N = 1, else the search
   unfoldable pub before_search : List ℕ → ℕ → ℕ → ℕ → Early

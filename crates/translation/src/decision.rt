@@ -3,7 +3,7 @@ ghost use Rattle.std.specs.Prelude.{◌≡◌};
 ghost use Rattle.translation.specs.Decision.{decided, by_entry, key_and_pp};
 
 // The number of the rule; the block's number in rule 1, key × 4 + PP in rules 5 and 6; the numbers of the group and the entry in rules 4 to 6.
-// Stays four numbers, and the rule no enum: they are what the C interface writes, and `decision_of` of specs/ speaks of its fields.
+// Stays four numbers, and the rule no enum: they are what the C interface writes, `rule_words` (theory_calls/specs/Answers).
 #[derive(Clone, Copy)]
 pub struct Decision {
     pub rule: u32,
@@ -13,7 +13,7 @@ pub struct Decision {
 }
 
 // What a search went by: the key of the segment, and the group and the number of the first match.
-// Stays as it is: `decision_of` of specs/ speaks of its fields.
+// Stays as it is: `hit_answers` of `AccessOnAnyCache` (theory_cache/specs/AnyCache) speaks of its fields.
 #[derive(Clone, Copy)]
 pub struct Used {
     pub key: bool,

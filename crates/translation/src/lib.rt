@@ -9,7 +9,7 @@ ghost use Rattle.protection.specs.Fault.{fault_of};
 ghost use Rattle.translation.specs.Steps.{wanted_of, done_answer, fault_answer, refused_answer};
 
 // What one access comes to.
-// Stays as it is: `outcome_of`, `answer_of` and `decision_of` of specs/, and theorems of the theory crates, speak of its variants.
+// Stays as it is: `StepsBefore`, `StepsAfter` and `AnswersStated` (specs/Stated) speak of its variants.
 #[derive(Clone, Copy)]
 pub enum Outcome {
     // Done untranslated.
@@ -29,7 +29,7 @@ pub enum Outcome {
 }
 
 // The page that a search looks for, and the key of its segment.
-// Stays as it is: `wanted_of` and `outcome_of` of specs/ speak of its fields.
+// Stays as it is: `StepsBefore` (specs/Stated), law `in_range_law`, speaks of its fields, and `marked_by` (theory_calls/specs/OnBytes) takes it.
 #[derive(Clone, Copy)]
 pub struct Wanted {
     pub vsid: u32,
@@ -38,7 +38,7 @@ pub struct Wanted {
 }
 
 // What the steps before the search come to.
-// Stays as it is: `before_search` and `outcome_of` of specs/ speak of its variants.
+// Stays as it is: `StepsBefore` (specs/Stated) and `marked_by` (theory_calls/specs/OnBytes) speak of its variants.
 #[derive(Clone, Copy)]
 pub enum Early {
     Decided(Outcome),
@@ -46,7 +46,7 @@ pub enum Early {
 }
 
 // What the search found: no match, the second word of the first match, or matches that contradict.
-// Stays as it is, with the shape of an option in a result: `after_search` of specs/ speaks of its variants.
+// Stays as it is, with the shape of an option in a result: `StepsAfter` (specs/Stated) and `found_in` (theory_calls/specs/OnMap) speak of its variants.
 #[derive(Clone, Copy)]
 pub enum Searched {
     Nothing,
@@ -55,7 +55,7 @@ pub enum Searched {
 }
 
 // The four words of an answer: result; physical address or fault word; attributes or interrupt offset; effective address.
-// Stays four words: they are what the C interface writes, and `answer_of` of specs/ speaks of its fields.
+// Stays four words: they are what the C interface writes, and `AnswersStated` (specs/Stated) speaks of them.
 #[derive(Clone, Copy)]
 pub struct Answer {
     pub result: u32,
@@ -101,6 +101,7 @@ pub fn fault_answer(cause: u32, kind: u32, effective: u32) -> Answer
 }
 
 // The answer of a refusal: its number and three zero words.
+// The number stays a number: `refused_answer` of specs/Steps answers for any.
 pub fn refused_answer(number: u32) -> Answer
     ensures { result ≡ refused_answer number }
 {

@@ -7,7 +7,7 @@ use crate::decision::Decision;
 
 // What an operand answers: the four words of the part that answers for all, and the rule that decided that part; the second part's physical address
 // and attributes, and the bytes in each page.
-// Stays as it is, with its zero words: they are what the C interface writes, and `operand_answer` of specs/ speaks of its fields.
+// Stays as it is, with its zero words: they are what the C interface writes, `access_answer` (theory_calls/specs/Answers).
 #[derive(Clone, Copy)]
 pub struct OperandAnswer {
     pub part: Answer,
@@ -27,7 +27,7 @@ pub fn first_bytes(address: u32, length: u32) -> u32
 }
 
 // Where the part behind these bytes starts: after the last address comes address 0.
-// Stays a sum that wraps: a rule of the project asks for it.
+// Stays a sum that wraps: a binding form (docs/DECISIONS.md, forms).
 pub fn next_start(address: u32, bytes: u32) -> u32
     ensures { result ≡ (address + bytes) % 2 ^ 32 }
 {

@@ -5,7 +5,8 @@
 --   swapped_of, swapped_twice: a word with its bytes in reverse order, and that reversed twice it is itself
 --   turned_0, turned_1, turned_2, turned_3: each byte of the reversed word
 --   reverse_same: two words are equal exactly where they are with their bytes in reverse order
---   from_low_end, swap_bytes_swapped, low_bytes_swapped: what the library's conversions of words and bytes are
+--   from_low_end, pair_from_high_end: what the library makes of four and of eight bytes
+--   swap_bytes_swapped, low_bytes_swapped: what the library's other conversions of words and bytes are
 --   sets_before, sets_behind, sets_in: a run of stores leaves what is before it and behind it, and puts in what it stores
 --   sets_comm: two runs of stores that do not meet may be made in either order
 --   length_word_bytes, length_with_word: a word has four bytes, and a write of a word leaves the length
@@ -23,7 +24,7 @@ use lib.ListN.{length, get_or, set, take, drop, length-set, length-append}
 use lib.Dec.{eqb, lit≤, lit<}
 use lib.Pow.{shr-shr, split}
 use lib.Seq.{sets, length-sets, sets-eq, get_or-set_same, get_or-set_other, set_out, set_comm, take_at, take-length, length-take-le}
-use Rattle.std.specs.Int.{w32, from_le_bytes, to_le_bytes, swap_bytes}
+use Rattle.std.specs.Int.{w32, w64, from_le_bytes, from_be_bytes, to_le_bytes, swap_bytes}
 use Rattle.words.proofs.Tests.{three, eqb_same}
 use Rattle.words.specs.Bits.{bits, placed}
 use Rattle.words.proofs.Bits.{bits_split, bits_all}
@@ -104,6 +105,33 @@ from_low_end s at h =
   where
     sum : (a b c d : ℕ) → from_le_bytes w32 (a ∷ b ∷ c ∷ d ∷ []) ≡ word_of d c b a
     sum a b c d = omega arith
+
+-- the library's pairs of words of eight bytes, high end first
+module _ (s : List ℕ) (at : ℕ) where
+  five : at + 5 ≡ at + 4 + 1
+  five = omega arith
+
+  six : at + 6 ≡ at + 4 + 2
+  six = omega arith
+
+  seven : at + 7 ≡ at + 4 + 3
+  seven = omega arith
+
+  -- the eight bytes from `at` on
+  abbrev eight : List ℕ
+  eight =
+      get_or s at 0 ∷ get_or s (at + 1) 0 ∷ get_or s (at + 2) 0 ∷ get_or s (at + 3) 0
+      ∷ get_or s (at + 4) 0 ∷ get_or s (at + 5) 0 ∷ get_or s (at + 6) 0 ∷ get_or s (at + 7) 0 ∷ []
+
+  pub pair_from_high_end : from_be_bytes w64 eight ≡ word_at s at * 2 ^ 32 + word_at s (at + 4)
+  unfolding word_at
+  pair_from_high_end =
+      rw (five, six, seven) (
+      sum (get_or s at 0) (get_or s (at + 1) 0) (get_or s (at + 2) 0) (get_or s (at + 3) 0)
+      (get_or s (at + 4) 0) (get_or s (at + 4 + 1) 0) (get_or s (at + 4 + 2) 0) (get_or s (at + 4 + 3) 0))
+    where
+      sum : (a b c d e f g i : ℕ) → from_be_bytes w64 (a ∷ b ∷ c ∷ d ∷ e ∷ f ∷ g ∷ i ∷ []) ≡ word_of a b c d * 2 ^ 32 + word_of e f g i
+      sum a b c d e f g i = omega arith
 
 pub swap_bytes_swapped : (w : ℕ) → swap_bytes w32 w ≡ swapped w
 unfolding swapped

@@ -8,7 +8,7 @@ ghost use Rattle.words.specs.Words.{word_of, word_at, swapped, with_word, bytes_
 
 // Whether a field is ones only at its low end, where `whole` is the field that it was and n is 32 without its bits that are gone: the field
 // without its lowest bit is asked again, and in the end the whole is compared with as many ones as it has bits.
-// Stays a recursion: that a field is asked again without its lowest bit is a rule of the project.
+// Stays a recursion: a binding form (docs/DECISIONS.md, forms).
 fn low_ones_of(field: u32, whole: u32, n: u32) -> bool
     requires { (size field ≤ n) × (n ≤ 32) }
     ensures { result ≡ eqb whole (2 ^ (32 - (n - size field)) - 1) }
@@ -28,7 +28,7 @@ pub fn low_ones(field: u32) -> bool
 
 // The place of the highest one of a field, counted from the low end, where n is 32 without the field's bits that are gone: the field without its
 // lowest bit is asked again.
-// Stays a recursion, where the library has `ilog2`: BL's ones at the low end are tested by it, and that test is a recursion by a rule of the project.
+// Stays a recursion, where the library has `ilog2`: BL's ones at the low end are tested by it, a binding form (docs/DECISIONS.md, forms).
 fn highest_of(field: u32, n: u32) -> u32
     requires { (size field ≤ n) × (n ≤ 32) × (n < 32 + size field) }
     ensures { result ≡ 31 - (n - size field) }
@@ -55,6 +55,8 @@ pub fn word_of(a: u8, b: u8, c: u8, d: u8) -> u32
 }
 
 // The four bytes from `at` on as a little-endian machine loads them: the word with its bytes in reverse order.
+// That its bytes are in the slice is asked here and in each function below: each has its own `at`, and a type of slice and place, made anew for each
+// word, is no plainer.
 pub fn raw_word(s: &[u8], at: usize) -> u32
     requires { at + 4 ≤ length s.now }
     ensures { result ≡ swapped (word_at s.now at) }
@@ -62,38 +64,42 @@ pub fn raw_word(s: &[u8], at: usize) -> u32
     u32::from_le_bytes([s[at], s[at + 1], s[at + 2], s[at + 3]])
 }
 
-// The big-endian word of the four bytes from `at` on. Read from the low end, it is one load for the compiler wherever it is used.
+// The big-endian word of the four bytes from `at` on.
+#[tactic(auto, unfolding(crate::specs::Words::word_at))]
 pub fn read_word(s: &[u8], at: usize) -> u32
     requires { at + 4 ≤ length s.now }
     ensures { result ≡ word_at s.now at }
 {
-    swapped(raw_word(s, at))
-}
-
-// Two words as one number, the first in the high half.
-// Stays a shift and an or: the library has no method for it, and that words are packed by shifts is a rule of the project.
-fn pair_of(first: u32, second: u32) -> u64
-    ensures { result ≡ first * 2 ^ 32 + second }
-{
-    ((first as u64) << 32) | (second as u64)
+    u32::from_be_bytes([s[at], s[at + 1], s[at + 2], s[at + 3]])
 }
 
 // The eight bytes from `at` on as a little-endian machine loads them.
+// Stays a shift and an or of two words: by `from_le_bytes`, tried, the eight bytes of `read_pair` stand again, and tools/check_copies.py lets no code.
 pub fn raw_pair(s: &[u8], at: usize) -> u64
     requires { at + 8 ≤ length s.now }
     ensures { result ≡ swapped (word_at s.now (at + 4)) * 2 ^ 32 + swapped (word_at s.now at) }
 {
-    pair_of(raw_word(s, at + 4), raw_word(s, at))
+    ((raw_word(s, at + 4) as u64) << 32) | (raw_word(s, at) as u64)
 }
 
 // The two big-endian words of the eight bytes from `at` on, the first in the high half.
 // Stays beside `raw_pair`: the order of the words differs too, so that one function with the reader as a parameter is no plainer.
+#[tactic(auto, using(crate::proofs::Words::pair_from_high_end, crate::proofs::Words::word_lt))]
 pub fn read_pair(s: &[u8], at: usize) -> u64
     requires { at + 8 ≤ length s.now }
     ensures { (result ≡ word_at s.now at * 2 ^ 32 + word_at s.now (at + 4))
         × (word_at s.now at < 2 ^ 32) × (word_at s.now (at + 4) < 2 ^ 32) }
 {
-    pair_of(read_word(s, at), read_word(s, at + 4))
+    u64::from_be_bytes([
+        s[at],
+        s[at + 1],
+        s[at + 2],
+        s[at + 3],
+        s[at + 4],
+        s[at + 5],
+        s[at + 6],
+        s[at + 7],
+    ])
 }
 
 // The word with its bytes in reverse order.

@@ -12,8 +12,8 @@ pub returns-in-Continue : goal.returns-in-Continue
 returns-in-Continue c k t is =
     let a = c.args.asked in
     let wanted = c.in-Continue.wanted in
-    let e = begun_wants a.kind a.address (before_search 8 15 (set_words c.args.registers.now) a.mode a.kind a.address) wanted (sym c.before_search.ensures ∙ c.in-Continue.is) in
-    let wants = (searches 8 15 (set_words c.args.registers.now) a.mode a.kind a.address wanted e).wants in
+    let e = begun_wants a.kind a.address (before_search 8 15 (set_words c.args.registers.bytes.now) a.mode a.kind a.address) wanted (sym c.before_search.ensures ∙ c.in-Continue.is) in
+    let wants = (searches 8 15 (set_words c.args.registers.bytes.now) a.mode a.kind a.address wanted e).wants in
     c.after_search.ensures
     ∙ ap (by_found a.kind a.address wanted.key) (ap (λ (s : Standing). s.found) is ∙ ap (table_found k t) (sym wants))
     ∙ sym (part_searched a.kind a.address (table_found k t) wanted)

@@ -27,14 +27,14 @@ own call kind at part t stands is =
 pub returns-then-answer-ne-DONE : goal.returns-then-answer-ne-DONE
 returns-then-answer-ne-DONE c t stands kept =
     let a = c.args.asked in
-    let call : RightsCall = record { registers = c.args.registers.now; mode = a.mode; address = a.address } in
+    let call : RightsCall = record { registers = c.args.registers.bytes.now; mode = a.mode; address = a.address } in
     let part = c.part_at-part.result in
-    stopped_tells call c.requires.0 a.kind t kept stands.0 part (own call a.kind c.args.at part t stands c.part_at-part.ensures) c.if-answer-ne-DONE.true _ c.stopped.ensures refl
+    stopped_tells call c.args.registers.whole a.kind t kept stands.0 part (own call a.kind c.args.at part t stands c.part_at-part.ensures) c.if-answer-ne-DONE.true _ c.stopped.ensures refl
 
 pub returns : goal.returns
 returns c t stands kept =
     let a = c.args.asked in
-    let call : RightsCall = record { registers = c.args.registers.now; mode = a.mode; address = a.address } in
+    let call : RightsCall = record { registers = c.args.registers.bytes.now; mode = a.mode; address = a.address } in
     let part = c.part_at-part.result in
-    done_tells call c.requires.0 a.kind t kept stands.0 part (own call a.kind c.args.at part t stands c.part_at-part.ensures) c.if-answer-ne-DONE.false _
+    done_tells call c.args.registers.whole a.kind t kept stands.0 part (own call a.kind c.args.at part t stands c.part_at-part.ensures) c.if-answer-ne-DONE.false _
     c.within.ensures c.new_marks.ensures

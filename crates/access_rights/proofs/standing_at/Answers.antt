@@ -17,23 +17,23 @@ use Rattle.access_rights.proofs.standing_at.Goals as goal
 use Rattle.access_rights.proofs.standing_at.Goals.{After-wanted_of-wanted}
 
 -- the page that is searched for
-wanted_is : (c : After-wanted_of-wanted) → c.wanted_of-wanted.result ≡ wanted_of (user_mode c.args.mode) (segment_at (set_words c.args.registers.now) c.args.address) c.args.address
+wanted_is : (c : After-wanted_of-wanted) → c.wanted_of-wanted.result ≡ wanted_of (user_mode c.args.mode) (segment_at (set_words c.args.registers.bytes.now) c.args.address) c.args.address
 wanted_is c =
     let a = c.args in
     c.wanted_of-wanted.ensures
     ∙ ap₂ (λ (user : Bool) (segment : ℕ). wanted_of user segment a.address) c.user_mode-user.ensures
-    (c.segment-segment.ensures ∙ ap (segment_of (set_words a.registers.now)) (sym (shr_mod 4 28 c.ranges.address.fits)))
+    (c.segment-segment.ensures ∙ ap (segment_of (set_words a.registers.bytes.now)) (sym (shr_mod 4 28 c.ranges.address.fits)))
 
 pub returns : goal.returns
 returns c =
     let a = c.args in
-    let words = set_words a.registers.now in
+    let words = set_words a.registers.bytes.now in
     let k = mask_ones (sdr1_of words) in
     let pair : Bool → Bool → Option ℕ = λ side user. covered_by words side user a.address in
     let stand : Option ℕ → Option ℕ → Found → Standing = λ i d f. record { ibat = i; dbat = d; found = f } in
-    let long = is_long (length a.registers.now) in
+    let long = is_long (length a.registers.bytes.now) in
     let ibat = covered_is words false _ a.address long _ c.covering_pair.ensures.number c.covering_pair.ensures.own ∙ ap (pair false) c.user_mode-user.ensures in
     let dbat = covered_is words true _ a.address long _ c.covering_pair-2.ensures.number c.covering_pair-2.ensures.own ∙ ap (pair true) c.user_mode-user.ensures in
     ap₂ (λ (i d : Option ℕ). stand i d c.search.result) ibat dbat
     ∙ ap (stand (pair false (user_mode a.mode)) (pair true (user_mode a.mode)))
-    (c.search.ensures (sdr1_of words) c.requires.1 ∙ ap (table_found k a.table.now) (wanted_is (goal.at.returns c).After-wanted_of-wanted))
+    (c.search.ensures (sdr1_of words) c.requires ∙ ap (table_found k a.table.now) (wanted_is (goal.at.returns c).After-wanted_of-wanted))

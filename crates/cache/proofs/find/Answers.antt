@@ -8,7 +8,7 @@ use native.Mathlib.Omega.{arith}
 use lib.ListN.{length}
 use Rattle.words.specs.Words.{word_at}
 use Rattle.entry.specs.Entry.{changed}
-use Rattle.groups.specs.Page.{Page}
+use Rattle.groups.specs.declared.Page.{Page}
 use Rattle.cache.specs.Cache.{place_at, second_in, met, hit}
 use Rattle.cache.proofs.Cache.{place_0, place_1, place_le, hit_0, hit_1, hit_none}
 use Rattle.cache.proofs.Steps.{held_0, held_1, met_clear, met_set}

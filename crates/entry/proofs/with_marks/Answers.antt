@@ -17,4 +17,4 @@ marks false true w = rw (or_zero_r w, or_bit 7 w)
 marks false false w = rw (or_zero_r w, or_zero_r w)
 
 pub returns : goal.returns
-returns c = marks c.args.referenced c.args.changed c.args.second
+returns c = rw (c.from.ensures, c.from-2.ensures) (marks c.args.referenced c.args.changed c.args.second)

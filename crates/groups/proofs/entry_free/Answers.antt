@@ -3,6 +3,7 @@ use mathlib.Core.Path.{◌≡◌, refl, sym}
 use Prim.Native.Nat.{ℕ, ◌+◌, ◌*◌, ◌/◌, ◌%◌, ◌^◌, ◌<◌}
 use mathlib.Core.Bool.{Bool, true, false}
 use native.Mathlib.Omega.{arith}
+use Rattle.std.proofs.Common.{rules, Fits, w8}
 use lib.Dec.{eqb, ltb}
 use lib.ListN.{get_or}
 use borrow.Author.Tests.{ltb-true, ltb-false, eq-eqb, ne_eqb}
@@ -25,5 +26,5 @@ unfolding entry_free first_at word_at
 returns c =
     let at = 8 * c.args.entry in
     let group = c.args.group.now in
-    let byte : (i : ℕ) → get_or group i 0 < 256 = λ i. omega (arith, c.type_inv.group i) in
+    let byte : (i : ℕ) → get_or group i 0 < 256 = λ i. let fits : Fits w8 (get_or group i 0) = search rules in omega (arith, fits.fits) in
     top_bit (get_or group at 0) (get_or group (at + 1) 0) (get_or group (at + 2) 0) (get_or group (at + 3) 0) (byte at) (byte (at + 1)) (byte (at + 2)) (byte (at + 3))

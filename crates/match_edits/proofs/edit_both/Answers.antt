@@ -33,6 +33,6 @@ returns c vsid api wants =
     let matching : Bool → List ℕ → List Match = λ b group. group_matches b vsid api group in (
       further.0 ∙ ap (λ (u : List ℕ). on_group u s (edit_matches a.edit true vsid api)) own.0,
       further.1
-          ∙ ap₂ marks_of (ap (matching true) (ap (λ (u : List ℕ). group_of u s) own.0 ∙ other_stays a.edit vsid api t p s c.requires.1 c.requires.3)) own.1
+          ∙ ap₂ marks_of (ap (matching true) (ap (λ (u : List ℕ). group_of u s) own.0 ∙ other_stays a.edit vsid api t p s c.requires.0 c.requires.2)) own.1
           ∙ sym (marks_append (matching false (group_of t p)) (matching true (group_of t s)) a.second),
     )

@@ -31,7 +31,7 @@ returns-then-eq c vsid api wants found =
     let place : a.first.place ≡ place_of m = ap (λ (f : FirstMatch). f.place) first in
     let group : c.group-group.result ≡ cond m.secondary s p = c.group-group.ensures ∙ ap (λ (x : Place). cond x.secondary s p) place in
     let entry : a.first.place.entry ≡ m.entry = ap (λ (x : Place). x.entry) place in (
-      c.edit_entry.ensures.0 ∙ ap₂ (edit_at a.edit t) group entry ∙ edit_alone a.edit vsid api p s t m are pre.2 pre.3 pre.4,
+      c.edit_entry.ensures.0 ∙ ap₂ (edit_at a.edit t) group entry ∙ edit_alone a.edit vsid api p s t m are pre.1 pre.2 pre.3,
       c.edit_entry.ensures.1
           ∙ ap₂ (second_of t) group entry
           ∙ (entry_is vsid api p s t m [] are).2

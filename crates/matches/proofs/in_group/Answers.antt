@@ -1,7 +1,9 @@
 -- `matches::in_group` meets its contract: the part that is lent is the group, and the word that is wanted there has the group's H.
-use mathlib.Core.Path.{ap, ◌∙◌}
+use mathlib.Core.Path.{◌≡◌, ap, ◌∙◌}
 use mathlib.Core.List.{List, ◌++◌}
-use Prim.Native.Nat.{ℕ}
+use Prim.Native.Nat.{ℕ, ◌+◌, ◌-◌, ◌*◌}
+use borrow.Rule.Slice.PartMut.{mid_of}
+use Rattle.std.proofs.Common.{rules}
 use Rattle.groups.specs.Group.{group_of, free_after}
 use Rattle.groups.proofs.Lent.{lent_group}
 use Rattle.matches.specs.Search.{group_matches, told}
@@ -10,6 +12,9 @@ use Rattle.matches.proofs.in_group.Goals as goal
 pub returns : goal.returns
 returns c vsid api ms free wants few was =
     let a = c.args in
+    let t = a.table.now in
+    let g = c.group-from.result in
+    let lent : c.unwrap-group.result.now ≡ mid_of (g * 64) (g * 64 + 64 - g * 64) t = search rules in
     c.search.ensures vsid api ms free (wants.0, wants.1, c.wanted_in.ensures vsid api wants.0 wants.1 wants.2) few was
     ∙ ap (λ (group : List ℕ). told (ms ++ group_matches a.secondary vsid api group) (free_after free group))
-    (lent_group a.table.now c.group-from.result ∙ ap (group_of a.table.now) c.group-from.ensures)
+    (lent ∙ lent_group t g ∙ ap (group_of t) c.group-from.ensures)

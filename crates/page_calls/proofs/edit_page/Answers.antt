@@ -20,7 +20,7 @@ pub edit_page-requires : goal.edit_page-requires
 edit_page-requires c =
     let pre = c.requires in
     let know = told_of (goal.at.edit_page-requires c).After-search pre.0.0 pre.0.1 in
-    (pre.2, first_lt _ _ _ _ know.at _ (first_found _ _ (sym know.first_is ∙ c.in-Some.is)), know.at.primary_in, know.at.secondary_in, know.at.apart)
+    (first_lt _ _ _ _ know.at _ (first_found _ _ (sym know.first_is ∙ c.in-Some.is)), know.at.primary_in, know.at.secondary_in, know.at.apart)
 
 pub returns : goal.returns
 returns c sdr1 right =

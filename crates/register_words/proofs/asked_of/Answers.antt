@@ -1,7 +1,7 @@
 -- `register_words::asked_of` meets its contract: what the ones leave of the pair is what the laws of Shape speak of, for either page and side.
-use Rattle.std.proofs.Common.{◌≡◌, ℕ, ◌+◌, ◌%◌, ◌^◌, Bool, true, false, refl, ap, ◌∙◌, ap₂}
+use Rattle.std.proofs.Common.{◌≡◌, ℕ, Bool, true, false, refl, ◌∙◌, ap₂}
 use lib.Bits.{bit_and, bit_xor}
-use Rattle.register_words.specs.Asked.{bl_place, side_sum}
+use Rattle.register_words.specs.Asked.{bl_place}
 use Rattle.register_words.specs.Block.{bl_width}
 use Rattle.register_words.proofs.Asked.{asked, place}
 use Rattle.register_words.proofs.Shape.{asked_shape}

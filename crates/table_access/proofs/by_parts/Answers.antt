@@ -29,7 +29,7 @@ part_at words a lent second part address starts is =
 
 module _ (c : Start) where
   abbrev words : List ℕ
-  words = set_words c.args.registers.now
+  words = set_words c.args.registers.bytes.now
 
   abbrev sdr1 : ℕ
   sdr1 = sdr1_of words
@@ -42,14 +42,14 @@ module _ (c : Start) where
   own = own_part c.args.access (mask_ones sdr1) lent (part_early words c.args.access)
 
   of : TableOf sdr1 (length lent.0)
-  of = c.requires.0.1
+  of = c.requires.0
 
   lies : (second : Bool) (part : Part) → part ≡ own second → LiesIn part.found (length lent.0)
   lies second part e = subst (λ (p : Part). LiesIn p.found (length lent.0)) (sym e) (own_lies words c.args.access sdr1 lent of second)
 
-first_is : (c : After-part_of-first) → c.part_of-first.result ≡ own_part c.args.access (mask_ones (sdr1_of (set_words c.args.registers.now))) (c.args.table.now, c.args.cache.now)
-    (part_early (set_words c.args.registers.now) c.args.access) false
-first_is c = let a = c.args.access in part_at (set_words c.args.registers.now) a (c.args.table.now, c.args.cache.now) false c.part_of-first.result a.address (sym (start_first a.address a.length)) c.part_of-first.ensures
+first_is : (c : After-part_of-first) → c.part_of-first.result ≡ own_part c.args.access (mask_ones (sdr1_of (set_words c.args.registers.bytes.now))) (c.args.table.now, c.args.cache.now)
+    (part_early (set_words c.args.registers.bytes.now) c.args.access) false
+first_is c = let a = c.args.access in part_at (set_words c.args.registers.bytes.now) a (c.args.table.now, c.args.cache.now) false c.part_of-first.result a.address (sym (start_first a.address a.length)) c.part_of-first.ensures
 
 -- where the second part begins
 behind : (c : After-next_start) → let a = c.args.access in c.next_start.result ≡ part_start a.address a.length true
@@ -58,9 +58,9 @@ behind c =
     c.next_start.ensures ∙ ap (λ (n : ℕ). (a.address + n) % 2 ^ 32) c.first_bytes-bytes.ensures ∙ sym (start_second a.address a.length)
 
 second_is : (c : After-part_of-second) → c.next_start.result ≡ part_start c.args.access.address c.args.access.length true
-    → c.part_of-second.result ≡ own_part c.args.access (mask_ones (sdr1_of (set_words c.args.registers.now))) (c.args.table.now, c.args.cache.now)
-    (part_early (set_words c.args.registers.now) c.args.access) true
-second_is c starts = part_at (set_words c.args.registers.now) c.args.access (c.args.table.now, c.args.cache.now) true c.part_of-second.result c.next_start.result starts c.part_of-second.ensures
+    → c.part_of-second.result ≡ own_part c.args.access (mask_ones (sdr1_of (set_words c.args.registers.bytes.now))) (c.args.table.now, c.args.cache.now)
+    (part_early (set_words c.args.registers.bytes.now) c.args.access) true
+second_is c starts = part_at (set_words c.args.registers.bytes.now) c.args.access (c.args.table.now, c.args.cache.now) true c.part_of-second.result c.next_start.result starts c.part_of-second.ensures
 
 pub returns-then-first-ne-DONE : goal.returns-then-first-ne-DONE
 returns-then-first-ne-DONE c =

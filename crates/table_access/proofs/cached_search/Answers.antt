@@ -9,7 +9,7 @@ use lib.Dec.{eqb}
 use lib.ListN.{length}
 use Rattle.words.specs.Bits.{bits}
 use Rattle.register_words.specs.Sdr1.{table_length, mask_ones}
-use Rattle.groups.specs.Page.{Page}
+use Rattle.groups.specs.declared.Page.{Page}
 use Rattle.groups.specs.Hash.{group_number, TableOf}
 use Rattle.protection.specs.Access.{storing}
 use Rattle.cache.specs.Cache.{hit, found}

@@ -27,23 +27,23 @@ returns-in_err-check c =
     let a = c.args in
     let refusal = c.in_err-check.field-0.0 in
     let handed : c.from_residual.result ≡ Err refusal = grind arith in
-    let number : refusal_number refusal ≡ check_words (pairs_of a.registers.now) (width_of a.registers.now) (register_words a.registers.now) = c.in_err-check.ensures in
+    let number : refusal_number refusal ≡ check_words (pairs_of a.registers.bytes.now) (width_of a.registers.bytes.now) (register_words a.registers.bytes.now) = c.in_err-check.ensures in
     ap result_number handed ∙ number
-    ∙ sym (rules.then_check (pairs_of a.registers.now) (width_of a.registers.now) (register_words a.registers.now) a.access.mode a.access.kind a.access.length a.lent
+    ∙ sym (rules.then_check (pairs_of a.registers.bytes.now) (width_of a.registers.bytes.now) (register_words a.registers.bytes.now) a.access.mode a.access.kind a.access.length a.lent
     c.if-not-access.false (c.if-not-access-2.false) (λ z. refused_number refusal (number ∙ z)))
 
 -- the length that is asked for is that of the page's SDR1
-length_is : (c : After-table_length) → c.table_length.result ≡ table_length (sdr1_of (register_words c.args.registers.now))
-length_is c = c.table_length.ensures ∙ ap table_length (c.sdr1.ensures ∙ sdr1_set c.args.registers.now c.requires)
+length_is : (c : After-table_length) → c.table_length.result ≡ table_length (sdr1_of (register_words c.args.registers.bytes.now))
+length_is c = c.table_length.ensures ∙ ap table_length (c.sdr1.ensures ∙ sdr1_set c.args.registers.bytes.now c.args.registers.whole)
 
 pub returns-then-lent-table_length : goal.returns-then-lent-table_length
 returns-then-lent-table_length c =
     let a = c.args in
-    sym (rules.then_length (pairs_of a.registers.now) (width_of a.registers.now) (register_words a.registers.now) a.access.mode a.access.kind a.access.length a.lent
+    sym (rules.then_length (pairs_of a.registers.bytes.now) (width_of a.registers.bytes.now) (register_words a.registers.bytes.now) a.access.mode a.access.kind a.access.length a.lent
     c.if-not-access.false (c.if-not-access-2.false) (sym c.in_ok-check.ensures) (λ e. c.if-lent-table_length.true (e ∙ sym (length_is (goal.at.returns-then-lent-table_length c).After-table_length))))
 
 pub returns : goal.returns
 returns c =
     let a = c.args in
-    sym (rules.then_none (pairs_of a.registers.now) (width_of a.registers.now) (register_words a.registers.now) a.access.mode a.access.kind a.access.length a.lent
+    sym (rules.then_none (pairs_of a.registers.bytes.now) (width_of a.registers.bytes.now) (register_words a.registers.bytes.now) a.access.mode a.access.kind a.access.length a.lent
     c.if-not-access.false (c.if-not-access-2.false) (sym c.in_ok-check.ensures) (c.if-lent-table_length.false ∙ length_is (goal.at.returns c).After-table_length))

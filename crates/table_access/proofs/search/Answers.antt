@@ -8,7 +8,7 @@ use Prim.Native.Nat.{ℕ, ◌+◌}
 use native.Mathlib.Omega.{arith}
 use lib.ListN.{length}
 use Rattle.register_words.specs.Sdr1.{table_length, mask_ones}
-use Rattle.groups.specs.Page.{Page}
+use Rattle.groups.specs.declared.Page.{Page}
 use Rattle.groups.specs.Hash.{group_number, located, TableOf}
 use Rattle.theory_tables.specs.Layout.{matches_of}
 use Rattle.matches.specs.Search.{contradict}

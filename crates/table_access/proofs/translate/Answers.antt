@@ -25,42 +25,42 @@ pub returns-in-Err : goal.returns-in-Err
 returns-in-Err c =
     let a = c.args in
     let number = refusal_number c.in-Err.refusal in
-    let broken : number ≡ first_broken (own_rules a.registers.now a.asked (length a.table.now)) = c.in-Err.ensures in
+    let broken : number ≡ first_broken (own_rules a.registers.bytes.now a.asked (length a.table.now)) = c.in-Err.ensures in
     let is_broken = refused_number c.in-Err.refusal in
     let told = c.refused.ensures in
     let result = c.tell.ensures.0 ∙ ap (λ (x : OperandAnswer). x.part.result) told in
     let written = c.tell.ensures.1 ∙ ap access_answer told in
-    let call = call_of a.registers.now a.asked a.answer.now in record {
+    let call = call_of a.registers.bytes.now a.asked a.answer.now in record {
       cached = λ right. ap₂ (λ (n : ℕ) (bytes : List ℕ). ended n (a.table.now, a.cache.now) bytes) result written
-          ∙ sym (cached_refused call (a.table.now, a.cache.now) right c.requires.0 c.requires.2 number broken is_broken);
+          ∙ sym (cached_refused call (a.table.now, a.cache.now) right c.args.registers.whole c.requires.1 number broken is_broken);
       uncached = λ empty. ap₂ (λ (n : ℕ) (bytes : List ℕ). ended n a.table.now bytes) result written
-          ∙ sym (access_refused call a.table.now c.requires.0 c.requires.2 number broken is_broken);
+          ∙ sym (access_refused call a.table.now c.args.registers.whole c.requires.1 number broken is_broken);
     }
 
 -- past the refusals the rules are kept
-kept : (c : In_default) → first_broken (own_rules c.args.registers.now c.args.asked (length c.args.table.now)) ≡ 0
+kept : (c : In_default) → first_broken (own_rules c.args.registers.bytes.now c.args.asked (length c.args.table.now)) ≡ 0
 kept c = sym (sym (ap result_number c.in_default.is) ∙ c.check.ensures)
 
 -- what an operand ends with is what the call does
 ends : (c : In_default) (told : OperandAnswer) (left : List ℕ × List ℕ) (r : ℕ) (written : List ℕ) →
     let a = c.args in
-    let words = set_words a.registers.now in
-    let call = call_of a.registers.now a.asked a.answer.now in
+    let words = set_words a.registers.bytes.now in
+    let call = call_of a.registers.bytes.now a.asked a.answer.now in
     Comes a.asked (mask_ones (sdr1_of words)) (c.args.table.now, c.args.cache.now) (part_early words a.asked) told left
     → (r ≡ told.part.result) × (written ≡ access_answer told)
     → (length a.cache.now ≡ 2048 → ended r left written ≡ on_cached call (c.args.table.now, c.args.cache.now)) × (length a.cache.now ≡ 0 → ended r left.0 written ≡ on_bytes (access call) a.table.now)
 ends c told left r written comes is =
     let a = c.args in
     let lent : List ℕ × List ℕ = (a.table.now, a.cache.now) in
-    let e = tells a.asked (mask_ones (sdr1_of (set_words a.registers.now))) lent (part_early (set_words a.registers.now) a.asked) told left comes r written is in (
-      λ right. cached_ends a.registers.now a.asked lent c.requires.0 (kept c) r left a.answer.now written c.requires.2 e right,
-      λ empty. uncached_ends a.registers.now a.asked lent c.requires.0 (kept c) r left a.answer.now written c.requires.2 e empty,
+    let e = tells a.asked (mask_ones (sdr1_of (set_words a.registers.bytes.now))) lent (part_early (set_words a.registers.bytes.now) a.asked) told left comes r written is in (
+      λ right. cached_ends a.registers.bytes.now a.asked lent c.args.registers.whole (kept c) r left a.answer.now written c.requires.1 e right,
+      λ empty. uncached_ends a.registers.bytes.now a.asked lent c.args.registers.whole (kept c) r left a.answer.now written c.requires.1 e empty,
     )
 
 pub returns-then-not-is_relocated : goal.returns-then-not-is_relocated
 returns-then-not-is_relocated c =
     let a = c.args in
-    let words = set_words a.registers.now in
+    let words = set_words a.registers.bytes.now in
     let lent : List ℕ × List ℕ = (a.table.now, a.cache.now) in
     let off = sym c.is_relocated.ensures ∙ c.if-not-is_relocated.true in
     let both = ends (goal.at.returns-then-not-is_relocated c).In_default c.untranslated-real.result lent _ _
@@ -71,7 +71,7 @@ pub by_parts-told-requires : goal.by_parts-told-requires
 by_parts-told-requires c =
     let a = c.args in
     let on = sym c.is_relocated.ensures ∙ c.if-not-is_relocated.false in
-    ((c.requires.0, right_table a.registers.now a.asked (a.table.now, a.cache.now) c.requires.0 (kept (goal.at.by_parts-told-requires c).In_default)), c.requires.1, on)
+    (right_table a.registers.bytes.now a.asked (a.table.now, a.cache.now) c.args.registers.whole (kept (goal.at.by_parts-told-requires c).In_default), c.requires.0, on)
 
 pub returns : goal.returns
 returns c =

@@ -1,7 +1,7 @@
 -- `mmu::cached::mmu_access_cached` meets its contract: a wrong length is refused, and else the access is that of `table_access` with the cache.
 use borrow.Author.Tests.{eqb-true, eqb-false}
 use mathlib.Core.Path.{◌≡◌, refl, sym, ap, ◌∙◌}
-use mathlib.Core.Bool.{Bool, true, false, ◌&&◌, true≢false}
+use mathlib.Core.Bool.{Bool, true, false, ◌&&◌, true≢false, and-false}
 use mathlib.Core.List.{List}
 use Prim.Native.Nat.{ℕ}
 use lib.Dec.{eqb}
@@ -13,39 +13,42 @@ use Rattle.theory_calls.specs.OnBytes.{ended}
 use Rattle.theory_cache.specs.Cached.{on_cached}
 use Rattle.table_access.proofs.Calls.{cache_wrong_length, wrong_length}
 use Rattle.mmu.proofs.cached.mmu_access_cached.Goals as goal
-use Rattle.mmu.proofs.cached.mmu_access_cached.Goals.{Else-not-lent-cache}
+use Rattle.mmu.proofs.cached.mmu_access_cached.Goals.{Start, Else-not-answer-cache}
 
--- past the refusal of a length all three lengths are right
-lengths : (c : Else-not-lent-cache) →
+-- what is asked
+abbrev call : Start → AccessCall (List ℕ)
+call c =
     let a = c.args in
-    (is_page (length a.registers.now) ≡ true) × (length a.answer.now ≡ 48) × (length a.cache.now ≡ 2048)
+    record { registers = a.registers.now; mode = a.mode; kind = a.kind; address = a.address; length = a.length; answer = a.answer.now }
+
+-- past the refusal of the answer's length or the cache's both are right
+lengths : (c : Else-not-answer-cache) → (length c.args.answer.now ≡ 48) × (length c.args.cache.now ≡ 2048)
 lengths c =
-    let right = both _ _ (c.if-not-lent-cache.false) in
-    let lent = both _ _ right.0 in
-    (sym c.is_page.ensures ∙ lent.0, eqb-true _ 48 lent.1, eqb-true _ 2048 right.1)
+    let right = both _ _ c.if-not-answer-cache.false in
+    (eqb-true _ 48 right.0, eqb-true _ 2048 right.1)
 
 -- and where one is wrong the call answers 11
 one_wrong : (c : AccessCall (List ℕ)) (lent : List ℕ × List ℕ)
-    → ((is_page (length c.registers) && eqb (length c.answer) 48) && eqb (length lent.1) 2048) ≡ false → on_cached c lent ≡ ended 11 lent c.answer
-one_wrong c lent wrong = go (eqb (length lent.1) 2048) refl (is_page (length c.registers) && eqb (length c.answer) 48) refl wrong
+    → (eqb (length c.answer) 48 && eqb (length lent.1) 2048) ≡ false → on_cached c lent ≡ ended 11 lent c.answer
+one_wrong c lent wrong = go (eqb (length lent.1) 2048) refl (eqb (length c.answer) 48) refl wrong
   where
-    go : (b : Bool) → eqb (length lent.1) 2048 ≡ b → (l : Bool) → (is_page (length c.registers) && eqb (length c.answer) 48) ≡ l → (l && b) ≡ false
-        → on_cached c lent ≡ ended 11 lent c.answer
+    go : (b : Bool) → eqb (length lent.1) 2048 ≡ b → (l : Bool) → eqb (length c.answer) 48 ≡ l → (l && b) ≡ false → on_cached c lent ≡ ended 11 lent c.answer
     go false e l f w = cache_wrong_length c lent (eqb-false _ 2048 e)
-    go true e false f w = wrong_length c lent (eqb-true _ 2048 e) f
+    go true e false f w =
+        let page = is_page (length c.registers) in
+        wrong_length c lent (eqb-true _ 2048 e) (ap (λ (t : Bool). page && t) f ∙ and-false page)
     go true e true f w = absurd (true≢false w)
 
-pub returns-then-not-lent-cache : goal.returns-then-not-lent-cache
-returns-then-not-lent-cache c =
-    let a = c.args in
+pub returns-then-not-answer-cache : goal.returns-then-not-answer-cache
+returns-then-not-answer-cache c =
     rw c.from.ensures
+    (sym (one_wrong (call (goal.at.returns-then-not-answer-cache c).Start) (c.args.table.now, c.args.cache.now) c.if-not-answer-cache.true))
+
+pub returns-in_default : goal.returns-in_default
+returns-in_default c =
+    let a = c.args in
+    let at = goal.at.returns-in_default c in
+    rw c.from-in_default.ensures
     (sym
-    (one_wrong (record { registers = a.registers.now; mode = a.mode; kind = a.kind; address = a.address; length = a.length; answer = a.answer.now }) (a.table.now, a.cache.now)
-    (ap (λ (b : Bool). (b && eqb (length a.answer.now) 48) && eqb (length a.cache.now) 2048) (sym c.is_page.ensures) ∙ c.if-not-lent-cache.true)))
-
-pub translate-requires : goal.translate-requires
-translate-requires c = let (page, answer, cache) = lengths (goal.at.translate-requires c).Else-not-lent-cache in (page, λ other. absurd (other cache), answer)
-
-pub returns : goal.returns
-returns c =
-    c.translate.ensures.cached (lengths (goal.at.returns c).Else-not-lent-cache).2
+    (wrong_length (call at.Start) (a.table.now, a.cache.now) (lengths at.Else-not-answer-cache).1
+    (ap (λ (b : Bool). b && eqb (length a.answer.now) 48) c.in_default.ensures.1)))

@@ -1,4 +1,4 @@
--- `register_pages::blocks_refusal` meets its contract. The invariant: what the laws of Sides say of the sides that were passed.
+-- `register_pages::RegisterPage::blocks_refusal` meets its contract. The invariant: what the laws of Sides say of the sides that were passed.
 use native.Mathlib.Omega.{arith}
 use mathlib.Core.Bool.{Bool, false, cond, ◌&&◌, and-true}
 use mathlib.Core.Path.{◌≡◌, refl, sym, ap, subst, ◌∙◌}
@@ -9,8 +9,8 @@ use Rattle.register_words.specs.Asked.{bl_place}
 use Rattle.registers.specs.Set.{block_pairs}
 use Rattle.register_pages.proofs.Page.{PageSize, short_size, long_size, page_size_law}
 use Rattle.register_pages.proofs.Sides.{SidesSeen, sides_none, sides_more, sides_wrong, sides_right, lent_good, lent_rises, lent_apart}
-use Rattle.register_pages.proofs.blocks_refusal.Goals as goal
-use Rattle.register_pages.proofs.blocks_refusal.Goals.{After-loop-side, then-half-eq64, else-half-eq64, then-seen-ne0, else-seen-ne0}
+use Rattle.register_pages.proofs.register_page.RegisterPage.blocks_refusal.Goals as goal
+use Rattle.register_pages.proofs.register_page.RegisterPage.blocks_refusal.Goals.{After-loop-side, then-half-eq64, else-half-eq64, then-seen-ne0, else-seen-ne0}
 
 -- a page's half behind its segment registers, by its length
 halves : {size : ℕ} {long : Bool} → PageSize size long → ((size - 68) / 2 ≡ 8 * block_pairs long) × (68 + 2 * ((size - 68) / 2) ≡ size)
@@ -24,7 +24,7 @@ lengths_of long_size lengths is-long is-short = is-long refl
 
 pub loop-side-init : goal.loop-side-init
 loop-side-init c =
-    let size = page_size_law (length c.args.page.now) c.requires in
+    let size = page_size_law (length c.args.self.bytes.now) c.args.self.whole in
     let (half, whole) = halves size in (
       omega arith,
       half,
@@ -32,12 +32,12 @@ loop-side-init c =
       lengths_of size c.if-half-eq64.lengths
           (elim c.if-half-eq64.branch [ then-half-eq64 w ↦ (λ e. w.lengths-is) | else-half-eq64 w ↦ (λ e. absurd (w.if-half-eq64.false e)) ])
           (elim c.if-half-eq64.branch [ then-half-eq64 w ↦ (λ n. absurd (n w.if-half-eq64.true)) | else-half-eq64 w ↦ (λ n. w.lengths-is) ]),
-      λ right. sides_none c.args.page.now right,
+      λ right. sides_none c.args.self.bytes.now right,
     )
 
 pub loop-side-preserved : goal.loop-side-preserved
 loop-side-preserved c =
-    let page = c.args.page.now in
+    let page = c.args.self.bytes.now in
     let seen = c.side_of-seen in
     let l = c.loop-side in
     let s = l.side in
@@ -62,11 +62,11 @@ loop-side-preserved c =
     )
 
 -- both sides were passed
-both_sides : (c : After-loop-side) → SidesSeen c.args.page.now c.requires 2 c.loop-side.good c.loop-side.apart
+both_sides : (c : After-loop-side) → SidesSeen c.args.self.bytes.now c.args.self.whole 2 c.loop-side.good c.loop-side.apart
 both_sides c =
     let l = c.loop-side in
     let two : l.side ≡ 2 = let upto = l.invariant.0 in omega (arith, c.loop-side-test.false) in
-    subst (λ (n : ℕ). SidesSeen c.args.page.now c.requires n l.good l.apart) two (l.invariant.4 c.requires)
+    subst (λ (n : ℕ). SidesSeen c.args.self.bytes.now c.args.self.whole n l.good l.apart) two (l.invariant.4 c.args.self.whole)
 
 pub returns-then-good-apart : goal.returns-then-good-apart
 returns-then-good-apart c =

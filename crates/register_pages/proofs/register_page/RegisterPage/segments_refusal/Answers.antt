@@ -1,4 +1,4 @@
--- `register_pages::segments_refusal` meets its contract. The invariant: the mask leaves nothing of the number exactly where each segment register that was
+-- `register_pages::RegisterPage::segments_refusal` meets its contract. The invariant: the mask leaves nothing of the number exactly where each segment register that was
 -- passed has its shape; read from the low end, the first byte of each word is the lowest of its half.
 use borrow.Author.Tests.{eq-eqb, ne_eqb}
 use mathlib.Core.Path.{◌≡◌, refl, sym, ap, ap₂, ◌∙◌}
@@ -21,15 +21,15 @@ use Rattle.words.proofs.Zero.{or_leaves, parts_leave}
 use Rattle.register_words.specs.Segment.{segment_shape}
 use Rattle.registers.specs.Set.{segments_shape, register_words}
 use Rattle.register_pages.proofs.Page.{page_least, own_segment}
-use Rattle.register_pages.proofs.segments_refusal.Goals as goal
-use Rattle.register_pages.proofs.segments_refusal.Invariants.{good}
+use Rattle.register_pages.proofs.register_page.RegisterPage.segments_refusal.Goals as goal
+use Rattle.register_pages.proofs.register_page.RegisterPage.segments_refusal.Invariants.{good}
 
 pub loop-i-init : goal.loop-i-init
 unfolding every_below
 loop-i-init c = (omega arith, refl)
 
 pub raw_pair-any-requires : goal.raw_pair-any-requires
-raw_pair-any-requires c = omega (arith, page_least (length c.args.page.now) c.requires)
+raw_pair-any-requires c = omega (arith, page_least (length c.args.self.bytes.now) c.args.self.whole)
 
 swapped_lt : (w : ℕ) → swapped w < 2 ^ 32
 unfolding swapped
@@ -90,9 +90,9 @@ shapes page any i most least told =
 pub returns-then-any-eq0 : goal.returns-then-any-eq0
 returns-then-any-eq0 c =
     let l = c.loop-i in
-    rw (shapes c.args.page.now l.any l.i l.invariant.0 (omega (arith, c.loop-i-test.false)) l.invariant.1 ∙ eq-eqb _ 0 c.if-any-eq0.true)
+    rw (shapes c.args.self.bytes.now l.any l.i l.invariant.0 (omega (arith, c.loop-i-test.false)) l.invariant.1 ∙ eq-eqb _ 0 c.if-any-eq0.true)
 
 pub returns-else-any-eq0 : goal.returns-else-any-eq0
 returns-else-any-eq0 c =
     let l = c.loop-i in
-    rw (shapes c.args.page.now l.any l.i l.invariant.0 (omega (arith, c.loop-i-test.false)) l.invariant.1 ∙ ne_eqb _ 0 c.if-any-eq0.false)
+    rw (shapes c.args.self.bytes.now l.any l.i l.invariant.0 (omega (arith, c.loop-i-test.false)) l.invariant.1 ∙ ne_eqb _ 0 c.if-any-eq0.false)

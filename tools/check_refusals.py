@@ -142,10 +142,13 @@ class Edit:
         return {name.split("/")[0] for name, _, _ in self.pairs}
 
     def has_function(self, name):
-        """Whether the crate has a public function of this name; `Type::name` names a method."""
+        """Whether the crate has a public function of this name; `Type::name` names a method, which a trait's `impl` may have too."""
         paths = glob.glob(os.path.join(ROOT, "crates", self.crate, "src", "**", "*.rt"), recursive=True)
         sources = "".join(open(path, encoding="utf-8").read() for path in paths)
-        return re.search(rf"\bpub fn {re.escape(name.split('::')[-1])}\b", sources) is not None
+        owner, word = ([""] + name.split("::"))[-2:]
+        impls = re.findall(r"^impl\b([^{]*\bfor\b[^{]*)\{\n(.*?)^\}", sources, re.M | re.S)
+        of_trait = "".join(body for head, body in impls if re.search(rf"\b{re.escape(owner)}\b", head))
+        return any(re.search(rf"\b{kind} {re.escape(word)}\b", text) for kind, text in (("pub fn", sources), ("fn", of_trait)))
 
     @property
     def of_code(self):
@@ -221,6 +224,8 @@ RULES = [
     (True, "It is wrong.\ncall: mmu_map\nfile: src/lib.rt\nold: a\nnew: b\n"),
     (True, "It is wrong.\nfunction: result_of\nfile: src/lib.rt\nold: a\nnew: b\n"),
     (False, "It is wrong.\nfunction: result_off\nfile: src/lib.rt\nold: a\nnew: b\n"),
+    (True, "It is wrong.\nfunction: Refusal::from\nfile: src/lib.rt\nold: a\nnew: b\n"),
+    (False, "It is wrong.\nfunction: Refused::from\nfile: src/lib.rt\nold: a\nnew: b\n"),
 ]
 
 

@@ -43,8 +43,8 @@ use Rattle.theory_calls.proofs.TwoMarks.{mark_reads, own_match}
 use Rattle.access_rights.proofs.ByTable.{OfFirst, ByTable}
 use Rattle.table_access.specs.declared.Part.{Part}
 use Rattle.table_access.specs.Part.{table_found}
-use Rattle.table_access.specs.declared.Found.TheVariants.{Unmatched, Contradicted}
-use Rattle.table_access.proofs.Finds.{first_found, in_some}
+use Rattle.table_access.specs.declared.Found.TheVariants.{Unmatched}
+use Rattle.table_access.proofs.Finds.{first_found, first_against, in_some}
 use Rattle.matches.specs.Search.{contradict}
 use Rattle.words.proofs.Tests.{by_test}
 use Rattle.access_rights.specs.Rights.{new_marks}
@@ -188,7 +188,7 @@ module _ (c : AccessCall (List ℕ)) (t : List ℕ) (taken : Taken (access c) t)
           let found : p.found ≡ table_found k t wanted = rw e at is.first in
           by_test (contradict x xs) (λ d. absurd (let other = told true d in true≢false (cc)))
           (λ d.
-          rw (found ∙ in_some k t wanted x xs are ∙ ap (λ (b : Bool). cond b Contradicted (first_found k t wanted x xs are)) d)
+          rw (found ∙ in_some k t wanted x xs are ∙ ap (λ (b : Bool). cond b (first_against k t wanted x xs are) (first_found k t wanted x xs are)) d)
           (sym (page_marks wanted e z x xs are))))
         where
           -- a done part was found by a second word

@@ -38,7 +38,7 @@ StandsIn c t at =
 -- the marks that an access of a kind would newly set, by what is found of its page: those of an entry of the table
 abbrev pub newly_marked : ℕ → Found → ℕ
 newly_marked kind Unmatched = 0
-newly_marked kind Contradicted = 0
+newly_marked kind (Contradicted second group entry) = 0
 newly_marked kind (InCache second group) = 0
 newly_marked kind (InTable second group entry) = with_marks true (storing kind) second - second
 

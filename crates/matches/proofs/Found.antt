@@ -5,7 +5,7 @@ use mathlib.Core.List.{List, [], ◌∷◌, ◌++◌, append_assoc}
 use Prim.Native.Nat.{ℕ, ◌+◌}
 use native.Mathlib.Omega.{arith}
 use denote.Enum.Bare.{sameb}
-use Rattle.std.specs.Prelude.{Some}
+use Rattle.std.specs.Prelude.{Some, is_some}
 use Rattle.entry.specs.Entry.{matches}
 use Rattle.theory_tables.specs.Matches.{Match}
 use Rattle.groups.specs.Group.{first_at}
@@ -26,6 +26,15 @@ nothing_found (m ∷ ms) none = absurd (none (first_match m ms) refl)
 pub found_first : (ms : List Match) (first : FirstMatch) → found_of ms ≡ Some first → (m : Match) × ((rest : List Match) × ((ms ≡ m ∷ rest) × (first ≡ first_match m rest)))
 found_first [] first e = absurd (let z : ◌≡◌ {A = ℕ} 0 1 = cc in omega arith)
 found_first (m ∷ ms) first e = (m, (ms, (refl, cc)))
+
+-- one is told exactly where there is a match
+pub found_any : (ms : List Match) → is_some (found_of ms) ≡ any_match (λ m. true) ms
+found_any [] = refl
+found_any (m ∷ ms) = refl
+
+-- its entry is the first match's
+pub found_entry : (m : Match) (ms : List Match) (first : FirstMatch) → found_of (m ∷ ms) ≡ Some first → first.place.entry ≡ m.entry
+found_entry m ms first e = let is : first ≡ first_match m ms = cc in ap (λ (f : FirstMatch). f.place.entry) is
 
 -- the others differ exactly where they contradict the first, as the code asks it
 pub differing : (m : Match) (ms : List Match) → sameb the_type (others_of m ms) Differing ≡ contradict m ms

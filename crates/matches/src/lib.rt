@@ -5,7 +5,7 @@ ghost use Rattle.std.specs.Prelude.{◌≡◌, Bool, false, cond, List, ◌++◌
 ghost use Rattle.numbers.specs.Numbers.{group_size, group_entries};
 ghost use Rattle.theory_tables.specs.Matches.{Match};
 ghost use Rattle.groups.specs.Group.{group_of, free_after};
-ghost use Rattle.matches.specs.Search.{WantedWord, group_matches, agree, any_match, disagrees, first_match, with_others, told, in_both};
+ghost use Rattle.matches.specs.Search.{WantedWord, h_of, group_matches, agree, any_match, disagrees, first_match, with_others, told, in_primary, in_both};
 
 use groups::Place;
 
@@ -75,15 +75,18 @@ fn with_others(group: &[u8; numbers::GROUP_SIZE], wanted: u32, first: FirstMatch
     }
 }
 
-// The search of a page's primary (false) or secondary (true) group: its matches and its free entries, behind what was told before.
+// The one search of a group: its matches and its free entries, behind what was told before. `from` is the number of its entry 0 in search order, 0 in a
+// primary group and 8 in a secondary one.
 // `WantedWord` stays in the clauses of the search: the word alone is handed on, and of which page it is the word no value tells.
-// (The loop goes by the entries' numbers, since an entry's number is what is told. It is joined with every caller, as are the two functions below, or
+// (The loop goes by the entries' numbers, since an entry's number is what is told. It is joined with every caller, as are the functions below, or
 // a look would take 469 instructions in place of 111.)
 #[inline(always)]
-pub fn search(group: &[u8; numbers::GROUP_SIZE], secondary: bool, wanted: u32, before: Told) -> Told
-    ensures { (vsid api : ℕ) (ms : List Match) (free : ℕ) → WantedWord secondary vsid api wanted → free < 2 ^ group_entries → before ≡ told ms free
+pub fn search(group: &[u8; numbers::GROUP_SIZE], from: usize, wanted: u32, before: Told) -> Told
+    ensures { (secondary : Bool) (vsid api : ℕ) (ms : List Match) (free : ℕ) → WantedWord secondary vsid api wanted → from ≡ group_entries * h_of secondary
+        → free < 2 ^ group_entries → before ≡ told ms free
         → result ≡ told (ms ++ group_matches secondary vsid api group.now) (free_after free group.now) }
 {
+    let secondary = from == numbers::GROUP_ENTRIES;
     let free = groups::free_after(before.free, group);
     let mut first = before.first;
     for entry in 0..numbers::GROUP_ENTRIES {
@@ -112,10 +115,24 @@ fn in_group(table: &[u8], page: groups::Located, secondary: bool, before: Told) 
         → let group = group_of table.now (cond secondary page.secondary page.primary) in
         result ≡ told (ms ++ group_matches secondary vsid api group) (free_after free group) }
 {
-    let from = page.group(secondary) * numbers::GROUP_SIZE;
-    let to = from + numbers::GROUP_SIZE;
-    let group = table[from..to].as_array().unwrap();
-    search(group, secondary, page.wanted_in(secondary), before)
+    let at = page.group(secondary) * numbers::GROUP_SIZE;
+    let to = at + numbers::GROUP_SIZE;
+    let group = table[at..to].as_array().unwrap();
+    let from = numbers::GROUP_ENTRIES * usize::from(secondary);
+    search(group, from, page.wanted_in(secondary), before)
+}
+
+// The search of a page's primary group.
+#[inline(always)]
+pub fn in_primary(table: &[u8], page: groups::Located) -> Told
+    requires { group_size * page.primary + group_size ≤ length table.now }
+    ensures { (vsid api : ℕ) → WantedWord false vsid api page.wanted → result ≡ in_primary vsid api (group_of table.now page.primary) }
+{
+    let nothing = Told {
+        first: None,
+        free: 0,
+    };
+    in_group(table, page, false, nothing)
 }
 
 // The search of a page's two groups: the primary, then the secondary, which goes on from what the primary told.
@@ -125,10 +142,6 @@ pub fn search_page(table: &[u8], page: groups::Located) -> Told
     ensures { (vsid api : ℕ) → WantedWord false vsid api page.wanted
         → result ≡ in_both vsid api (group_of table.now page.primary) (group_of table.now page.secondary) }
 {
-    let nothing = Told {
-        first: None,
-        free: 0,
-    };
-    let primary = in_group(table, page, false, nothing);
+    let primary = in_primary(table, page);
     in_group(table, page, true, primary)
 }

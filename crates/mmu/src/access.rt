@@ -26,17 +26,15 @@ pub extern "C" fn mmu_access(
       answer = answer.old;
     })) table.old }
 {
-    if answer.len() != numbers::ACCESS_ANSWER_SIZE {
+    if !(registers::is_page(registers.len()) & (answer.len() == numbers::ACCESS_ANSWER_SIZE)) {
         return u32::from(Refusal::LentLength);
     }
+    let page = RegisterPage { bytes: registers };
     let asked = table_access::Access {
         mode,
         kind,
         address,
         length,
-    };
-    let Ok(page) = RegisterPage::new(registers) else {
-        return u32::from(Refusal::LentLength);
     };
     // No cache is lent; it has no bytes and is no `Option` for the reason that `translate` gives.
     let mut none = [0u8; 8];

@@ -1,17 +1,19 @@
--- A word put into a register page: it lies on the page, and the page's words are the old ones with that one replaced.
+-- A word put into a register page: it lies on the page, the page's words are the old ones with that one replaced, and the old word put back gives the
+-- page as it was.
 use mathlib.Core.Path.{◌≡◌, sym, ap, ◌∙◌}
-use mathlib.Core.Bool.{Bool, true, cond}
+use mathlib.Core.Bool.{Bool, true, false, cond}
 use mathlib.Core.List.{List}
 use mathlib.Core.Logic.{◌⊎◌, inl, inr}
-use Prim.Native.Nat.{ℕ, ◌+◌, ◌*◌, ◌^◌, ◌≤◌, ◌<◌}
+use Prim.Native.Nat.{ℕ, zero, suc, ◌+◌, ◌-◌, ◌*◌, ◌^◌, ◌≤◌, ◌<◌}
+use native.Mathlib.Nat.{add-zero}
 use native.Mathlib.Omega.{arith}
-use borrow.Author.Tests.{lt-ltb, le-ltb}
-use lib.Dec.{eqb}
+use borrow.Author.Tests.{lt-ltb, le-ltb, ltb-true, ltb-false}
+use lib.Dec.{eqb, ltb}
 use lib.ListN.{length, get_or, set, length-set}
 use lib.Seq.{ext_get_or, get_or-set_same, get_or-set_other}
-use Rattle.words.specs.Words.{word_at, with_word, words_at}
-use Rattle.words.proofs.Tests.{three}
-use Rattle.words.proofs.Words.{length_with_word}
+use Rattle.words.specs.Words.{word_bytes, word_at, with_word, words_at}
+use Rattle.words.proofs.Tests.{three, by_test}
+use Rattle.words.proofs.Words.{Bytes, byte_0, byte_1, byte_2, byte_3, sets_in, length_word_bytes, length_with_word, byte_before, byte_behind}
 use Rattle.words.proofs.Words.{word_before, word_behind, word_same, length_words_at, get_or_words_at}
 use Rattle.register_words.specs.Block.{bl_width}
 use Rattle.registers.specs.Set.{is_page, is_long, block_pairs, register_count, check_words, register_words, replacing}
@@ -39,6 +41,46 @@ module _ (s : List ℕ) (n k w : ℕ) (l : k < n) (fits : 4 * n ≤ length s) (s
       at i h (inr (inr b)) =
           word_behind s (4 * k) w (0 + 4 * i) (omega arith)
           ∙ sym (get_or-set_other (words_at s 0 n) k i w 0 (omega arith) ∙ get_or_words_at s 0 n i h)
+
+-- the old word put back
+module _ (s : List ℕ) (at w : ℕ) (bytes : Bytes s) (fits : at + 4 ≤ length s) where
+  abbrev old : ℕ
+  old = word_at s at
+
+  abbrev new : List ℕ
+  new = with_word s at w
+
+  -- its bytes are those that were there
+  own_byte : (d : ℕ) → d < 4 → get_or (word_bytes old) d 0 ≡ get_or s (at + d) 0
+  unfolding word_bytes word_at
+  own_byte zero h = byte_0 _ _ _ _ (bytes at) (bytes (at + 1)) (bytes (at + 2)) (bytes (at + 3)) ∙ ap (λ (k : ℕ). get_or s k 0) (sym (add-zero at))
+  own_byte (suc zero) h = byte_1 _ _ _ _ (bytes at) (bytes (at + 1)) (bytes (at + 2)) (bytes (at + 3))
+  own_byte (suc (suc zero)) h = byte_2 _ _ _ _ (bytes at) (bytes (at + 1)) (bytes (at + 2)) (bytes (at + 3))
+  own_byte (suc (suc (suc zero))) h = byte_3 _ _ _ _ (bytes at) (bytes (at + 1)) (bytes (at + 2)) (bytes (at + 3))
+  own_byte (suc (suc (suc (suc d)))) h = absurd (omega arith)
+
+  byte_in : (d : ℕ) → d < 4 → get_or (with_word new at old) (at + d) 0 ≡ get_or (word_bytes old) d 0
+  unfolding with_word
+  byte_in d h = sets_in (word_bytes old) new at d (omega (arith, length_word_bytes old)) (omega (arith, length_word_bytes old, length_with_word s at w))
+
+  pub put_back : with_word new at old ≡ s
+  put_back = ext_get_or 0 _ s (length_with_word new at old ∙ length_with_word s at w) (λ i h. by_test (ltb i at) (before i) (from i))
+    where
+      before : (i : ℕ) → ltb i at ≡ true → get_or (with_word new at old) i 0 ≡ get_or s i 0
+      before i e = let l = ltb-true i at e in byte_before new at old i l ∙ byte_before s at w i l
+
+      from : (i : ℕ) → ltb i at ≡ false → get_or (with_word new at old) i 0 ≡ get_or s i 0
+      from i e = by_test (ltb i (at + 4)) within behind
+        where
+          within : ltb i (at + 4) ≡ true → get_or (with_word new at old) i 0 ≡ get_or s i 0
+          within f =
+              let d = i - at in
+              let same : i ≡ at + d = omega (arith, ltb-false i at e) in
+              let h : d < 4 = omega (arith, ltb-true i (at + 4) f, ltb-false i at e) in
+              ap (λ (k : ℕ). get_or (with_word new at old) k 0) same ∙ byte_in d h ∙ own_byte d h ∙ ap (λ (k : ℕ). get_or s k 0) (sym same)
+
+          behind : ltb i (at + 4) ≡ false → get_or (with_word new at old) i 0 ≡ get_or s i 0
+          behind f = let l = ltb-false i (at + 4) f in byte_behind new at old i l ∙ byte_behind s at w i l
 
 -- ---- the page
 

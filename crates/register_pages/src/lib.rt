@@ -192,10 +192,13 @@ impl<const N: usize> Set<N> {
         if number >= registers::count_of(N == numbers::REGISTERS_SIZE_LONG) {
             return Err(Refusal::Argument);
         }
-        let mut bytes = self.bytes;
+        let mut bytes = [0; N];
+        copy(&mut bytes, &self.bytes);
         words::write_word(&mut bytes, 4 * (number as usize), word);
         RegisterPage { bytes: &bytes }.check()?;
-        Ok(Set { bytes })
+        let mut new = Set { bytes: [0; N] };
+        copy(&mut new.bytes, &bytes);
+        Ok(new)
     }
 }
 
@@ -219,8 +222,10 @@ fn set_word_of<const N: usize>(page: &mut [u8], number: u32, word: u32) -> Resul
     let mut bytes = [0; N];
     copy(&mut bytes, page);
     let new = Set { bytes }.with_word(number, word)?;
+    // The set as it was is not read any more.
+    copy(&mut bytes, &new.bytes);
     let byte = 4 * (number as usize);
-    words::write_word(page, byte, words::read_word(&new.bytes, byte));
+    words::write_word(page, byte, words::read_word(&bytes, byte));
     Ok(())
 }
 

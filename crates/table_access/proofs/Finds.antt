@@ -46,7 +46,10 @@ module _ (k : ℕ) (t : List ℕ) (wanted : Wanted) where
     abbrev pub first_found : Found
     first_found = InTable x.second (group_number (10 + k) x.secondary (wanted_page wanted)) x.entry
 
-    pub in_some : table_found k t wanted ≡ cond (contradict x xs) Contradicted first_found
+    abbrev pub first_against : Found
+    first_against = Contradicted x.second (group_number (10 + k) x.secondary (wanted_page wanted)) x.entry
+
+    pub in_some : table_found k t wanted ≡ cond (contradict x xs) first_against first_found
     unfolding table_found
     in_some = rw e
 
@@ -55,23 +58,24 @@ module _ (k : ℕ) (t : List ℕ) (wanted : Wanted) where
     number_lt = (members_of (layout k) t (wanted_page wanted) x (subst (Memᴰ x) (sym e) (Memᴰ.head refl))).in_range_law
 
   -- by cases of what is found: no match, matches that contradict, or the first match
-  pub in_cases : (P : Found → Type 0) → P Unmatched → P Contradicted
-      → ((x : Match) (xs : List Match) (e : matches_of (layout k) t (wanted_page wanted) ≡ x ∷ xs) → P (first_found x xs e)) → P (table_found k t wanted)
-  in_cases P unmatched contradicted first =
+  pub in_cases : (P : Found → Type 0) → P Unmatched
+      → ((x : Match) (xs : List Match) (e : matches_of (layout k) t (wanted_page wanted) ≡ x ∷ xs) → P (first_against x xs e) × P (first_found x xs e))
+      → P (table_found k t wanted)
+  in_cases P unmatched first =
       by_matches_law (matches_of (layout k) t (wanted_page wanted)) (λ e. subst P (sym (in_none e)) unmatched)
-      (λ x xs e. subst P (sym (in_some x xs e)) (go (first_found x xs e) (first x xs e) (contradict x xs)))
+      (λ x xs e. subst P (sym (in_some x xs e)) (go (first_against x xs e) (first_found x xs e) (first x xs e) (contradict x xs)))
     where
-      go : (f : Found) → P f → (b : Bool) → P (cond b Contradicted f)
-      go f p true = contradicted
-      go f p false = p
+      go : (f g : Found) → P f × P g → (b : Bool) → P (cond b f g)
+      go f g p true = p.0
+      go f g p false = p.1
 
   pub in_searched : searched_of (table_found k t wanted) ≡ search_in k t wanted
   unfolding searched
-  in_searched = by_matches_law (matches_of (layout k) t (wanted_page wanted)) (λ e. rw (in_none e, e)) (λ x xs e. rw (in_some x xs e, e) (go (contradict x xs) (first_found x xs e)))
+  in_searched = by_matches_law (matches_of (layout k) t (wanted_page wanted)) (λ e. rw (in_none e, e)) (λ x xs e. rw (in_some x xs e, e) (go (contradict x xs) x.second (group_number (10 + k) x.secondary (wanted_page wanted)) x.entry))
     where
-      go : (b : Bool) (f : Found) → searched_of (cond b Contradicted f) ≡ cond b Contradicting (searched_of f)
-      go true f = refl
-      go false f = refl
+      go : (b : Bool) (second group entry : ℕ) → searched_of (cond b (Contradicted second group entry) (InTable second group entry)) ≡ cond b Contradicting (At second)
+      go true second group entry = refl
+      go false second group entry = refl
 
   -- what decides is the same of what was found and of the first match's place: where there is none no entry is shown
   pub in_decides : (kind : ℕ) → decision_of (shown_of wanted.key (table_found k t wanted)) (after_search kind wanted.key (search_in k t wanted))
@@ -81,15 +85,18 @@ module _ (k : ℕ) (t : List ℕ) (wanted : Wanted) where
       by_matches_law (matches_of (layout k) t (wanted_page wanted)) (λ e. rw (in_none e, e)) (λ x xs e. rw (in_some x xs e, e) (go (contradict x xs) x.second (group_number (10 + k) x.secondary (wanted_page wanted)) x.entry))
     where
       go : (b : Bool) (second group entry : ℕ)
-          → decision_of (shown_of wanted.key (cond b Contradicted (InTable second group entry))) (after_search kind wanted.key (cond b Contradicting (At second)))
+          → decision_of (shown_of wanted.key (cond b (Contradicted second group entry) (InTable second group entry))) (after_search kind wanted.key (cond b Contradicting (At second)))
           ≡ decision_of (record { key = wanted.key; group = group; entry = entry }) (after_search kind wanted.key (cond b Contradicting (At second)))
       go true second group entry = refl
       go false second group entry = refl
 
   in_lies : (sdr1 : ℕ) → TableOf sdr1 (length t) → k ≡ mask_ones sdr1 → LiesIn (table_found k t wanted) (length t)
   in_lies sdr1 of is =
-      in_cases (λ f. LiesIn f (length t)) tt tt
-      (λ x xs e. (subst (λ (n : ℕ). 64 * group_number (10 + n) x.secondary (wanted_page wanted) + 64 ≤ length t) (sym is) (inside sdr1 t wanted of x.secondary), number_lt x xs e))
+      in_cases (λ f. LiesIn f (length t)) tt
+      (λ x xs e.
+      let there : (64 * group_number (10 + k) x.secondary (wanted_page wanted) + 64 ≤ length t) × (x.entry < 8)
+      = (subst (λ (n : ℕ). 64 * group_number (10 + n) x.secondary (wanted_page wanted) + 64 ≤ length t) (sym is) (inside sdr1 t wanted of x.secondary), number_lt x xs e) in
+      (there, there))
 
 module _ (k kind : ℕ) (t d : List ℕ) (wanted : Wanted) where
   -- a hit, or none
@@ -145,8 +152,8 @@ module _ (k kind : ℕ) (t d : List ℕ) (wanted : Wanted) where
       (λ first second is. rw (found_hit first second is, place_hit first second is))
       (λ is. rw (found_table is, place_table is, search_table is) (in_decides k t wanted kind))
 
-  -- an entry of the table that was found lies there
+  -- what was found lies in the table
   pub found_lies : (sdr1 : ℕ) → TableOf sdr1 (length t) → k ≡ mask_ones sdr1 → LiesIn (found_by k kind t d wanted) (length t)
   found_lies sdr1 of is =
-      by_hit (LiesIn (found_by k kind t d wanted) (length t)) (λ first second h. rw (found_hit first second h) tt)
+      by_hit (LiesIn (found_by k kind t d wanted) (length t)) (λ first second h. rw (found_hit first second h, is) (inside sdr1 t wanted of (eqb (bits 25 25 first) 1)))
       (λ n. subst (λ (f : Found). LiesIn f (length t)) (sym (found_table n)) (in_lies k t wanted sdr1 of is))

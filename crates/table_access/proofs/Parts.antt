@@ -52,7 +52,7 @@ use Rattle.std.specs.declared.ops.ControlFlow.TheVariants.{Continue}
 use Rattle.table_access.specs.declared.Found.{Found}
 use Rattle.table_access.specs.declared.Found.TheVariants.{Unmatched, Contradicted, InTable}
 use Rattle.table_access.specs.declared.Part.{Part}
-use Rattle.table_access.proofs.Finds.{in_none, in_some, by_hit, found_hit, found_table, found_searched, found_decides, found_lies}
+use Rattle.table_access.proofs.Finds.{first_found, first_against, in_none, in_some, by_hit, found_hit, found_table, found_searched, found_decides, found_lies}
 
 -- ---- the pair that covers an address
 
@@ -171,14 +171,14 @@ module _ (sdr1 kind address : ℕ) (t d : List ℕ) (of : TableOf sdr1 (length t
 
   -- a page without a match, or with matches that contradict, is not done
   not_done : (wanted : Wanted) (f : Found) → (by_found kind address wanted.key f).answer.result ≡ 0
-      → ((f ≡ Unmatched) → ⊥) × ((f ≡ Contradicted) → ⊥)
+      → ((f ≡ Unmatched) → ⊥) × ((second group entry : ℕ) → f ≡ Contradicted second group entry → ⊥)
   unfolding answer_of
   not_done wanted f done =
       let result : Outcome → ℕ = λ o. (answer_of kind address o).result in
       let of : (g : Found) → f ≡ g → result (after_search kind wanted.key (searched_of g)) ≡ 0
       = λ g e. sym (ap (λ (h : Found). result (after_search kind wanted.key (searched_of h))) e) ∙ done in (
         λ e. fault_number no_match kind (sym (ap result (after_nothing kind wanted.key)) ∙ of Unmatched e),
-        λ e. let ten : ◌≡◌ {A = ℕ} 10 0 = sym (ap result (after_contradicting kind wanted.key)) ∙ of Contradicted e in omega arith,
+        λ second group entry e. let ten : ◌≡◌ {A = ℕ} 10 0 = sym (ap result (after_contradicting kind wanted.key)) ∙ of (Contradicted second group entry) e in omega arith,
       )
 
   -- a hit, or a part that went to the table and is done, is taken as the definition says
@@ -195,10 +195,11 @@ module _ (sdr1 kind address : ℕ) (t d : List ℕ) (of : TableOf sdr1 (length t
       (by_matches_law (matches_of (layout k) t (wanted_page wanted))
       (λ empty. absurd (some (found_table k kind t d wanted is ∙ in_none k t wanted empty)))
       (λ x xs are.
-      let first = InTable x.second (group_number (10 + k) x.secondary (wanted_page wanted)) x.entry in
-      let found : (b : Bool) → contradict x xs ≡ b → found_by k kind t d wanted ≡ cond b Contradicted first
-      = λ b c. found_table k kind t d wanted is ∙ in_some k t wanted x xs are ∙ ap (λ (b : Bool). cond b Contradicted first) c in
-      by_test (contradict x xs) (λ c. absurd (agree (found true c)))
+      let against = first_against k t wanted x xs are in
+      let first = first_found k t wanted x xs are in
+      let found : (b : Bool) → contradict x xs ≡ b → found_by k kind t d wanted ≡ cond b against first
+      = λ b c. found_table k kind t d wanted is ∙ in_some k t wanted x xs are ∙ ap (λ (b : Bool). cond b against first) c in
+      by_test (contradict x xs) (λ c. absurd (agree x.second (group_number (10 + k) x.secondary (wanted_page wanted)) x.entry (found true c)))
       (λ c. ap (λ (g : Found). taken_by kind address g (u, e)) (found false c) ∙ first_taken k kind wanted u good valid x xs (same ∙ are) address index e))))
 
   pub by_searched : (wanted : Wanted) → InRange (wanted_page wanted) → wanted.index ≡ page_index address

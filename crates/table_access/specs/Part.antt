@@ -55,11 +55,13 @@ CacheOrNone cache = (length cache ≡ cache_size → ⊥) → length cache ≡ 0
 
 -- ---- what is found of a page
 
--- by the search of a table for a mask of k ones: the first match, unless the others contradict it
+-- by the search of a table for a mask of k ones: the first match, and whether the others contradict it
 unfoldable pub table_found : ℕ → List ℕ → Wanted → Found
 table_found k t wanted =
     by_matches (matches_of (layout k) t (wanted_page wanted)) Unmatched
-    (λ x xs. cond (contradict x xs) Contradicted (InTable x.second (group_number (10 + k) x.secondary (wanted_page wanted)) x.entry))
+    (λ x xs.
+    let group = group_number (10 + k) x.secondary (wanted_page wanted) in
+    cond (contradict x xs) (Contradicted x.second group x.entry) (InTable x.second group x.entry))
 
 -- by a cache, and by the search where it has no hit: a hit shows the group that the loaded H names, and no entry
 unfoldable pub found_by : ℕ → ℕ → List ℕ → List ℕ → Wanted → Found
@@ -70,22 +72,22 @@ found_by k kind t d wanted =
 -- what step 4 makes of it
 abbrev pub searched_of : Found → Searched
 searched_of Unmatched = Nothing
-searched_of Contradicted = Contradicting
+searched_of (Contradicted second group entry) = Contradicting
 searched_of (InCache second group) = At second
 searched_of (InTable second group entry) = At second
 
 -- what is shown of it beside the key
 abbrev pub shown_of : Bool → Found → Used
 shown_of key Unmatched = record { key = key; group = 0; entry = hit_entry }
-shown_of key Contradicted = record { key = key; group = 0; entry = hit_entry }
+shown_of key (Contradicted second group entry) = record { key = key; group = group; entry = entry }
 shown_of key (InCache second group) = record { key = key; group = group; entry = hit_entry }
 shown_of key (InTable second group entry) = record { key = key; group = group; entry = entry }
 
--- an entry that is found in a table lies there
+-- what is found lies in the table: the group of a hit, and the entry that the search tells
 abbrev pub LiesIn : Found → ℕ → Type 0
 LiesIn Unmatched lent = ⊤
-LiesIn Contradicted lent = ⊤
-LiesIn (InCache second group) lent = ⊤
+LiesIn (Contradicted second group entry) lent = (64 * group + 64 ≤ lent) × (entry < group_entries)
+LiesIn (InCache second group) lent = 64 * group + 64 ≤ lent
 LiesIn (InTable second group entry) lent = (64 * group + 64 ≤ lent) × (entry < group_entries)
 
 -- ---- a part
@@ -125,7 +127,7 @@ part_by kind address find (Search wanted) = by_found kind address wanted.key (fi
 -- step 7 by what was found of its page: an entry of the table is marked, and its page loaded with the words that the entry then has
 unfoldable pub taken_by : ℕ → ℕ → Found → List ℕ × List ℕ → List ℕ × List ℕ
 taken_by kind address Unmatched lent = lent
-taken_by kind address Contradicted lent = lent
+taken_by kind address (Contradicted second group entry) lent = lent
 taken_by kind address (InCache second group) lent = lent
 taken_by kind address (InTable second group entry) lent =
     let first = first_of lent.0 group entry in

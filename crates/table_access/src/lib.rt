@@ -47,12 +47,12 @@ pub struct Access {
 // The entry number that an answer shows of a hit, in its last word.
 const HIT_ENTRY: u32 = 8;
 
-// What the cache or the search finds of a page: no match, matches that contradict, or the entry's second word and the number of its group; of an
-// entry in the table its number there too, since it is marked where the operand is done.
+// What the cache or the search finds of a page: no match, matches that contradict, or an entry. Of an entry it has the second word and the number of its
+// group, and of one in the table its number there, since it is marked where the operand is done. Of matches that contradict it has the first.
 #[derive(Clone, Copy)]
 pub enum Found {
     Unmatched,
-    Contradicted,
+    Contradicted { second: u32, group: u32, entry: u32 },
     InCache { second: u32, group: u32 },
     InTable { second: u32, group: u32, entry: u32 },
 }
@@ -107,13 +107,20 @@ pub fn search(table: &[u8], wanted: Wanted) -> Found
     let Some(first) = told.first else {
         return Found::Unmatched;
     };
+    let second = first.second;
+    let group = at.group(first.place.secondary) as u32;
+    let entry = first.place.entry as u32;
     if first.others == Others::Differing {
-        return Found::Contradicted;
+        return Found::Contradicted {
+            second,
+            group,
+            entry,
+        };
     }
     Found::InTable {
-        second: first.second,
-        group: at.group(first.place.secondary) as u32,
-        entry: first.place.entry as u32,
+        second,
+        group,
+        entry,
     }
 }
 
@@ -244,7 +251,7 @@ pub fn after_search(access: Access, key: bool, found: Found) -> Part
             decision: decision::decided(numbers::RULE_NO_MATCH, 0),
             found,
         },
-        Found::Contradicted => Part {
+        Found::Contradicted { .. } => Part {
             answer: translation::refused_answer(u32::from(Refusal::Contradiction)),
             decision: decision::decided(0, 0),
             found,

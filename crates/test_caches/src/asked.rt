@@ -2,7 +2,7 @@
 // set 58: 0FFA, 0FBA, 0F7A and 0F3A, whose primary groups under SDR1 are 998, 934, 870 and 806, and whose API is 3.
 use test_report::answered::begins_with;
 use test_report::asked::Asked;
-use test_report::lent::{Entry, SDR1, SEGMENT, registers, table_with};
+use test_report::lent::{Entry, SDR1, SEGMENT, registers};
 
 // The first word of an entry of these pages in its primary group, and in its secondary.
 pub const FIRST: u32 = 0x86380E03;
@@ -50,17 +50,20 @@ pub struct State {
 
 // A table with these entries, and a cache with these places; the rest is zero.
 pub fn lent(entries: &[Entry], places: &[Place]) -> State {
-    let mut cache = [0u8; 2048];
+    let mut state = State {
+        table: [0; 65536],
+        cache: [0; 2048],
+    };
+    for entry in entries {
+        entry.put(&mut state.table);
+    }
     for place in places {
         if place.at <= 2032 {
             let four = [place.first, place.second, place.index, place.newer];
-            words::write_words(&mut cache[place.at..place.at + 16], &four);
+            words::write_words(&mut state.cache[place.at..place.at + 16], &four);
         }
     }
-    State {
-        table: table_with(entries),
-        cache,
-    }
+    state
 }
 
 impl State {
@@ -123,16 +126,16 @@ pub fn denied(entry: u32) -> Told {
 }
 
 // Whether an access so lent answers so and leaves this.
-pub fn goes(asked: Asked, before: State, told: Told, after: State) -> bool {
-    let mut lent = before;
+pub fn goes(asked: Asked, before: &State, told: Told, after: &State) -> bool {
+    let mut lent = *before;
     let (number, answer) = lent.access(asked);
     number == told.result
         && begins_with(&answer, &[told.result, told.word])
         && begins_with(&answer[32..], &told.record)
-        && lent == after
+        && lent == *after
 }
 
 // Whether it leaves what it is lent.
-pub fn leaves(asked: Asked, lent: State, told: Told) -> bool {
+pub fn leaves(asked: Asked, lent: &State, told: Told) -> bool {
     goes(asked, lent, told, lent)
 }

@@ -24,7 +24,7 @@ pub fn answers(rt: &impl Print) -> io::Result<()> {
         (1136, 1, secondary, done(0x12345ABC, 25, 8)),
     ] {
         let asked = byte(kind, 0x00FFAABC);
-        line(rt, number, leaves(asked, lent(&[], &[place]), told))?;
+        line(rt, number, leaves(asked, &lent(&[], &[place]), told))?;
     }
     Ok(())
 }
@@ -36,14 +36,14 @@ pub fn hidden(rt: &impl Print) -> io::Result<()> {
     let first = place_0(0x12345192, 0xFFA, 0);
     // Place 0 first where both hold the page. Source: request 7; R41.
     let both = lent(&[], &[first, place_1(0x6789A192, 0xFFA, 1)]);
-    line(rt, 1137, leaves(asked, both, told))?;
+    line(rt, 1137, leaves(asked, &both, told))?;
     // R clear in the cache is set nowhere. Source: R43.
     let unread = place_0(0x12345012, 0xFFA, 1);
     let unread = lent(&[Entry::of_page(0x12345012)], &[unread]);
-    line(rt, 1138, leaves(asked, unread, told))?;
+    line(rt, 1138, leaves(asked, &unread, told))?;
     // A hit hides what the table has. Source: R45.
     let moved = lent(&[Entry::of_page(0x6789A192)], &[first]);
-    line(rt, 1139, leaves(asked, moved, told))
+    line(rt, 1139, leaves(asked, &moved, told))
 }
 
 // V, VSID and page index are compared, each whole, and nothing else.
@@ -70,7 +70,7 @@ pub fn tests(rt: &impl Print) -> io::Result<()> {
         (1145, elsewhere, lost),
     ] {
         let asked = byte(1, 0x00FFAABC);
-        line(rt, number, leaves(asked, lent(&[], &[place]), told))?;
+        line(rt, number, leaves(asked, &lent(&[], &[place]), told))?;
     }
     Ok(())
 }
@@ -85,8 +85,8 @@ pub fn faults(rt: &impl Print) -> io::Result<()> {
     };
     let readable = lent(&[], &[place_0(0x12345193, 0xFFA, 1)]);
     // A guarded page fetched; a read-only page stored to, C set. Source: R44, R46; document 01, steps 5 and 6.
-    line(rt, 1146, leaves(byte(0, 0x00FFAABC), guarded, fetched))?;
-    line(rt, 1147, leaves(byte(2, 0x00FFAABC), readable, denied(8)))
+    line(rt, 1146, leaves(byte(0, 0x00FFAABC), &guarded, fetched))?;
+    line(rt, 1147, leaves(byte(2, 0x00FFAABC), &readable, denied(8)))
 }
 
 // A store that meets an entry with C clear is no hit.
@@ -95,16 +95,16 @@ pub fn stores(rt: &impl Print) -> io::Result<()> {
     let lost = unmatched(0x42000000);
     let clear = place_0(0x12345112, 0xFFA, 1);
     // It goes to the table: no match there; C in place 1 does not count. Source: request 7; R42.
-    line(rt, 1148, leaves(asked, lent(&[], &[clear]), lost))?;
+    line(rt, 1148, leaves(asked, &lent(&[], &[clear]), lost))?;
     let both = lent(&[], &[clear, place_1(0x12345192, 0xFFA, 0)]);
-    line(rt, 1149, leaves(asked, both, lost))?;
+    line(rt, 1149, leaves(asked, &both, lost))?;
     let fifth = |second| [Entry::new(998, 5, FIRST, second)];
     // A store that protection forbids there shows the real entry number. Source: R44.
     let readable = lent(&fifth(0x12345113), &[place_0(0x12345113, 0xFFA, 1)]);
-    line(rt, 1150, leaves(asked, readable, denied(5)))?;
+    line(rt, 1150, leaves(asked, &readable, denied(5)))?;
     // Where the table has it, C is set there and in the cache. Source: R48, R55.
     let before = lent(&fifth(0x12345112), &[clear]);
     let after = lent(&fifth(0x12345192), &[place_0(0x12345192, 0xFFA, 1)]);
     let told = done(0x12345ABC, 998, 5);
-    line(rt, 1151, goes(asked, before, told, after))
+    line(rt, 1151, goes(asked, &before, told, &after))
 }

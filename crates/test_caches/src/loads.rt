@@ -31,7 +31,7 @@ pub fn first_loads(rt: &impl Print) -> io::Result<()> {
     ] {
         let before = lent(&[Entry::of_page(second)], &[]);
         let after = lent(&[Entry::of_page(marked)], &[place_0(marked, 0xFFA, 1)]);
-        let good = goes(byte(kind, 0x00FFAABC), before, told, after);
+        let good = goes(byte(kind, 0x00FFAABC), &before, told, &after);
         line(rt, number, good)?;
     }
     // An entry in the secondary group is loaded with its H. Source: R48.
@@ -42,30 +42,62 @@ pub fn first_loads(rt: &impl Print) -> io::Result<()> {
     };
     let (before, after) = (lent(&[entry], &[]), lent(&[entry], &[place]));
     let told = done(0x12345ABC, 25, 3);
-    line(rt, 1113, goes(byte(1, 0x00FFAABC), before, told, after))
+    line(rt, 1113, goes(byte(1, 0x00FFAABC), &before, told, &after))
 }
 
 // Further pages of the same set.
 pub fn replaced(rt: &impl Print) -> io::Result<()> {
     let start = four(0x33333012, 0x44444012);
-    let first = lent(&start, &[place_0(0x12345112, 0xFFA, 1)]);
-    let places = [place_0(0x12345112, 0xFFA, 0), place_1(0x22222112, 0xFBA, 1)];
-    let second = lent(&start, &places);
-    let places = [place_0(0x33333112, 0xF7A, 1), place_1(0x22222112, 0xFBA, 0)];
-    let third = lent(&four(0x33333112, 0x44444012), &places);
-    let places = [place_0(0x33333112, 0xF7A, 0), place_1(0x44444112, 0xF3A, 1)];
-    let fourth = lent(&four(0x33333112, 0x44444112), &places);
-    let held = lent(&start, &[place_0(0x12345112, 0xFFA, 0)]);
-    let over = lent(&start, &[place_0(0x22222112, 0xFBA, 1)]);
-    for (number, address, before, told, after) in [
+    let read = four(0x33333112, 0x44444012);
+    let both_read = four(0x33333112, 0x44444112);
+    let first = [place_0(0x12345112, 0xFFA, 1)];
+    let second = [place_0(0x12345112, 0xFFA, 0), place_1(0x22222112, 0xFBA, 1)];
+    let third = [place_0(0x33333112, 0xF7A, 1), place_1(0x22222112, 0xFBA, 0)];
+    let fourth = [place_0(0x33333112, 0xF7A, 0), place_1(0x44444112, 0xF3A, 1)];
+    let held = [place_0(0x12345112, 0xFFA, 0)];
+    let over = [place_0(0x22222112, 0xFBA, 1)];
+    for (number, address, entries, places, told, left, loaded) in [
         // Places 0, 1, 0, 1: the older load is replaced, and the other place is not the newer any more. Source: request 7; R50, R51.
-        (1114, 0x00FBA000, first, done(0x22222000, 934, 0), second),
-        (1115, 0x00F7A000, second, done(0x33333000, 870, 0), third),
-        (1116, 0x00F3A000, third, done(0x44444000, 806, 0), fourth),
+        (
+            1114,
+            0x00FBA000,
+            start,
+            &first[..],
+            done(0x22222000, 934, 0),
+            start,
+            &second[..],
+        ),
+        (
+            1115,
+            0x00F7A000,
+            start,
+            &second[..],
+            done(0x33333000, 870, 0),
+            read,
+            &third[..],
+        ),
+        (
+            1116,
+            0x00F3A000,
+            read,
+            &third[..],
+            done(0x44444000, 806, 0),
+            both_read,
+            &fourth[..],
+        ),
         // A place that is empty is not preferred: with neither fourth word 1 the load goes to place 0. Source: R50.
-        (1117, 0x00FBA000, held, done(0x22222000, 934, 0), over),
+        (
+            1117,
+            0x00FBA000,
+            start,
+            &held[..],
+            done(0x22222000, 934, 0),
+            start,
+            &over[..],
+        ),
     ] {
-        line(rt, number, goes(byte(1, address), before, told, after))?;
+        let (before, after) = (lent(&entries, places), lent(&left, loaded));
+        line(rt, number, goes(byte(1, address), &before, told, &after))?;
     }
     Ok(())
 }
@@ -94,7 +126,7 @@ pub fn reloaded(rt: &impl Print) -> io::Result<()> {
         let before = lent(&[Entry::of_page(0x12345112)], &before);
         let after = lent(&[Entry::of_page(0x12345192)], &after);
         let told = done(0x12345000, 998, 0);
-        let good = goes(byte(2, 0x00FFA000), before, told, after);
+        let good = goes(byte(2, 0x00FFA000), &before, told, &after);
         line(rt, number, good)?;
     }
     Ok(())
@@ -109,17 +141,17 @@ pub fn not_loaded(rt: &impl Print) -> io::Result<()> {
     line(
         rt,
         1121,
-        leaves(load, lent(&[], &[]), unmatched(0x40000000)),
+        leaves(load, &lent(&[], &[]), unmatched(0x40000000)),
     )?;
     let readable = lent(&[Entry::of_page(0x12345013)], &[]);
-    line(rt, 1122, leaves(store, readable, denied(0)))?;
+    line(rt, 1122, leaves(store, &readable, denied(0)))?;
     let other = Entry::new(25, 0, FIRST_SECONDARY, 0x12346012);
     let refused = Told {
         result: 10,
         word: 0,
         record: [0; 4],
     };
-    line(rt, 1123, leaves(load, lent(&[page, other], &[]), refused))?;
+    line(rt, 1123, leaves(load, &lent(&[page, other], &[]), refused))?;
     // Real mode. Source: R40, R47.
     let real = Asked::byte(0, 1, 0x00FFA000);
     let untranslated = Told {
@@ -127,7 +159,7 @@ pub fn not_loaded(rt: &impl Print) -> io::Result<()> {
         word: 0x00FFA000,
         record: [0; 4],
     };
-    line(rt, 1124, leaves(real, lent(&[page], &[]), untranslated))
+    line(rt, 1124, leaves(real, &lent(&[page], &[]), untranslated))
 }
 
 // Fourth words that are neither 0 nor 1.
@@ -145,7 +177,7 @@ pub fn garbage(rt: &impl Print) -> io::Result<()> {
         let other = place_1(0x44444112, 0xF3A, other_newer);
         let (before, after) = (lent(&start, &[first, other]), lent(&start, &after));
         let told = done(0x22222000, 934, 0);
-        let good = goes(byte(1, 0x00FBA000), before, told, after);
+        let good = goes(byte(1, 0x00FBA000), &before, told, &after);
         line(rt, number, good)?;
     }
     Ok(())
@@ -171,12 +203,12 @@ pub fn two_pages(rt: &impl Print) -> io::Result<()> {
     let whole = lent(&[read, next_read], &[left, right]);
     // Both loaded; only the second; only the first. Source: request 7; R47, R52.
     let neither = lent(&[page, next], &[]);
-    line(rt, 1128, goes(asked, neither, told, whole))?;
+    line(rt, 1128, goes(asked, &neither, told, &whole))?;
     let first = lent(&[read, next], &[left]);
-    line(rt, 1129, goes(asked, first, hit, whole))?;
+    line(rt, 1129, goes(asked, &first, hit, &whole))?;
     let second = lent(&[page, next_read], &[right]);
-    line(rt, 1130, goes(asked, second, told, whole))?;
+    line(rt, 1130, goes(asked, &second, told, &whole))?;
     // The second page has no match: neither is loaded or marked. Source: R47.
     let alone = lent(&[page], &[]);
-    line(rt, 1131, leaves(asked, alone, unmatched(0x40000000)))
+    line(rt, 1131, leaves(asked, &alone, unmatched(0x40000000)))
 }

@@ -40,7 +40,7 @@ fn by_blocks(page: [u8; 132], kind: u32, address: u32, length: u32, eight: [u32;
         length,
     };
     let zero = [0u8; 65536];
-    asked.answers(page, zero, eight, zero)
+    asked.answers(page, &zero, eight, &zero)
 }
 
 // A table with page 1000, after the edge: its group is 28 and its API 4.
@@ -68,7 +68,7 @@ fn at_edge(
         address: ADDRESS,
         length: 4,
     };
-    asked.answers(with_blocks(block, NONE), table, eight, after)
+    asked.answers(with_blocks(block, NONE), &table, eight, &after)
 }
 
 // One block on both sides.

@@ -17,7 +17,7 @@ fn real(kind: u32, address: u32, length: u32, bytes: u32, second: u32, rest: u32
     let zero = [0u8; 65536];
     let attributes = if rest == 0 { 0 } else { 3 };
     let eight = [0, address, 3, address, second, attributes, bytes, rest];
-    asked.answers(registers(&[(0, SDR1), (1, SEGMENT)]), zero, eight, zero)
+    asked.answers(registers(&[(0, SDR1), (1, SEGMENT)]), &zero, eight, &zero)
 }
 
 // Operands of several lengths around the edge at 00001000, the longest ones, and those at the last address: kind, address, length and what it has.

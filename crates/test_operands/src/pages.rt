@@ -26,7 +26,7 @@ fn at_edge(
         address: ADDRESS,
         length,
     };
-    asked.answers(registers(&[(0, SDR1), (1, segment)]), table, eight, after)
+    asked.answers(registers(&[(0, SDR1), (1, segment)]), &table, eight, &after)
 }
 
 // Eight bytes by segment register 0 of the cases, with data and instructions translated, for the supervisor.
@@ -184,7 +184,7 @@ fn over_shared(kind: u32, table: [u8; 65536], eight: [u32; 8], after: [u8; 65536
         address: 0x001FFFFE,
         length: 4,
     };
-    asked.answers(registers(&[(0, SDR1), (1, SEGMENT)]), table, eight, after)
+    asked.answers(registers(&[(0, SDR1), (1, SEGMENT)]), &table, eight, &after)
 }
 
 // Whether a store marks both, the entry of page 01FF at this place and that of page 0200 at another, with these first words.

@@ -30,7 +30,7 @@ fn access(
         length: 4,
     };
     let page = registers(&[(0, SDR1), (1, zero), (2, one)]);
-    asked.answers(page, table, eight, after)
+    asked.answers(page, &table, eight, &after)
 }
 
 // One that faults and leaves the table.
@@ -97,7 +97,7 @@ fn over_last(
         length,
     };
     let page = registers(&[(0, SDR1), (1, SEGMENT), (16, 0x00000002)]);
-    asked.answers(page, table, eight, after)
+    asked.answers(page, &table, eight, &after)
 }
 
 // Two bytes up to FFFFFFFF and two from 00000000 on, with these entries, and a fault that leaves the table.

@@ -34,7 +34,8 @@ fn with_both(entry: usize, second: u32, other: u32) -> [u8; 65536] {
 // An access by segment 0 to the byte at that address: whether it answers these words and leaves this table.
 fn access(mode: u32, kind: u32, table: [u8; 65536], three: [u32; 3], after: [u8; 65536]) -> bool {
     let page = registers(&[(0, SDR1), (1, SEGMENT)]);
-    Asked::byte(mode, kind, ADDRESS).answers_three(page, table, three, after)
+    let mut lent = table;
+    Asked::byte(mode, kind, ADDRESS).answers_three(page, &mut lent, three, &after)
 }
 
 // A page whose one entry is in the secondary group.
@@ -136,7 +137,8 @@ pub fn merged(rt: &impl Print) -> io::Result<()> {
 fn fetch_no_execute() -> bool {
     let page = registers(&[(0, SDR1), (1, 0x100C701C)]);
     let table = with_both(2, 0x12345012, 0x7777719B);
-    Asked::byte(2, 0, ADDRESS).answers_three(page, table, [65, 0x10000000, 0x400], table)
+    let mut lent = table;
+    Asked::byte(2, 0, ADDRESS).answers_three(page, &mut lent, [65, 0x10000000, 0x400], &table)
 }
 
 // Ignored bits, and W with I in an entry.

@@ -45,29 +45,28 @@ impl Asked {
     pub fn answers(
         self,
         page: [u8; 132],
-        table: [u8; 65536],
+        table: &[u8; 65536],
         eight: [u32; 8],
-        after: [u8; 65536],
+        after: &[u8; 65536],
     ) -> bool {
-        let mut lent = table;
-        self.begins(page, &mut lent, eight) && lent == after
+        let mut lent = *table;
+        self.begins(page, &mut lent, eight) && lent == *after
     }
 
-    // Whether it, to one byte, answers these three words first and leaves this table.
+    // Whether it, to one byte, answers these three words first and makes the table this one.
     pub fn answers_three(
         self,
         page: [u8; 132],
-        table: [u8; 65536],
+        table: &mut [u8; 65536],
         three: [u32; 3],
-        after: [u8; 65536],
+        after: &[u8; 65536],
     ) -> bool {
-        self.answers(page, table, of_byte(three, self.address), after)
+        self.begins(page, table, of_byte(three, self.address)) && *table == *after
     }
 
     // The same on a table of zeros, which is left.
     pub fn answers_without_entry(self, page: [u8; 132], three: [u32; 3]) -> bool {
-        let zero = [0u8; 65536];
-        self.answers_three(page, zero, three, zero)
+        self.answers_three(page, &mut [0; 65536], three, &[0; 65536])
     }
 
     // Whether it has this result and shows this record of the rule that decided.

@@ -37,9 +37,9 @@ fn lines(rt: &impl Print, rows: &[Row]) -> io::Result<()> {
             _ => 0x400,
         };
         let asked = Asked::byte(*mode, *kind, 0x00FFA01B);
-        let table = table_with(&[Entry::of_page(*second)]);
+        let mut table = table_with(&[Entry::of_page(*second)]);
         let left = table_with(&[Entry::of_page(*after)]);
-        let good = asked.answers_three(page, table, [*res, *word, third], left);
+        let good = asked.answers_three(page, &mut table, [*res, *word, third], &left);
         line(rt, *number, good)?;
     }
     Ok(())

@@ -14,7 +14,6 @@ use Rattle.registers.proofs.Set.{replaced_number}
 use Rattle.register_pages.specs.Replace.{page_replaced}
 use Rattle.register_pages.proofs.Replace.{number_fits}
 use Rattle.register_pages.proofs.set_word_of.Goals as goal
-use Rattle.register_pages.proofs.set_word_of.Goals.{In_ok-new}
 
 -- a word that was replaced, the bytes that were read from the page, and those of the new set
 module _ (page : List ℕ) (right : is_page (length page) ≡ true) (number word : ℕ) (read new : List ℕ) (copied : read ≡ page)
@@ -45,15 +44,15 @@ module _ (page : List ℕ) (right : is_page (length page) ≡ true) (number word
 pub read_word-requires : goal.read_word-requires
 read_word-requires g c =
     let a = c.args in
-    new_fits a.page.now (ap is_page c.requires.0 ∙ c.requires.1) a.number a.word c.copy.new.to c.in_ok-new.new.bytes c.copy.ensures c.in_ok-new.ensures
+    new_fits a.page.now (ap is_page c.requires.0 ∙ c.requires.1) a.number a.word c.copy.new.to c.copy-2.new.to c.copy.ensures (ap (λ (p : List ℕ). (0, p)) c.copy-2.ensures ∙ c.in_ok-new.ensures)
 
 pub write_word-requires : goal.write_word-requires
 write_word-requires g c =
     let a = c.args in
-    fits a.page.now (ap is_page c.requires.0 ∙ c.requires.1) a.number a.word c.copy.new.to c.in_ok-new.new.bytes c.copy.ensures c.in_ok-new.ensures
+    fits a.page.now (ap is_page c.requires.0 ∙ c.requires.1) a.number a.word c.copy.new.to c.copy-2.new.to c.copy.ensures (ap (λ (p : List ℕ). (0, p)) c.copy-2.ensures ∙ c.in_ok-new.ensures)
 
 pub returns : goal.returns
 returns g c =
     let a = c.args in
-    put a.page.now (ap is_page c.requires.0 ∙ c.requires.1) a.number a.word c.copy.new.to c.in_ok-new.new.bytes c.copy.ensures c.in_ok-new.ensures
+    put a.page.now (ap is_page c.requires.0 ∙ c.requires.1) a.number a.word c.copy.new.to c.copy-2.new.to c.copy.ensures (ap (λ (p : List ℕ). (0, p)) c.copy-2.ensures ∙ c.in_ok-new.ensures)
     c.write_word.new.s c.read_word.result c.ranges.word.fits c.write_word.ensures c.read_word.ensures

@@ -57,11 +57,13 @@ returns-in_err-check g c =
     let whole : length page ≡ g.row.N = omega arith in
     let handed : c.from_residual.result ≡ Err refusal = grind arith in
     let own = rw c.count_of.ensures at c.if-number-count_of.false in
-    rw handed (refused page (right_of page g.row.N whole c.requires) c.args.number c.args.word (rw whole own) c.ranges.word.fits c.write_word.new.s refusal c.write_word.ensures c.in_err-check.ensures)
+    rw handed (refused page (right_of page g.row.N whole c.requires) c.args.number c.args.word (rw whole own) c.ranges.word.fits c.write_word.new.s refusal (c.write_word.ensures ∙ ap (λ (p : List ℕ). with_word p (4 * c.args.number) c.args.word) c.copy.ensures) c.in_err-check.ensures)
 
 pub returns : goal.returns
 returns g c =
     let page = c.args.self.bytes in
     let whole : length page ≡ g.row.N = omega arith in
     let own = rw c.count_of.ensures at c.if-number-count_of.false in
-    done page (right_of page g.row.N whole c.requires) c.args.number c.args.word (rw whole own) c.ranges.word.fits c.write_word.new.s c.write_word.ensures c.in_ok-check.ensures
+    ap (λ (p : List ℕ). (0, p)) c.copy-2.ensures
+    ∙ done page (right_of page g.row.N whole c.requires) c.args.number c.args.word (rw whole own) c.ranges.word.fits c.write_word.new.s
+    (c.write_word.ensures ∙ ap (λ (p : List ℕ). with_word p (4 * c.args.number) c.args.word) c.copy.ensures) c.in_ok-check.ensures

@@ -134,9 +134,9 @@ def declared_functions(header):
     return functions
 
 
-def archive_symbols(archive):
-    """The global symbols that an archive defines."""
-    done = subprocess.run(["nm", "-g", "--defined-only", "--format=posix", str(archive)],
+def names_by(flags, archive):
+    """The names that nm lists of an archive with these flags."""
+    done = subprocess.run(["nm", *flags.split(), "--format=posix", str(archive)],
                           capture_output=True, text=True, check=False)
     if done.returncode != 0:
         raise Unreadable(f"nm {archive}: {done.stderr.strip()}")
@@ -144,9 +144,28 @@ def archive_symbols(archive):
     return {line[0] for line in lines if len(line) >= 2}
 
 
+def archive_symbols(archive):
+    """The global symbols that an archive defines."""
+    return names_by("-g --defined-only", archive)
+
+
 def signature(name, function):
     result, types = function
     return f"{result} {name}({', '.join(types) or 'void'})"
+
+
+# What the archive calls from outside; a program without a C library has to bring it.
+ASKED_FOR = {"memset"}
+
+
+def archive_asks(archive):
+    """The symbols that an archive does not define and asks for."""
+    return names_by("-u", archive)
+
+
+def asked_differences(asked):
+    """A line for each symbol that an archive asks for and may not."""
+    return [f"{name}: the archive asks for it from outside" for name in sorted(asked - ASKED_FOR)]
 
 
 def differences(header, source, symbols):
@@ -404,7 +423,9 @@ def self_test():
             failed.append(f"not refused: {lost} is not in the archive")
     if not differences(SAMPLE_HEADER, SAMPLE_SOURCE, symbols | {"mmu_extra"}):
         failed.append("not refused: mmu_extra is in the archive alone")
-    print("\n".join(failed) or f"self test: the right header passes, {len(WRONG_HEADERS)} wrong ones, 3 wrong archives,"
+    if asked_differences({"memset"}) or not asked_differences({"memset", "memcpy"}):
+        failed.append("not refused: the archive asks for memcpy")
+    print("\n".join(failed) or f"self test: the right header passes, {len(WRONG_HEADERS)} wrong ones, 4 wrong archives,"
           f" {len(WRONG_SOURCES)} wrong sources, a wrong CHANGELOG.md, a wrong guide, a wrong definition and two wrong numbers of the code are refused")
     return 1 if failed else 0
 
@@ -417,7 +438,7 @@ def main(arguments):
         source = "\n".join(path.read_text() for path in sorted(SOURCES.rglob("*.rt")))
         symbols = archive_symbols(archive)
         offered = "\n".join(path.read_text() for path in sorted(OFFERED.rglob("*.rt")))
-        lines = differences(HEADER.read_text(), source, symbols) + thin_differences(source, offered)
+        lines = differences(HEADER.read_text(), source, symbols) + asked_differences(archive_asks(archive)) + thin_differences(source, offered)
         lines += version_differences(HEADER.read_text(), MAKEFILE.read_text(), CHANGELOG.read_text(), GUIDE.read_text())
         lines += comment_differences(HEADER.read_text(), TALLY.read_text())
         lines += kept_differences(HEADER.read_text())
